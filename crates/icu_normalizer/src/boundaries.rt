@@ -38,7 +38,11 @@ impl<'a> NormalizerBorrowed<ComposingForm<'a>> {
 
 /// Whether a character isn't flagged as backward combining, or is below the bound.
 #[tactic(auto, unfolding(normalizer_tables::specs::PairConditions::is_taken_as_boundary))]
-fn is_taken_as_boundary(characters: &CharacterData<'_>, bounds: Bounds, character: char) -> bool
+pub(crate) fn is_taken_as_boundary(
+    characters: &CharacterData<'_>,
+    bounds: Bounds,
+    character: char,
+) -> bool
     ensures { result ≡ is_taken_as_boundary characters.now bounds character }
 {
     !is_backward_combining(characters.word_of(character)) || (character as u32) < bounds.composition

@@ -3,7 +3,7 @@ ghost use Rattle.std.specs.Prelude.{◌≡◌, All, IfOk};
 ghost use Rattle.std.specs.Iterator.{IsFinite};
 ghost use Rattle.normal_forms.specs.Forms.{nfc};
 ghost use Rattle.normalizer_tables.specs.Ignored.{ignored_list};
-ghost use Rattle.normalizer_tables.specs.PairConditions.{HasOrderedLists};
+ghost use Rattle.normalizer_tables.specs.PairConditions.{is_composing_passthrough, HasOrderedLists};
 ghost use Rattle.normalizer_tables.specs.declared.characters.IgnoredCharacters.TheVariants.{Dropped};
 ghost use Rattle.normalizer_iterators.specs.Iterating.{YieldsFormBy};
 ghost use Rattle.icu_normalizer.specs.Serving.{ServesComposing};
@@ -14,6 +14,7 @@ use normalizer_iterators::{Composition, NormalizeError};
 use normalizer_tables::CanonicalCompositions;
 use normalizer_tables::characters::{CharacterData, IgnoredCharacters};
 use normalizer_tables::condition::Bounds;
+use normalizer_tables::word::{is_backward_combining, is_non_round_trip};
 
 /// NFC, or NFKC over compatibility data.
 #[derive(Drop)]
@@ -43,6 +44,16 @@ impl<'a> ComposingForm<'a> {
         let characters = self.characters.copied();
         let dropped = IgnoredCharacters::Dropped;
         composed(characters, dropped, self.pairs, self.bounds, iter)
+    }
+
+    /// Whether a composing loop passes a character.
+    #[tactic(auto, unfolding(normalizer_tables::specs::PairConditions::is_composing_passthrough))]
+    pub(crate) fn passes(&self, character: char) -> bool
+        ensures { result ≡ is_composing_passthrough self.now.characters self.now.bounds character }
+    {
+        let word = self.characters.word_of(character);
+        (!is_non_round_trip(word) && !is_backward_combining(word))
+            || (character as u32) < self.bounds.composition
     }
 }
 

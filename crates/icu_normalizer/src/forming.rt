@@ -8,7 +8,7 @@ ghost use Rattle.normal_forms.specs.Decomposition.{expand};
 ghost use Rattle.normal_forms.specs.ShortRuns.{buffer_limit};
 ghost use Rattle.normalizer_conditions.specs.RequiredConditions.{SuitsTexts};
 ghost use Rattle.normalizer_tables.specs.Characters.{class_of_itself, has_class_form, reading_of_word};
-ghost use Rattle.normalizer_tables.specs.PairConditions.{is_composing_passthrough};
+ghost use Rattle.normalizer_tables.specs.PairConditions.{is_taken_as_boundary};
 ghost use Rattle.normalizer_text.specs.Encodings.{decoded_in, first_in};
 ghost use Rattle.normalizer_iterators.specs.CharactersLeft.{characters_left};
 ghost use Rattle.normalizer_iterators.specs.Segment.{text};
@@ -19,6 +19,7 @@ ghost use Rattle.icu_normalizer.specs.inner.PassthroughRuns.{IsKeptSegment, CanF
 ghost use Rattle.icu_normalizer.specs.inner.PassthroughRuns.{composing_class, IsOwnListOfClass};
 ghost use Rattle.icu_normalizer.specs.inner.WrittenParts.{NothingOffered, WritesText};
 
+use crate::boundaries::is_taken_as_boundary;
 use crate::composing_form::ComposingForm;
 use crate::decomposing_form::DecomposingForm;
 use crate::kept::{KeptSegment, composite_of, kept_segment};
@@ -28,7 +29,6 @@ use normalizer_sets::CharacterSet;
 use normalizer_tables::characters::IgnoredCharacters;
 use normalizer_tables::may_be_second;
 use normalizer_tables::members::Members;
-use normalizer_tables::word::{is_backward_combining, is_non_round_trip};
 use normalizer_text::output::Output;
 use normalizer_text::{Chars, Step, Units};
 use std::alloc::{AllocError, Global};
@@ -248,11 +248,11 @@ impl<'a> Forming for ComposingForm<'a> {
 
     ghost held_back = { true };
 
-    ghost beginning = { λ f c. is_composing_passthrough f.characters f.bounds c };
+    ghost beginning = { λ f c. is_taken_as_boundary f.characters f.bounds c };
 
     #[tactic(auto, unfolding(crate::specs::inner::PassthroughRuns::class_if_alone, crate::specs::inner::PassthroughRuns::composing_class))]
     fn passthrough_class(&self, character: char) -> Option<u8> {
-        if self.begins(character) {
+        if self.passes(character) {
             return Some(0);
         }
         let word = self.characters.word_of(character);
@@ -282,11 +282,8 @@ impl<'a> Forming for ComposingForm<'a> {
         true
     }
 
-    #[tactic(auto, unfolding(normalizer_tables::specs::PairConditions::is_composing_passthrough))]
     fn begins(&self, character: char) -> bool {
-        let word = self.characters.word_of(character);
-        (!is_non_round_trip(word) && !is_backward_combining(word))
-            || (character as u32) < self.bounds.composition
+        is_taken_as_boundary(&self.characters, self.bounds, character)
     }
 
     #[inline(always)]
@@ -294,8 +291,15 @@ impl<'a> Forming for ComposingForm<'a> {
         kept_segment(self, units, first)
     }
 
-    fn form_of_one(&self, _character: char) -> Option<Members<'_>> {
-        None
+    fn form_of_one(&self, character: char) -> Option<Members<'_>> {
+        let members = self
+            .characters
+            .members(character, IgnoredCharacters::Dropped);
+        if members.len() == 1 {
+            Some(members)
+        } else {
+            None
+        }
     }
 
     fn form_of_two(&self, first: char, second: char) -> Option<char> {

@@ -2,7 +2,7 @@
 ghost use Rattle.std.specs.Prelude.{◌≡◌, ◌<◌, ◌≤◌, drop, length, IfSome, IsTrue, Some};
 ghost use Rattle.normalizer_text.specs.Encodings.{first_in};
 ghost use Rattle.normal_forms.specs.declared.Form.TheVariants.{Composing};
-ghost use Rattle.normalizer_tables.specs.PairConditions.{is_composing_passthrough};
+ghost use Rattle.normalizer_tables.specs.PairConditions.{is_taken_as_boundary};
 ghost use Rattle.normalizer_tables.specs.Readings.{reading_by};
 ghost use Rattle.normalizer_tables.specs.declared.characters.IgnoredCharacters.TheVariants.{Dropped};
 ghost use Rattle.icu_normalizer.specs.inner.Kept.{IsFirstOfTwo, IsKeptCharacter, IsKeptStarter, StaysMark};
@@ -74,7 +74,7 @@ pub(crate) fn kept_segment<U: Units>(
     requires some { 0 < length (U.units units) }
     requires first { first ≡ first_in U.encoding (U.units units) }
     ensures kept { let f = form.now in IfSome result (λ kept.
-        IsKeptSegment (is_composing_passthrough f.characters f.bounds) U.encoding
+        IsKeptSegment (is_taken_as_boundary f.characters f.bounds) U.encoding
         (reading_by f.characters Dropped f.pairs.now) Composing (U.units units) kept.end) }
     ensures next { IfSome result (λ kept.
         IfSome kept.next (λ next. next ≡ first_in U.encoding (drop kept.end (U.units units)))) }
@@ -134,7 +134,7 @@ fn kept_composite(form: &ComposingForm<'_>, character: char) -> Option<KeptStart
     ensures { IfSome result
         (IsKeptCharacter (reading_by form.now.characters Dropped form.now.pairs.now) character) }
 {
-    if !form.begins(character) {
+    if !form.passes(character) {
         return None;
     }
     let members = form

@@ -1,5 +1,5 @@
 //! The ends of runs of characters that are passed on as they are, and of the segments between them.
-ghost use Rattle.std.specs.Prelude.{◌≡◌, ◌<◌, ◌≤◌, drop, length, take, IfSome};
+ghost use Rattle.std.specs.Prelude.{◌≡◌, ◌<◌, ◌≤◌, ◌⊎◌, drop, false, length, take, true, IfSome, IsFalse, IsTrue};
 ghost use Rattle.normalizer_text.specs.Encodings.{first_in};
 ghost use Rattle.normalizer_text.specs.InputCut.{IsInputNormalized};
 ghost use Rattle.icu_normalizer.specs.inner.PassthroughRuns.{next_class, IsKeptTo, IsPart, IsPassthroughEnd};
@@ -104,8 +104,23 @@ pub(crate) fn front_segment<U: Units, N: Forming>(normalizer: &N, units: U, firs
     }
 }
 
-/// Returns the end of the front of the units that is passed on as it is: of a run, without the last starter and the
-/// marks after it if it may compose with what follows, and without these marks if what follows may be ordered among them.
+/// Returns whether something at the end of a run may be held back, and the next character begins a new part.
+#[inline(always)]
+fn ends_apart<U: Units, N: Forming>(normalizer: &N, units: U, run: Run) -> bool
+    requires { run.end < length (U.units units) }
+    ensures yes { IsTrue result →
+        N.beginning normalizer.now (first_in U.encoding (drop run.end (U.units units))).character ≡ true }
+    ensures no { IsFalse result → ((N.held_back ≡ false) × (run.marks ≡ run.end)) ⊎
+        (N.beginning normalizer.now (first_in U.encoding (drop run.end (U.units units))).character ≡ false) }
+{
+    if !normalizer.holds_back() && run.marks == run.end {
+        return false;
+    }
+    normalizer.begins(units.step_at(run.end).character)
+}
+
+/// Returns the end of the front of the units that is passed on as it is: of a run, unless what follows begins a new part,
+/// without the last starter and the marks after it if it may compose with what follows, and else without these marks.
 pub(crate) fn passthrough_end<U: Units, N: Forming>(normalizer: &N, units: U) -> usize
     ensures handed { IsPassthroughEnd (N.passthrough_class normalizer.now) (N.beginning normalizer.now) N.held_back
         U.encoding (U.units units) result }
@@ -117,14 +132,14 @@ pub(crate) fn passthrough_end<U: Units, N: Forming>(normalizer: &N, units: U) ->
     if run.end == units.len() {
         return run.end;
     }
+    if ends_apart(normalizer, units, run) {
+        return run.end;
+    }
     if normalizer.holds_back() {
         return match units.before(run.marks).last_step() {
             Some(step) => run.marks - step.width,
             None => 0,
         };
-    }
-    if run.marks < run.end && normalizer.begins(units.step_at(run.end).character) {
-        return run.end;
     }
     run.marks
 }

@@ -254,31 +254,31 @@ module _ (passed : ℕ → Option ℕ) (beginning : ℕ → Bool) (held_back : B
     run = run;
     is_run = is_run;
     all = λ _. refl;
-    held = λ more _. absurd (omega (arith, length_is));
-    apart = λ more _ _. refl;
+    apart = λ more _. refl;
+    held = λ more _ _. absurd (omega (arith, length_is));
     with_marks = λ more _ _. absurd (omega (arith, length_is));
   }
 
   module _ (len : ℕ) (length_is : len ≡ length units) (goes_on : run ≢ len) where
-    pub IsPassthroughEnd-held : held_back ≡ true → (end : ℕ) → HasHeldBack e units marks end → IsPassthroughEnd passed beginning held_back e units end
-    IsPassthroughEnd-held held end back = record {
+    pub IsPassthroughEnd-held : held_back ≡ true → beginning (first_in e (drop run units)).character ≡ false → (end : ℕ) → HasHeldBack e units marks end → IsPassthroughEnd passed beginning held_back e units end
+    IsPassthroughEnd-held held other end back = record {
       marks = marks;
       run = run;
       is_run = is_run;
       all = λ all. absurd (goes_on (all ∙ sym length_is));
-      held = λ _ _. back;
-      apart = λ _ free _. absurd (true≢false (sym held ∙ free));
+      apart = λ _ begins. absurd (true≢false (sym begins ∙ other));
+      held = λ _ _ _. back;
       with_marks = λ _ free _. absurd (true≢false (sym held ∙ free));
     }
 
-    pub IsPassthroughEnd-apart : held_back ≡ false → beginning (first_in e (drop run units)).character ≡ true → IsPassthroughEnd passed beginning held_back e units run
-    IsPassthroughEnd-apart free begins = record {
+    pub IsPassthroughEnd-apart : beginning (first_in e (drop run units)).character ≡ true → IsPassthroughEnd passed beginning held_back e units run
+    IsPassthroughEnd-apart begins = record {
       marks = marks;
       run = run;
       is_run = is_run;
       all = λ _. refl;
-      held = λ _ held. absurd (true≢false (sym held ∙ free));
-      apart = λ _ _ _. refl;
+      apart = λ _ _. refl;
+      held = λ _ _ other. absurd (true≢false (sym begins ∙ other));
       with_marks = λ _ _ other. absurd (true≢false (sym begins ∙ other));
     }
 
@@ -288,7 +288,7 @@ module _ (passed : ℕ → Option ℕ) (beginning : ℕ → Bool) (held_back : B
       run = run;
       is_run = is_run;
       all = λ all. absurd (goes_on (all ∙ sym length_is));
-      held = λ _ held. absurd (true≢false (sym held ∙ free));
-      apart = λ _ _ begins. elim why [ inl none ↦ none | inr other ↦ absurd (true≢false (sym begins ∙ other)) ];
+      held = λ _ held _. absurd (true≢false (sym held ∙ free));
+      apart = λ _ begins. elim why [ inl none ↦ none | inr other ↦ absurd (true≢false (sym begins ∙ other)) ];
       with_marks = λ _ _ _. refl;
     }

@@ -14,7 +14,7 @@ use Rattle.normal_forms.specs.Forms.{normal_form, nfd, nfc}
 use Rattle.normal_forms.specs.declared.Form.TheVariants.{Composing}
 use Rattle.normal_forms.specs.Hypotheses.{HasFaithfulResults, HasStarterResults}
 use Rattle.normal_forms.specs.Order.{insert, order}
-use Rattle.normal_forms.proofs.composing.ComposeLemmas.{compose_after-cases, compose_after-join, compose_after-mark, compose_after-nil, compose_by_starters-starter}
+use Rattle.normal_forms.proofs.composing.ComposeLemmas.{compose_after-cases, compose_after-join, compose_after-mark, compose_after-nil, compose_by_starters-mark, compose_by_starters-nil, compose_by_starters-starter, starter_or_mark}
 use Rattle.normal_forms.proofs.ordering.OrderLemmas.{IsOrdered, IsOrdered-head, IsOrdered-order, IsOrdered-tail, insert-nil, insert-starter, length-order, order-cons, order-nil, order-order, stands_before}
 use Rattle.normal_forms.proofs.composing.VisitLemmas.{compose_is_by_starters}
 use Rattle.normalizer_iterators.proofs.segments.InOrderLemmas.{NeighboursFit}
@@ -167,6 +167,24 @@ base_of_two d c (Some a) place end last two all is class =
     let at : Some end ≡ slice_get (a ∷ two.0 ∷ []) 1 = is ∙ ap (λ l. slice_get l place) two.1 ∙ ap (slice_get (a ∷ two.0 ∷ [])) second in
     let same : two.0 ≡ end = cc at in
     (two.0, two.1, ap d.class same ∙ class)
+
+-- ---- one character
+
+-- one whose list is one character becomes that
+pub form_of_single : (d : Reading) → HasStarterResults d → (c : ℕ) → length (d.list c) ≡ 1 → normal_form d Composing (c ∷ []) ≡ d.list c
+unfolding normal_form nfc nfd expand
+form_of_single d results c one = of_list (d.list c) one
+  where
+    of_list : (x : List ℕ) → length x ≡ 1 → compose d (order d (x ++ [])) ≡ x
+    of_list [] one = absurd (omega (arith, one))
+    of_list (e ∷ []) one =
+        ap (compose d) (order-cons d e [] ∙ ap (insert d e) (order-nil d) ∙ insert-nil d e)
+        ∙ compose_is_by_starters d results (e ∷ [])
+        ∙ elim (starter_or_mark d e) [
+          | inl starter ↦ compose_by_starters-starter d e [] starter ∙ compose_after-nil d e []
+          | inr mark ↦ compose_by_starters-mark d e [] mark ∙ ap (λ l. e ∷ l) (compose_by_starters-nil d)
+        ]
+    of_list (e ∷ f ∷ x) one = absurd (omega (arith, one))
 
 -- ---- two characters
 

@@ -100,17 +100,17 @@ abbrev pub HasHeldBack : Encoding → List ℕ → ℕ → ℕ → Type 0
 HasHeldBack e units marks end =
     ((marks ≡ 0) × (end ≡ 0)) ⊎ ((s : Step) × IsLastStep (first_in e) (take marks units) s × (end + s.width ≡ marks))
 
--- the part of a run that is passed on: all of it if the units end; what comes before the last starter if that is held
--- back; all but the marks at its end, unless the next character begins a new part
+-- the part of a run that is passed on: all of it if the units end, or the next character begins a new part; else what
+-- comes before the last starter if that is held back, and all but the marks at its end if it isn't
 pub record IsPassthroughEnd (passed : ℕ → Option ℕ) (beginning : ℕ → Bool) (held_back : Bool) (e : Encoding)
     (units : List ℕ) (end : ℕ) : Type 0 where
   pub marks : ℕ
   pub run : ℕ
   pub is_run : IsRunEnd passed e units marks run
   pub all : run ≡ length units → end ≡ run
-  pub held : run < length units → held_back ≡ true → HasHeldBack e units marks end
-  pub apart : run < length units → held_back ≡ false → beginning (first_in e (drop run units)).character ≡ true
-      → end ≡ run
+  pub apart : run < length units → beginning (first_in e (drop run units)).character ≡ true → end ≡ run
+  pub held : run < length units → held_back ≡ true → beginning (first_in e (drop run units)).character ≡ false
+      → HasHeldBack e units marks end
   pub with_marks : run < length units → held_back ≡ false
       → beginning (first_in e (drop run units)).character ≡ false → end ≡ marks
 

@@ -13,7 +13,7 @@ returns c =
     let d = reading_by f.characters Dropped f.pairs.now in
     let list = d.list c.args.character in
     let apart = f.serves.composing.apart Dropped c.args.character
-    (record { scalar = c.ranges.character.0; passed = sym c.begins.ensures ∙ c.if-not-begins.false }) in
+    (record { scalar = c.ranges.character.0; passed = sym c.passes.ensures ∙ c.if-not-passes.false }) in
     let count = c.len-count.result in
     record {
       character = refl;

@@ -1,5 +1,5 @@
 use Rattle.std.proofs.Common.{arith, sym, ap, ◌∙◌}
-use Rattle.normalizer_tables.specs.PairConditions.{is_composing_passthrough}
+use Rattle.normalizer_tables.specs.PairConditions.{is_taken_as_boundary}
 use Rattle.normalizer_text.proofs.steps.StepBoundaries.{step-some}
 use Rattle.icu_normalizer.proofs.segments.KeptLemmas.{kept_itself, KeptMarks-first, KeptMarks-more, KeptMarks-own}
 use Rattle.icu_normalizer.proofs.kept.kept_segment.Goals as goal
@@ -18,7 +18,7 @@ returns-then-begins-clause-kept g c =
       segment = record {
         some = c.loop-end.invariant.0;
         boundary = c.loop-end.invariant.1.boundary;
-        next = λ _. ap (λ s. is_composing_passthrough c.args.form.now.characters c.args.form.now.bounds s.character) (sym c.step_at-step.ensures) ∙ sym c.begins.ensures ∙ c.if-begins.true;
+        next = λ _. ap (λ s. is_taken_as_boundary c.args.form.now.characters c.args.form.now.bounds s.character) (sym c.step_at-step.ensures) ∙ sym c.begins.ensures ∙ c.if-begins.true;
       };
       own = KeptMarks-own _ c.args.form.now.serves.composing.starters c.args.form.now.serves.laws.laws.2 _ _ _ _ _
           (kept_itself _ _ _ (rw c.in_ok-starter.was at c.kept_starter.ensures)) c.loop-end.invariant.1;

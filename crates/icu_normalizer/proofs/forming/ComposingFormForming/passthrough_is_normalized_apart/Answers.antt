@@ -1,4 +1,4 @@
-use Rattle.icu_normalizer.proofs.passthrough.PassthroughLemmas.{CanFollowMark-composed, CanPassThrough-composed, CanPassThrough-passed, composed_low_class}
+use Rattle.icu_normalizer.proofs.passthrough.PassthroughLemmas.{CanFollowMark-composed, CanPassThrough-composed, composed_low_class}
 use Rattle.icu_normalizer.proofs.forming.ComposingFormForming.passthrough_is_normalized_apart.Goals as goal
 
 pub returns-clause-apart : goal.returns-clause-apart
@@ -11,4 +11,4 @@ pub returns-clause-below : goal.returns-clause-below
 returns-clause-below c = λ n. composed_low_class _ _ _ n
 
 pub returns-clause-begins : goal.returns-clause-begins
-returns-clause-begins c = λ n scalar passed. (CanPassThrough-passed _ _ _ c.args.self.now.serves.composing n scalar passed).begins
+returns-clause-begins c = c.args.self.now.serves.beginnings
