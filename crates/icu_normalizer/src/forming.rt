@@ -264,7 +264,7 @@ impl<'a> Forming for ComposingForm<'a> {
         }
     }
 
-    #[tactic(auto, unfolding(normalizer_tables::specs::PairConditions::is_composing_passthrough, normalizer_tables::specs::TableSets::has_no_flag))]
+    #[tactic(auto, unfolding(crate::specs::inner::PassthroughRuns::composing_class, normalizer_tables::specs::PairConditions::is_composing_passthrough, normalizer_tables::specs::TableSets::has_no_flag))]
     fn passing(&self) -> &CharacterSet {
         self.characters.unflagged()
     }
