@@ -6,4 +6,6 @@ pub mod RangeLemmas
 pub mod RisingLemmas
 pub mod SortedMapperRecords
 pub mod SortedRecords
+pub mod StatedRecords
+pub mod StatedStatuses
 pub mod Stating

@@ -1,8 +1,7 @@
 -- The first line that states a record, line by line.
-use Rattle.std.proofs.Common.{◌≡◌, ℕ, ◌+◌, ◌≤◌, ◌<◌, List, length, drop, true, false, None, Some, Option, Bor, refl}
+use Rattle.std.proofs.Common.{◌≡◌, ℕ, ◌+◌, ◌≤◌, ◌<◌, List, length, drop, true, false, None, Some, Bor, refl}
 use Rattle.std.proofs.Math.ListN.{drop_of_length-le}
 use Rattle.normalizer_records.specs.declared.at_fault.RecordAtFault.{RecordAtFault}
-use Rattle.normalizer_ucd.specs.declared.error.Place.{Place}
 use Rattle.normalizer_ucd.specs.declared.error.UcdFile.{UcdFile}
 use Rattle.normalizer_ucd.specs.RecordPlaces.{first_stating, states}
 use Rattle.normalizer_ucd.proofs.Loop.{one_more, part_at, texts}

@@ -1,9 +1,11 @@
 pub mod Exclusions
 pub mod Fields
+pub mod IdnaLines
 pub mod IdnaTable
 pub mod FallibleReads
 pub mod Messages
 pub mod RecordPlaces
 pub mod UnicodeData
+pub mod UnicodeLines
 pub mod Versions
 pub mod Wholes

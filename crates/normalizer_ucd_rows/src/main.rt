@@ -1,13 +1,17 @@
 //! Writes the records read from files of the Unicode Character Database, or why they were refused. An argument names
 //! two files, as `UnicodeData.txt+CompositionExclusions.txt`, or a table of IDNA and the most code points of a
 //! disallowed range that is recorded, as `IdnaMappingTable.txt@9` or `IdnaMappingTable.txt@all`, or such a table beside
-//! exclusions, as `CompositionExclusions.txt+IdnaMappingTable.txt@all`.
+//! exclusions, as `CompositionExclusions.txt+IdnaMappingTable.txt@all`. Of three files, as
+//! `UnicodeData.txt+CompositionExclusions.txt+IdnaMappingTable.txt`, it writes whether data are built, and otherwise the
+//! first record at fault with its line. `cuts=` before two files or a table asks whether the first file is refused if it
+//! is cut off, at each byte.
 #![tactic(auto)]
 
-use normalizer_records::{Record, Uts46Record, Uts46Status};
+use normalizer_builder::Records;
+use normalizer_records::{BuildError, Record, Uts46Record, Uts46Status};
 use normalizer_ucd::{
-    Disallowed, UcdError, records_of_unicode_data, uts46_records_beside_exclusions,
-    uts46_records_of_idna_table,
+    Disallowed, UcdError, place_of_record, records_of_unicode_data,
+    uts46_records_beside_exclusions, uts46_records_of_idna_table,
 };
 use std::process::ExitCode;
 use std::{env, fs, io};
@@ -22,13 +26,53 @@ fn main(rt: HostRuntime) -> ExitCode {
 fn write_all(rt: &HostRuntime) -> io::Result<()> {
     for files in env::args(rt)?.skip(1) {
         println!(rt; "{files}")?;
-        if let Some((names, most)) = files.as_str().split_once('@') {
+        if let Some((_, names)) = files.as_str().split_once('=') {
+            write_cuts(rt, names)?;
+        } else if let Some((names, most)) = files.as_str().split_once('@') {
             write_mapper_records(rt, mapper_records(rt, names, most)?)?;
-        } else if let Some((unicode_data, exclusions)) = files.as_str().split_once('+') {
-            write_records(rt, unicode_data, exclusions)?;
+        } else if let Some((unicode_data, others)) = files.as_str().split_once('+') {
+            match others.split_once('+') {
+                Some((exclusions, table)) => write_built(rt, unicode_data, exclusions, table)?,
+                None => write_records(rt, unicode_data, others)?,
+            }
         }
     }
     Ok(())
+}
+
+/// Writes whether each beginning of a file that isn't the whole is refused.
+fn write_cuts(rt: &HostRuntime, names: &str) -> io::Result<()> {
+    let are_refused = match names.split_once('+') {
+        Some((unicode_data, exclusions)) => {
+            let unicode_data = fs::read(rt, unicode_data)?;
+            are_cuts_refused(rt, &unicode_data, &fs::read(rt, exclusions)?)
+        }
+        None => are_table_cuts_refused(rt, &fs::read(rt, names)?),
+    };
+    if are_refused {
+        println!(rt; "each cut is refused")?;
+    } else {
+        println!(rt; "a cut is read")?;
+    }
+    Ok(())
+}
+
+fn are_cuts_refused(rt: &HostRuntime, unicode_data: &[u8], exclusions: &[u8]) -> bool {
+    for end in 0..unicode_data.len() {
+        if records_of_unicode_data(rt.alloc(), &unicode_data[..end], exclusions).is_ok() {
+            return false;
+        }
+    }
+    true
+}
+
+fn are_table_cuts_refused(rt: &HostRuntime, table: &[u8]) -> bool {
+    for end in 0..table.len() {
+        if uts46_records_of_idna_table(rt.alloc(), &table[..end], Disallowed::All).is_ok() {
+            return false;
+        }
+    }
+    true
 }
 
 fn write_records(rt: &HostRuntime, unicode_data: &str, exclusions: &str) -> io::Result<()> {
@@ -110,4 +154,59 @@ fn write_mapper_record(rt: &HostRuntime, record: &Uts46Record) -> io::Result<()>
     }
     println!(rt; "")?;
     Ok(())
+}
+
+/// The bytes of the files of Unicode.
+#[derive(Drop)]
+struct Files {
+    unicode_data: Vec<u8>,
+    exclusions: Vec<u8>,
+    table: Vec<u8>,
+}
+
+fn write_built(
+    rt: &HostRuntime,
+    unicode_data: &str,
+    exclusions: &str,
+    table: &str,
+) -> io::Result<()> {
+    let files = Files {
+        unicode_data: fs::read(rt, unicode_data)?,
+        exclusions: fs::read(rt, exclusions)?,
+        table: fs::read(rt, table)?,
+    };
+    match build(rt, &files) {
+        Ok(result) => println!(rt; "{result}")?,
+        Err(error) => println!(rt; "{error}")?,
+    }
+    Ok(())
+}
+
+/// Whether data are built of the records of the files; else the first record at fault.
+fn build(rt: &HostRuntime, files: &Files) -> Result<String, UcdError> {
+    let alloc = rt.alloc();
+    let records = records_of_unicode_data(alloc, &files.unicode_data, &files.exclusions)?;
+    let uts46 = uts46_records_of_idna_table(alloc, &files.table, Disallowed::All)?;
+    match Records::build(alloc, &records, &uts46) {
+        Ok(_) => Ok(format!(in alloc; "built")?),
+        Err(error) => fault(rt, files, &records, &uts46, error),
+    }
+}
+
+fn fault(
+    rt: &HostRuntime,
+    files: &Files,
+    records: &[Record],
+    uts46: &[Uts46Record],
+    error: BuildError,
+) -> Result<String, UcdError> {
+    let alloc = rt.alloc();
+    let Some(fault) = Records::first_at_fault(alloc, records, uts46, error)? else {
+        return Ok(format!(in alloc; "{error}")?);
+    };
+    let code = fault.character() as u32;
+    match place_of_record(alloc, &files.unicode_data, &files.table, fault)? {
+        Some(place) => Ok(format!(in alloc; "{place}: U+{code:04X}: {error}")?),
+        None => Ok(format!(in alloc; "U+{code:04X}: {error}")?),
+    }
 }
