@@ -319,14 +319,16 @@ static inline icu_normalizer_status icu_normalizer_open_records(icu_normalizer *
 }
 
 /* Each call below ends with NOT_OPEN if the handle has no normalizers, else with UNKNOWN_FORM if no form has the
-   number. OUT_OF_MEMORY comes only if an allocation was refused. On any error, nothing is written but what is said. If
-   the input is already normalized, nothing is allocated, unless a run of marks in it is longer than 17.
+   number. OUT_OF_MEMORY comes only if an allocation was refused. On any error, nothing is written but what is said.
+   Nothing is allocated, unless more than 17 characters are buffered at a time, as in a longer run of marks.
 
    With Unicode's own data a form in UTF-8 has at most 3 times the bytes of the input for NFC and NFD, and 11 times for
    NFKC and NFKD; in UTF-16 3 times the units for NFC, 4 times for NFD and 18 times for NFKC and NFKD. */
 
-/* Writes the form of `input` to `output`. Each maximal ill-formed subpart of UTF-8, and each unpaired surrogate of
-   UTF-16, reads as U+FFFD. `*needed` is how many units the form has: on success, and on BUFFER_TOO_SMALL. */
+/* Writes the form of `input` to `output`, as it is made. Each maximal ill-formed subpart of UTF-8, and each unpaired
+   surrogate of UTF-16, reads as U+FFFD. `*needed` is how many units the form has: on success, and on BUFFER_TOO_SMALL.
+   After that `output` has the first units of the form, as many as it has room for; with room for none, the form is only
+   counted. After OUT_OF_MEMORY the front of `output` may have first units of the form, and the rest is unchanged. */
 static inline icu_normalizer_status icu_normalizer_normalize_utf8(icu_normalizer *normalizer, icu_normalizer_form form,
     const uint8_t *input, size_t input_length, uint8_t *output, size_t output_length, size_t *needed) {
     const uint8_t none = 0;
@@ -389,7 +391,8 @@ static inline icu_normalizer_status icu_normalizer_first_mismatch_utf16(icu_norm
    no normalizers, else with NO_MAPPER if it has no mapper. `*needed` is how many units are written: on success, and on
    BUFFER_TOO_SMALL. STD3 rules, Punycode and the other steps of the standard are left to the caller. */
 
-/* Writes `input` mapped and in NFC to `output`: ignored characters are dropped, disallowed ones become U+FFFD. */
+/* Writes `input` mapped and in NFC to `output`: ignored characters are dropped, disallowed ones become U+FFFD. On any
+   error `output` is unchanged. What is written is first made in memory that is allocated. */
 static inline icu_normalizer_status icu_normalizer_map_utf8(icu_normalizer *normalizer,
     const uint8_t *input, size_t input_length, uint8_t *output, size_t output_length, size_t *needed) {
     const uint8_t none = 0;
