@@ -33,7 +33,7 @@ pub const WRONG_RECORDS: u32 = 6;
 pub const NO_MAPPER: u32 = 7;
 
 extern "C" {
-    pub fn icu_normalizer_open_files_nonnull(
+    pub fn icu_normalizer_open_files(
         handle: *mut Handle,
         unicode_data: *const u8,
         unicode_data_length: usize,
@@ -44,8 +44,8 @@ extern "C" {
         disallowed_limit: u32,
         defect: *mut Defect,
     ) -> u32;
-    pub fn icu_normalizer_share_nonnull(from: *mut Handle, to: *mut Handle) -> u32;
-    pub fn icu_normalizer_close_nonnull(handle: *mut Handle);
+    pub fn icu_normalizer_share(from: *mut Handle, to: *mut Handle) -> u32;
+    pub fn icu_normalizer_close(handle: *mut Handle);
     pub fn icu_normalizer_version() -> u32;
 }
 
@@ -54,7 +54,7 @@ pub type Writes<U> = unsafe extern "C" fn(*mut Handle, u32, *const U, usize, *mu
 pub type Maps<U> = unsafe extern "C" fn(*mut Handle, *const U, usize, *mut U, usize, *mut usize) -> u32;
 
 extern "C" {
-    pub fn icu_normalizer_normalize_utf8_nonnull(
+    pub fn icu_normalizer_normalize_utf8(
         handle: *mut Handle,
         form: u32,
         input: *const u8,
@@ -63,7 +63,7 @@ extern "C" {
         output_length: usize,
         needed: *mut usize,
     ) -> u32;
-    pub fn icu_normalizer_normalize_utf16_nonnull(
+    pub fn icu_normalizer_normalize_utf16(
         handle: *mut Handle,
         form: u32,
         input: *const u16,
@@ -72,30 +72,30 @@ extern "C" {
         output_length: usize,
         needed: *mut usize,
     ) -> u32;
-    pub fn icu_normalizer_is_normalized_utf8_nonnull(
+    pub fn icu_normalizer_is_normalized_utf8(
         h: *mut Handle,
         f: u32,
         i: *const u8,
         n: usize,
         r: *mut bool,
     ) -> u32;
-    pub fn icu_normalizer_is_normalized_utf16_nonnull(
+    pub fn icu_normalizer_is_normalized_utf16(
         h: *mut Handle,
         f: u32,
         i: *const u16,
         n: usize,
         r: *mut bool,
     ) -> u32;
-    pub fn icu_normalizer_split_utf8_nonnull(h: *mut Handle, f: u32, i: *const u8, n: usize, r: *mut usize) -> u32;
-    pub fn icu_normalizer_split_utf16_nonnull(h: *mut Handle, f: u32, i: *const u16, n: usize, r: *mut usize) -> u32;
-    pub fn icu_normalizer_first_mismatch_utf8_nonnull(
+    pub fn icu_normalizer_split_utf8(h: *mut Handle, f: u32, i: *const u8, n: usize, r: *mut usize) -> u32;
+    pub fn icu_normalizer_split_utf16(h: *mut Handle, f: u32, i: *const u16, n: usize, r: *mut usize) -> u32;
+    pub fn icu_normalizer_first_mismatch_utf8(
         h: *mut Handle,
         f: u32,
         i: *const u8,
         n: usize,
         r: *mut Mismatch,
     ) -> u32;
-    pub fn icu_normalizer_map_utf8_nonnull(
+    pub fn icu_normalizer_map_utf8(
         handle: *mut Handle,
         input: *const u8,
         input_length: usize,
@@ -103,7 +103,7 @@ extern "C" {
         output_length: usize,
         needed: *mut usize,
     ) -> u32;
-    pub fn icu_normalizer_validate_utf8_nonnull(
+    pub fn icu_normalizer_validate_utf8(
         handle: *mut Handle,
         input: *const u8,
         input_length: usize,

@@ -81,7 +81,7 @@ unsafe impl Send for OpenHandle {}
 
 impl Drop for OpenHandle {
     fn drop(&mut self) {
-        unsafe { ffi::icu_normalizer_close_nonnull(&mut self.0) }
+        unsafe { ffi::icu_normalizer_close(&mut self.0) }
     }
 }
 
@@ -90,7 +90,7 @@ impl OpenHandle {
         let mut open = OpenHandle(Handle::CLOSED);
         let mut defect = ffi::Defect::default();
         let status = unsafe {
-            ffi::icu_normalizer_open_files_nonnull(
+            ffi::icu_normalizer_open_files(
                 &mut open.0,
                 unicode_data.as_ptr(),
                 unicode_data.len(),
@@ -123,7 +123,7 @@ impl OpenHandle {
 
     fn shared(&mut self) -> OpenHandle {
         let mut open = OpenHandle(Handle::CLOSED);
-        match unsafe { ffi::icu_normalizer_share_nonnull(&mut self.0, &mut open.0) } {
+        match unsafe { ffi::icu_normalizer_share(&mut self.0, &mut open.0) } {
             ffi::OK => open,
             _ => out_of_memory(std::mem::size_of::<usize>()),
         }
@@ -139,16 +139,16 @@ impl OpenHandle {
 
     /// The form of UTF-8, or `None` if that is well-formed and normalized.
     pub(crate) fn form_of_utf8(&mut self, form: u32, bytes: &[u8]) -> Option<String> {
-        let cut = self.reported(ffi::icu_normalizer_split_utf8_nonnull, form, bytes);
-        let made = self.form_from(ffi::icu_normalizer_normalize_utf8_nonnull, form, bytes, cut)?;
+        let cut = self.reported(ffi::icu_normalizer_split_utf8, form, bytes);
+        let made = self.form_from(ffi::icu_normalizer_normalize_utf8, form, bytes, cut)?;
         // A form is well-formed, and so is what comes before the cut.
         Some(unsafe { String::from_utf8_unchecked(made) })
     }
 
     /// The form of UTF-16, or `None` if that is well-formed and normalized.
     pub(crate) fn form_of_utf16(&mut self, form: u32, units: &[u16]) -> Option<Vec<u16>> {
-        let cut = self.reported(ffi::icu_normalizer_split_utf16_nonnull, form, units);
-        self.form_from(ffi::icu_normalizer_normalize_utf16_nonnull, form, units, cut)
+        let cut = self.reported(ffi::icu_normalizer_split_utf16, form, units);
+        self.form_from(ffi::icu_normalizer_normalize_utf16, form, units, cut)
     }
 
     fn form_from<U: Copy>(&mut self, call: Writes<U>, form: u32, units: &[U], cut: usize) -> Option<Vec<U>> {

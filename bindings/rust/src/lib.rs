@@ -114,13 +114,13 @@ impl Normalizers {
     /// ones become U+FFFD. Without a mapper there is none.
     pub fn map(&self, text: &str) -> Option<String> {
         self.0
-            .with(|handle| handle.mapped(ffi::icu_normalizer_map_utf8_nonnull, text))
+            .with(|handle| handle.mapped(ffi::icu_normalizer_map_utf8, text))
     }
 
     /// Returns the same, with U+FFFD for ignored characters too. Mapped text is valid only if this leaves it unchanged.
     pub fn validate(&self, text: &str) -> Option<String> {
         self.0
-            .with(|handle| handle.mapped(ffi::icu_normalizer_validate_utf8_nonnull, text))
+            .with(|handle| handle.mapped(ffi::icu_normalizer_validate_utf8, text))
     }
 }
 
@@ -189,13 +189,13 @@ macro_rules! calls {
             /// Returns whether bytes are well-formed and already normalized.
             pub fn is_normalized_utf8(&self, bytes: &[u8]) -> bool {
                 self.0
-                    .with(|handle, form| handle.reported(ffi::icu_normalizer_is_normalized_utf8_nonnull, form, bytes))
+                    .with(|handle, form| handle.reported(ffi::icu_normalizer_is_normalized_utf8, form, bytes))
             }
 
             /// Returns whether 16-bit units are well-formed and already normalized.
             pub fn is_normalized_utf16(&self, units: &[u16]) -> bool {
                 self.0
-                    .with(|handle, form| handle.reported(ffi::icu_normalizer_is_normalized_utf16_nonnull, form, units))
+                    .with(|handle, form| handle.reported(ffi::icu_normalizer_is_normalized_utf16, form, units))
             }
 
             /// Returns the longest beginning that the form begins with, followed by the form of the rest, and the rest.
@@ -213,13 +213,13 @@ macro_rules! calls {
             pub fn split_normalized_utf16<'t>(&self, units: &'t [u16]) -> (&'t [u16], &'t [u16]) {
                 let cut = self
                     .0
-                    .with(|handle, form| handle.reported(ffi::icu_normalizer_split_utf16_nonnull, form, units));
+                    .with(|handle, form| handle.reported(ffi::icu_normalizer_split_utf16, form, units));
                 units.split_at(cut)
             }
 
             fn cut(&self, bytes: &[u8]) -> usize {
                 self.0
-                    .with(|handle, form| handle.reported(ffi::icu_normalizer_split_utf8_nonnull, form, bytes))
+                    .with(|handle, form| handle.reported(ffi::icu_normalizer_split_utf8, form, bytes))
             }
 
             /// Returns the first place where a text differs from its form.
@@ -230,7 +230,7 @@ macro_rules! calls {
             /// Returns the first place where bytes are ill-formed or differ from their form. At an ill-formed sequence
             /// U+FFFD is found.
             pub fn first_mismatch_utf8(&self, bytes: &[u8]) -> Option<Mismatch> {
-                let call = ffi::icu_normalizer_first_mismatch_utf8_nonnull;
+                let call = ffi::icu_normalizer_first_mismatch_utf8;
                 let mismatch = self.0.with(|handle, form| handle.reported(call, form, bytes));
                 Mismatch::of(mismatch)
             }

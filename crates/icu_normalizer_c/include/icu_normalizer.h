@@ -22,10 +22,7 @@
    - A handle goes from one thread to another by a thread's start or join, a lock, or a sequentially consistent atomic.
    - No call is made in a signal handler, nor in the forked child of a process with threads.
    - The program's malloc, realloc and free come from one allocator, and align a block of each size to each power of
-     two up to 16 that divides the size.
-
-   The functions of the library end in `_nonnull`: they take no null pointer, even for an array of none. Other languages
-   call those, with any pointer that isn't null for an array of none. */
+     two up to 16 that divides the size. */
 #ifndef ICU_NORMALIZER_H
 #define ICU_NORMALIZER_H
 
@@ -197,63 +194,16 @@ static inline const char *icu_normalizer_reason_text(uint32_t reason) {
     }
 }
 
-/* ---- the functions of the library */
-
-icu_normalizer_status icu_normalizer_open_unicode_data_nonnull(icu_normalizer *normalizer,
-    const uint8_t *unicode_data, size_t unicode_data_length,
-    const uint8_t *exclusions, size_t exclusions_length);
-icu_normalizer_status icu_normalizer_open_files_nonnull(icu_normalizer *normalizer,
-    const uint8_t *unicode_data, size_t unicode_data_length, const uint8_t *exclusions, size_t exclusions_length,
-    const uint8_t *idna_table, size_t idna_table_length, uint32_t disallowed_limit, icu_normalizer_defect *defect);
-icu_normalizer_status icu_normalizer_open_records_nonnull(icu_normalizer *normalizer,
-    const icu_normalizer_record *records, size_t records_length,
-    const icu_normalizer_mapper_record *mapper_records, size_t mapper_records_length,
-    const uint32_t *codes, size_t codes_length, icu_normalizer_defect *defect);
-icu_normalizer_status icu_normalizer_normalize_utf8_nonnull(icu_normalizer *normalizer, icu_normalizer_form form,
-    const uint8_t *input, size_t input_length, uint8_t *output, size_t output_length, size_t *needed);
-icu_normalizer_status icu_normalizer_normalize_utf16_nonnull(icu_normalizer *normalizer, icu_normalizer_form form,
-    const uint16_t *input, size_t input_length, uint16_t *output, size_t output_length, size_t *needed);
-icu_normalizer_status icu_normalizer_is_normalized_utf8_nonnull(icu_normalizer *normalizer, icu_normalizer_form form,
-    const uint8_t *input, size_t input_length, bool *is_normalized);
-icu_normalizer_status icu_normalizer_is_normalized_utf16_nonnull(icu_normalizer *normalizer, icu_normalizer_form form,
-    const uint16_t *input, size_t input_length, bool *is_normalized);
-icu_normalizer_status icu_normalizer_split_utf8_nonnull(icu_normalizer *normalizer, icu_normalizer_form form,
-    const uint8_t *input, size_t input_length, size_t *cut);
-icu_normalizer_status icu_normalizer_split_utf16_nonnull(icu_normalizer *normalizer, icu_normalizer_form form,
-    const uint16_t *input, size_t input_length, size_t *cut);
-icu_normalizer_status icu_normalizer_first_mismatch_utf8_nonnull(icu_normalizer *normalizer, icu_normalizer_form form,
-    const uint8_t *input, size_t input_length, icu_normalizer_mismatch *mismatch);
-icu_normalizer_status icu_normalizer_first_mismatch_utf16_nonnull(icu_normalizer *normalizer, icu_normalizer_form form,
-    const uint16_t *input, size_t input_length, icu_normalizer_mismatch *mismatch);
-icu_normalizer_status icu_normalizer_map_utf8_nonnull(icu_normalizer *normalizer,
-    const uint8_t *input, size_t input_length, uint8_t *output, size_t output_length, size_t *needed);
-icu_normalizer_status icu_normalizer_map_utf16_nonnull(icu_normalizer *normalizer,
-    const uint16_t *input, size_t input_length, uint16_t *output, size_t output_length, size_t *needed);
-icu_normalizer_status icu_normalizer_validate_utf8_nonnull(icu_normalizer *normalizer,
-    const uint8_t *input, size_t input_length, uint8_t *output, size_t output_length, size_t *needed);
-icu_normalizer_status icu_normalizer_validate_utf16_nonnull(icu_normalizer *normalizer,
-    const uint16_t *input, size_t input_length, uint16_t *output, size_t output_length, size_t *needed);
-
-icu_normalizer_status icu_normalizer_share_nonnull(icu_normalizer *from, icu_normalizer *to);
-void icu_normalizer_close_nonnull(icu_normalizer *normalizer);
-
 /* Returns the version of the library, as ICU_NORMALIZER_VERSION. */
 uint32_t icu_normalizer_version(void);
-
-/* ---- the same, for arrays that may be null if they have no units, and the calls without arrays */
 
 /* Opens `to` by the data of `from`, which both then share: nothing is read or copied. What `to` had is closed. Each is
    closed by itself, in any order and on any thread; the last one frees the data. Opening `from` again leaves `to` as it
    is. On an error `to` keeps what it had: NOT_OPEN or IN_USE of `from`, IN_USE of `to`, OUT_OF_MEMORY. */
-static inline icu_normalizer_status icu_normalizer_share(icu_normalizer *from, icu_normalizer *to) {
-    if (from == to) return from->is_open ? ICU_NORMALIZER_OK : ICU_NORMALIZER_NOT_OPEN;
-    return icu_normalizer_share_nonnull(from, to);
-}
+icu_normalizer_status icu_normalizer_share(icu_normalizer *from, icu_normalizer *to);
 
 /* Closes the handle, which then has no normalizers. A closed handle stays closed; null is ignored. */
-static inline void icu_normalizer_close(icu_normalizer *normalizer) {
-    if (normalizer) icu_normalizer_close_nonnull(normalizer);
-}
+void icu_normalizer_close(icu_normalizer *normalizer);
 
 /* Returns the version of Unicode that the first line of CompositionExclusions.txt or IdnaMappingTable.txt names, as
    0x0F0000 for 15.0.0, or 0 if it names none. */
@@ -280,146 +230,79 @@ static inline uint32_t icu_normalizer_unicode_version(const uint8_t *file, size_
 /* Opens normalizers by the bytes of UnicodeData.txt and CompositionExclusions.txt, of any version of Unicode, without a
    mapper. What the handle had is closed. On an error the handle keeps what it had: WRONG_LINE, WRONG_RECORDS,
    OUT_OF_MEMORY, IN_USE. */
-static inline icu_normalizer_status icu_normalizer_open_unicode_data(icu_normalizer *normalizer,
+icu_normalizer_status icu_normalizer_open_unicode_data(icu_normalizer *normalizer,
     const uint8_t *unicode_data, size_t unicode_data_length,
-    const uint8_t *exclusions, size_t exclusions_length) {
-    const uint8_t none = 0;
-    return icu_normalizer_open_unicode_data_nonnull(normalizer,
-        unicode_data_length ? unicode_data : &none, unicode_data_length,
-        exclusions_length ? exclusions : &none, exclusions_length);
-}
+    const uint8_t *exclusions, size_t exclusions_length);
 
 /* The same, with a mapper by the bytes of IdnaMappingTable.txt, if that maps, ignores or disallows a character. Its
    disallowed ranges of more than `disallowed_limit` code points are left out, and a mapper leaves their characters as
    they are; most of them are unassigned. With 0x110000 none is left out. On WRONG_LINE and WRONG_RECORDS `*defect` says
    where the data are wrong; else it is unchanged. */
-static inline icu_normalizer_status icu_normalizer_open_files(icu_normalizer *normalizer,
+icu_normalizer_status icu_normalizer_open_files(icu_normalizer *normalizer,
     const uint8_t *unicode_data, size_t unicode_data_length, const uint8_t *exclusions, size_t exclusions_length,
-    const uint8_t *idna_table, size_t idna_table_length, uint32_t disallowed_limit, icu_normalizer_defect *defect) {
-    const uint8_t none = 0;
-    return icu_normalizer_open_files_nonnull(normalizer,
-        unicode_data_length ? unicode_data : &none, unicode_data_length,
-        exclusions_length ? exclusions : &none, exclusions_length,
-        idna_table_length ? idna_table : &none, idna_table_length, disallowed_limit, defect);
-}
+    const uint8_t *idna_table, size_t idna_table_length, uint32_t disallowed_limit, icu_normalizer_defect *defect);
 
 /* The same, with records in place of the files: those of characters, which without a class and a mapping need none, and
    those of the mapper, which is left out if there are none. Both rise by character, and `codes` has the code points of
    all mappings. On WRONG_RECORD and WRONG_RECORDS `*defect` says which is wrong, or why; else it is unchanged. */
-static inline icu_normalizer_status icu_normalizer_open_records(icu_normalizer *normalizer,
+icu_normalizer_status icu_normalizer_open_records(icu_normalizer *normalizer,
     const icu_normalizer_record *records, size_t records_length,
     const icu_normalizer_mapper_record *mapper_records, size_t mapper_records_length,
-    const uint32_t *codes, size_t codes_length, icu_normalizer_defect *defect) {
-    const icu_normalizer_record no_record = {0, 0, 0, 0, false, false};
-    const icu_normalizer_mapper_record no_mapper_record = {0, 0, 0, 0};
-    const uint32_t no_code = 0;
-    return icu_normalizer_open_records_nonnull(normalizer, records_length ? records : &no_record, records_length,
-        mapper_records_length ? mapper_records : &no_mapper_record, mapper_records_length,
-        codes_length ? codes : &no_code, codes_length, defect);
-}
+    const uint32_t *codes, size_t codes_length, icu_normalizer_defect *defect);
 
 /* Each call below ends with NOT_OPEN if the handle has no normalizers, else with UNKNOWN_FORM if no form has the
-   number. OUT_OF_MEMORY comes only if an allocation was refused. On any error, nothing is written but what is said. If
-   the input is already normalized, nothing is allocated, unless a run of marks in it is longer than 17.
+   number. OUT_OF_MEMORY comes only if an allocation was refused. On any error, nothing is written but what is said.
+   Nothing is allocated, unless more than 17 characters are buffered at a time, as in a longer run of marks.
 
    With Unicode's own data a form in UTF-8 has at most 3 times the bytes of the input for NFC and NFD, and 11 times for
    NFKC and NFKD; in UTF-16 3 times the units for NFC, 4 times for NFD and 18 times for NFKC and NFKD. */
 
-/* Writes the form of `input` to `output`. Each maximal ill-formed subpart of UTF-8, and each unpaired surrogate of
-   UTF-16, reads as U+FFFD. `*needed` is how many units the form has: on success, and on BUFFER_TOO_SMALL. */
-static inline icu_normalizer_status icu_normalizer_normalize_utf8(icu_normalizer *normalizer, icu_normalizer_form form,
-    const uint8_t *input, size_t input_length, uint8_t *output, size_t output_length, size_t *needed) {
-    const uint8_t none = 0;
-    uint8_t nothing;
-    return icu_normalizer_normalize_utf8_nonnull(normalizer, form, input_length ? input : &none, input_length,
-        output_length ? output : &nothing, output_length, needed);
-}
-static inline icu_normalizer_status icu_normalizer_normalize_utf16(icu_normalizer *normalizer, icu_normalizer_form form,
-    const uint16_t *input, size_t input_length, uint16_t *output, size_t output_length, size_t *needed) {
-    const uint16_t none = 0;
-    uint16_t nothing;
-    return icu_normalizer_normalize_utf16_nonnull(normalizer, form, input_length ? input : &none, input_length,
-        output_length ? output : &nothing, output_length, needed);
-}
+/* Writes the form of `input` to `output`, as it is made. Each maximal ill-formed subpart of UTF-8, and each unpaired
+   surrogate of UTF-16, reads as U+FFFD. `*needed` is how many units the form has: on success, and on BUFFER_TOO_SMALL.
+   After that `output` has the first units of the form, as many as it has room for; with room for none, the form is only
+   counted. After OUT_OF_MEMORY the front of `output` may have first units of the form, and the rest is unchanged. */
+icu_normalizer_status icu_normalizer_normalize_utf8(icu_normalizer *normalizer, icu_normalizer_form form,
+    const uint8_t *input, size_t input_length, uint8_t *output, size_t output_length, size_t *needed);
+icu_normalizer_status icu_normalizer_normalize_utf16(icu_normalizer *normalizer, icu_normalizer_form form,
+    const uint16_t *input, size_t input_length, uint16_t *output, size_t output_length, size_t *needed);
 
 /* Sets `*is_normalized` to whether `input` is well-formed and already normalized. */
-static inline icu_normalizer_status icu_normalizer_is_normalized_utf8(icu_normalizer *normalizer,
-    icu_normalizer_form form, const uint8_t *input, size_t input_length, bool *is_normalized) {
-    const uint8_t none = 0;
-    return icu_normalizer_is_normalized_utf8_nonnull(
-        normalizer, form, input_length ? input : &none, input_length, is_normalized);
-}
-static inline icu_normalizer_status icu_normalizer_is_normalized_utf16(icu_normalizer *normalizer,
-    icu_normalizer_form form, const uint16_t *input, size_t input_length, bool *is_normalized) {
-    const uint16_t none = 0;
-    return icu_normalizer_is_normalized_utf16_nonnull(
-        normalizer, form, input_length ? input : &none, input_length, is_normalized);
-}
+icu_normalizer_status icu_normalizer_is_normalized_utf8(icu_normalizer *normalizer,
+    icu_normalizer_form form, const uint8_t *input, size_t input_length, bool *is_normalized);
+icu_normalizer_status icu_normalizer_is_normalized_utf16(icu_normalizer *normalizer,
+    icu_normalizer_form form, const uint16_t *input, size_t input_length, bool *is_normalized);
 
 /* Sets `*cut` to the length of the longest beginning of `input` that is well-formed and that the form begins with,
    followed by the form of the rest. It is `input_length` exactly if `input` is well-formed and normalized. */
-static inline icu_normalizer_status icu_normalizer_split_utf8(icu_normalizer *normalizer, icu_normalizer_form form,
-    const uint8_t *input, size_t input_length, size_t *cut) {
-    const uint8_t none = 0;
-    return icu_normalizer_split_utf8_nonnull(normalizer, form, input_length ? input : &none, input_length, cut);
-}
-static inline icu_normalizer_status icu_normalizer_split_utf16(icu_normalizer *normalizer, icu_normalizer_form form,
-    const uint16_t *input, size_t input_length, size_t *cut) {
-    const uint16_t none = 0;
-    return icu_normalizer_split_utf16_nonnull(normalizer, form, input_length ? input : &none, input_length, cut);
-}
+icu_normalizer_status icu_normalizer_split_utf8(icu_normalizer *normalizer, icu_normalizer_form form,
+    const uint8_t *input, size_t input_length, size_t *cut);
+icu_normalizer_status icu_normalizer_split_utf16(icu_normalizer *normalizer, icu_normalizer_form form,
+    const uint16_t *input, size_t input_length, size_t *cut);
 
 /* Sets `*mismatch` to the first place where `input` is ill-formed or differs from its form. At an ill-formed sequence,
    U+FFFD is found, and may be expected too. More units after a well-formed `input` never remove the mismatch, nor move
    it later. */
-static inline icu_normalizer_status icu_normalizer_first_mismatch_utf8(icu_normalizer *normalizer,
-    icu_normalizer_form form, const uint8_t *input, size_t input_length, icu_normalizer_mismatch *mismatch) {
-    const uint8_t none = 0;
-    return icu_normalizer_first_mismatch_utf8_nonnull(
-        normalizer, form, input_length ? input : &none, input_length, mismatch);
-}
-static inline icu_normalizer_status icu_normalizer_first_mismatch_utf16(icu_normalizer *normalizer,
-    icu_normalizer_form form, const uint16_t *input, size_t input_length, icu_normalizer_mismatch *mismatch) {
-    const uint16_t none = 0;
-    return icu_normalizer_first_mismatch_utf16_nonnull(
-        normalizer, form, input_length ? input : &none, input_length, mismatch);
-}
+icu_normalizer_status icu_normalizer_first_mismatch_utf8(icu_normalizer *normalizer,
+    icu_normalizer_form form, const uint8_t *input, size_t input_length, icu_normalizer_mismatch *mismatch);
+icu_normalizer_status icu_normalizer_first_mismatch_utf16(icu_normalizer *normalizer,
+    icu_normalizer_form form, const uint16_t *input, size_t input_length, icu_normalizer_mismatch *mismatch);
 
 /* The calls below use the mapper (Unicode Technical Standard #46, section 4). Each ends with NOT_OPEN if the handle has
    no normalizers, else with NO_MAPPER if it has no mapper. `*needed` is how many units are written: on success, and on
    BUFFER_TOO_SMALL. STD3 rules, Punycode and the other steps of the standard are left to the caller. */
 
-/* Writes `input` mapped and in NFC to `output`: ignored characters are dropped, disallowed ones become U+FFFD. */
-static inline icu_normalizer_status icu_normalizer_map_utf8(icu_normalizer *normalizer,
-    const uint8_t *input, size_t input_length, uint8_t *output, size_t output_length, size_t *needed) {
-    const uint8_t none = 0;
-    uint8_t nothing;
-    return icu_normalizer_map_utf8_nonnull(normalizer, input_length ? input : &none, input_length,
-        output_length ? output : &nothing, output_length, needed);
-}
-static inline icu_normalizer_status icu_normalizer_map_utf16(icu_normalizer *normalizer,
-    const uint16_t *input, size_t input_length, uint16_t *output, size_t output_length, size_t *needed) {
-    const uint16_t none = 0;
-    uint16_t nothing;
-    return icu_normalizer_map_utf16_nonnull(normalizer, input_length ? input : &none, input_length,
-        output_length ? output : &nothing, output_length, needed);
-}
+/* Writes `input` mapped and in NFC to `output`: ignored characters are dropped, disallowed ones become U+FFFD. On any
+   error `output` is unchanged. What is written is first made in memory that is allocated. */
+icu_normalizer_status icu_normalizer_map_utf8(icu_normalizer *normalizer,
+    const uint8_t *input, size_t input_length, uint8_t *output, size_t output_length, size_t *needed);
+icu_normalizer_status icu_normalizer_map_utf16(icu_normalizer *normalizer,
+    const uint16_t *input, size_t input_length, uint16_t *output, size_t output_length, size_t *needed);
 
 /* The same, but ignored characters become U+FFFD too. Mapped text is valid only if this leaves it unchanged. */
-static inline icu_normalizer_status icu_normalizer_validate_utf8(icu_normalizer *normalizer,
-    const uint8_t *input, size_t input_length, uint8_t *output, size_t output_length, size_t *needed) {
-    const uint8_t none = 0;
-    uint8_t nothing;
-    return icu_normalizer_validate_utf8_nonnull(normalizer, input_length ? input : &none, input_length,
-        output_length ? output : &nothing, output_length, needed);
-}
-static inline icu_normalizer_status icu_normalizer_validate_utf16(icu_normalizer *normalizer,
-    const uint16_t *input, size_t input_length, uint16_t *output, size_t output_length, size_t *needed) {
-    const uint16_t none = 0;
-    uint16_t nothing;
-    return icu_normalizer_validate_utf16_nonnull(normalizer, input_length ? input : &none, input_length,
-        output_length ? output : &nothing, output_length, needed);
-}
+icu_normalizer_status icu_normalizer_validate_utf8(icu_normalizer *normalizer,
+    const uint8_t *input, size_t input_length, uint8_t *output, size_t output_length, size_t *needed);
+icu_normalizer_status icu_normalizer_validate_utf16(icu_normalizer *normalizer,
+    const uint16_t *input, size_t input_length, uint16_t *output, size_t output_length, size_t *needed);
 
 #ifdef __cplusplus
 }

@@ -1,14 +1,15 @@
 -- What a call leaves in the buffers that it was passed.
-use Rattle.std.specs.Prelude.{◌≡◌, ◌≢◌, ◌⊎◌, ℕ, ◌<◌, ◌≤◌, ◌++◌, ⊤, List, length, drop}
+use Rattle.std.specs.Prelude.{◌≡◌, ◌≢◌, ◌⊎◌, ℕ, ◌<◌, ◌≤◌, ◌-◌, ◌^◌, ◌++◌, ⊤, List, length, take, drop}
 use Rattle.std.specs.Prelude.{Result, IsOk, OnOk, OnErr, IfErr, IsErrOf}
 use Rattle.normal_forms.specs.ShortRuns.{HasShortRuns}
 use Rattle.normalizer_text.specs.Encodings.{Encoding, decoded_in}
 use Rattle.icu_normalizer.specs.Forms.{MadeForm}
+use Rattle.normalizer_buffers.specs.Overwriting.{overwritten}
 use Rattle.normalizer_handles.specs.declared.fault.Fault.{Fault}
 use Rattle.normalizer_handles.specs.declared.fault.Fault.TheVariants.{BufferTooSmall, Memory}
 
 -- The units are written to the front of the buffer, if there is room for all of them, and their number is reported. If
--- there isn't room, or on any other fault, the buffer is unchanged.
+-- there isn't room, only their number is.
 pub record Fills {X : Type 0} (units before after : List X) (count_before count : ℕ) (outcome : Result ⊤ Fault)
     : Type 0 where
   pub room : OnOk outcome (length units ≤ length before)
@@ -16,14 +17,29 @@ pub record Fills {X : Type 0} (units before after : List X) (count_before count 
   pub counted : OnOk outcome (count ≡ length units)
   pub small : IsErrOf outcome BufferTooSmall → (length before < length units) × (count ≡ length units)
   pub refused : IfErr outcome (λ fault. (fault ≡ BufferTooSmall) ⊎ (fault ≡ Memory))
-  pub unwritten : OnErr outcome (after ≡ before)
   pub unreported : IfErr outcome (λ fault. fault ≢ BufferTooSmall → count ≡ count_before)
 
--- the same, and the fault isn't `Memory` if memory suffices
-abbrev pub Writes : {X : Type 0} → (before after : List X) → (count_before count : ℕ) → (Suffices : Type 0)
-    → (units : List X) → Result ⊤ Fault → Type 0
-Writes before after count_before count Suffices units outcome =
-    Fills units before after count_before count outcome × (Suffices → ¬ IsErrOf outcome Memory)
+-- after a fault the buffer is unchanged
+abbrev pub LeavesAll : {X : Type 0} → (units before after : List X) → Result ⊤ Fault → Type 0
+LeavesAll units before after outcome = OnErr outcome (after ≡ before)
+
+-- a beginning of the units overwrote the front of the buffer, as far as there is room for it
+abbrev pub HasBeginning : {X : Type 0} → (units before after : List X) → Type 0
+HasBeginning {X} units before after =
+    (front : List X) × (rest : List X) × (units ≡ front ++ rest) × (after ≡ overwritten before front)
+
+-- After a fault the front of the buffer has a beginning of the units, and the rest is unchanged. If only room was
+-- missing, the buffer is full.
+pub record LeavesBeginning {X : Type 0} (units before after : List X) (outcome : Result ⊤ Fault) : Type 0 where
+  pub full : IsErrOf outcome BufferTooSmall → after ≡ take (length before) units
+  pub begun : OnErr outcome (HasBeginning units before after)
+
+-- The units are written, or what is left after a fault, which isn't `Memory` if memory suffices.
+pub record Writes {X : Type 0} (Left : List X → List X → List X → Result ⊤ Fault → Type 0) (before after : List X)
+    (count_before count : ℕ) (Suffices : Type 0) (units : List X) (outcome : Result ⊤ Fault) : Type 0 where
+  pub fills : Fills units before after count_before count outcome
+  pub left : Left units before after outcome
+  pub room : Suffices → ¬ IsErrOf outcome Memory
 
 -- A value of this kind is reported. The only fault is `Memory`, which never comes over short runs, and then nothing is.
 pub record Reports {A : Type 0} (m : MadeForm) (e : Encoding) (units : List ℕ) (Is : A → Type 0) (before after : A)
@@ -32,3 +48,10 @@ pub record Reports {A : Type 0} (m : MadeForm) (e : Encoding) (units : List ℕ)
   pub room : HasShortRuns m.has_class_form m.reading (decoded_in e units) → IsOk outcome
   pub refused : IfErr outcome (λ fault. fault ≡ Memory)
   pub unreported : OnErr outcome (after ≡ before)
+
+-- The count of units is reported, if it is below the greatest number of 64 bits, and whether there is room for them.
+pub record ReportsCount (units room count_before count : ℕ) (outcome : Result ⊤ Fault) : Type 0 where
+  pub done : OnOk outcome ((units < 2 ^ 64 - 1) × ((units ≤ room) × (count ≡ units)))
+  pub small : IfErr outcome (λ fault.
+      ((fault ≡ BufferTooSmall) × ((units < 2 ^ 64 - 1) × ((room < units) × (count ≡ units))))
+      ⊎ ((fault ≡ Memory) × ((2 ^ 64 - 1 ≤ units) × (count ≡ count_before))))

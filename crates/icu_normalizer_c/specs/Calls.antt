@@ -1,5 +1,6 @@
 -- What the calls of C do.
-use Rattle.std.specs.Prelude.{◌≡◌, ◌⊎◌, ◌↔◌, ℕ, ◌<◌, Bool, List, ⊤, Result, Ok, Err, Option, Some, None, IsTrue}
+use Rattle.std.specs.Prelude.{◌≡◌, ◌⊎◌, ◌↔◌, ℕ, ◌<◌, ◌-◌, ◌^◌, Bool, List, length, ⊤, Result, Ok, Err, Option, Some, None, IsTrue}
+use Rattle.std.specs.Prelude.{min, IsOk, IsOkUnless, IfOk, OnOk, OnErr}
 use Rattle.normal_forms.specs.ShortRuns.{HasShortRuns}
 use Rattle.normalizer_tables.specs.declared.characters.IgnoredCharacters.{IgnoredCharacters}
 use Rattle.normalizer_text.specs.Encodings.{Encoding, encoded_in, decoded_in}
@@ -7,6 +8,9 @@ use Rattle.normalizer_text.specs.EncodedForm.{encoded_form}
 use Rattle.normalizer_text.specs.InputCut.{IsInputCut, IsInputNormalized}
 use Rattle.normalizer_text.specs.declared.offence.Offence.{Offence}
 use Rattle.normalizer_built.specs.Mapping.{mapped_in}
+use Rattle.normalizer_buffers.specs.Overwriting.{overwritten}
+use Rattle.normalizer_iterators.specs.declared.error.NormalizeError.{NormalizeError}
+use Rattle.normalizer_iterators.specs.declared.error.NormalizeError.TheVariants.{Memory}
 use Rattle.icu_normalizer.specs.Checks.{IsLastingOffence}
 use Rattle.icu_normalizer.specs.Forms.{MadeForm}
 use Rattle.icu_normalizer.specs.declared.uts46.Uts46Mapper.{Uts46Mapper}
@@ -16,7 +20,7 @@ use Rattle.normalizer_handles.specs.declared.fault.Fault.{Fault}
 use Rattle.normalizer_handles.specs.declared.fault.Fault.TheVariants.{UnknownForm, NoMapper}
 use Rattle.icu_normalizer_c.specs.declared.mismatch.Mismatch.{Mismatch}
 use Rattle.normalizer_handles.specs.declared.normalizers.Normalizers.{Normalizers}
-use Rattle.icu_normalizer_c.specs.Buffers.{Reports, Writes}
+use Rattle.icu_normalizer_c.specs.Buffers.{HasBeginning, LeavesAll, LeavesBeginning, Reports, Writes}
 use Rattle.normalizer_handles.specs.FormNumbers.{last_form}
 use Rattle.normalizer_handles.specs.Made.{IsNumbered}
 use Rattle.icu_normalizer_c.specs.Mismatches.{mismatch_of}
@@ -39,16 +43,28 @@ abbrev pub Over : Result Normalizers Fault → (number : ℕ) → (Unchanged : T
     → Result ⊤ Fault → Type 0
 Over h number Unchanged Is outcome = OverHeld h Unchanged (λ n. AtForm n number Unchanged Is) outcome
 
--- the input needs no memory: it is well-formed and normalized, and has short runs
+-- the input needs no memory: it has short runs, and the units of its form can be counted in 64 bits
 abbrev pub NeedsNoMemory : Encoding → (input : List ℕ) → MadeForm → Type 0
-NeedsNoMemory e input m =
-    HasShortRuns m.has_class_form m.reading (decoded_in e input) × IsInputNormalized e m.reading m.form input
+NeedsNoMemory e input m = HasShortRuns m.has_class_form m.reading (decoded_in e input)
+    × (length (encoded_form e m.reading m.form input) < 2 ^ 64 - 1)
 
 -- the encoded form of the input goes to the buffer
 abbrev pub WritesForm : Encoding → (input before after : List ℕ) → (count_before count : ℕ) → MadeForm → Result ⊤ Fault
     → Type 0
 WritesForm e input before after count_before count m outcome =
-    Writes before after count_before count (NeedsNoMemory e input m) (encoded_form e m.reading m.form input) outcome
+    Writes LeavesBeginning before after count_before count (NeedsNoMemory e input m)
+    (encoded_form e m.reading m.form input) outcome
+
+-- The encoded form of the input overwrote the front of the buffer, as far as there is room, and the number of its units
+-- was returned, or the greatest number of 64 bits if it has more. `Memory` is the only error, and never comes over short
+-- runs. After it a beginning of the form overwrote the front.
+pub record Overwrites (m : MadeForm) (e : Encoding) (input before after : List ℕ) (result : Result ℕ NormalizeError)
+    : Type 0 where
+  pub form : OnOk result (after ≡ overwritten before (encoded_form e m.reading m.form input))
+  pub count : IfOk result (λ n. n ≡ min (length (encoded_form e m.reading m.form input)) (2 ^ 64 - 1))
+  pub begun : OnErr result (HasBeginning (encoded_form e m.reading m.form input) before after)
+  pub room : HasShortRuns m.has_class_form m.reading (decoded_in e input) → IsOk result
+  pub refused : IsOkUnless result Memory
 
 -- it is reported whether the input is well-formed and normalized
 abbrev pub ReportsNormalized : Encoding → (input : List ℕ) → (before after : Bool) → MadeForm → Result ⊤ Fault
@@ -83,4 +99,4 @@ OverMapper h Unchanged Is outcome = OverHeld h Unchanged (λ n. AtMapper n.mappe
 abbrev pub WritesMapped : Encoding → IgnoredCharacters → (input before after : List ℕ) → (count_before count : ℕ)
     → MapperData → Result ⊤ Fault → Type 0
 WritesMapped e i input before after count_before count h outcome =
-    Writes before after count_before count ⊥ (encoded_in e (mapped_in h i (decoded_in e input))) outcome
+    Writes LeavesAll before after count_before count ⊥ (encoded_in e (mapped_in h i (decoded_in e input))) outcome

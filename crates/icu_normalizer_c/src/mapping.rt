@@ -4,6 +4,7 @@ ghost use Rattle.icu_normalizer.specs.Mappers.{mapper_data_of_borrowed};
 ghost use Rattle.normalizer_text.specs.Encodings.{Encoding, decoded_in, encoded_in};
 ghost use Rattle.normalizer_text.specs.Utf16.{encode_utf16_all};
 ghost use Rattle.normalizer_built.specs.Mapping.{mapped_in};
+ghost use Rattle.icu_normalizer_c.specs.Buffers.{LeavesAll};
 ghost use Rattle.icu_normalizer_c.specs.Calls.{AtMapper, OverMapper, WritesMapped};
 ghost use Rattle.normalizer_handles.specs.Handles.{held_normalizers};
 ghost use Rattle.normalizer_handles.specs.Status.{IsStatus};
@@ -27,6 +28,8 @@ struct Mapped<U> {
 impl<'a> Text for Mapped<&'a [u8]> {
     type Unit = u8;
 
+    ghost left = { LeavesAll };
+
     ghost at = { λ t Unchanged Is n. AtMapper n.mapper Unchanged (λ h.
         Is ⊥ (encoded_in Encoding.Utf8 (mapped_in h t.ignored (decoded_in Encoding.Utf8 t.input.now)))) };
 
@@ -47,6 +50,8 @@ impl<'a> Text for Mapped<&'a [u8]> {
 
 impl<'a> Text for Mapped<&'a [u16]> {
     type Unit = u16;
+
+    ghost left = { LeavesAll };
 
     ghost at = { λ t Unchanged Is n. AtMapper n.mapper Unchanged (λ h.
         Is ⊥ (encoded_in Encoding.Utf16 (mapped_in h t.ignored (decoded_in Encoding.Utf16 t.input.now)))) };

@@ -14,6 +14,9 @@ use std::alloc::Global;
 pub(crate) trait Text {
     type Unit: Copy;
 
+    /// What a fault leaves of a text in a buffer: of its units, what the buffer had, and what it has.
+    ghost left: { List Self.Unit → List Self.Unit → List Self.Unit → Result ⊤ Fault → Type 0 };
+
     /// A call that makes the text, if there is its form or a mapper; of when memory suffices and of the text's units
     /// this is said.
     ghost at: { Self → (Type 0) → (Type 0 → List Self.Unit → Result ⊤ Fault → Type 0) → Normalizers
@@ -27,7 +30,7 @@ pub(crate) trait Text {
         needed: &mut usize,
     ) -> Result<(), Fault>
         ensures { at self.now ((output.new ≡ output.old) × (needed.new ≡ needed.old))
-            (Writes output.old output.new needed.old needed.new) normalizers.now result };
+            (Writes left output.old output.new needed.old needed.new) normalizers.now result };
 }
 
 /// Writes a text that the normalizers of a handle make, and returns the status.
@@ -41,7 +44,7 @@ pub(crate) fn write<T: Text>(
     ensures status { IsStatus result (OverHeld (held_normalizers handle.old)
         ((output.new ≡ output.old) × (needed.new ≡ needed.old))
         (T.at text.now ((output.new ≡ output.old) × (needed.new ≡ needed.old))
-        (Writes output.old output.new needed.old needed.new))) }
+        (Writes T.left output.old output.new needed.old needed.new))) }
     ensures kept { held_normalizers handle.new ≡ held_normalizers handle.old }
 {
     status(write_over(alloc, handle, text, output, needed))
@@ -56,7 +59,7 @@ fn write_over<T: Text>(
 ) -> Result<(), Fault>
     ensures over { OverHeld (held_normalizers handle.old) ((output.new ≡ output.old) × (needed.new ≡ needed.old))
         (T.at text.now ((output.new ≡ output.old) × (needed.new ≡ needed.old))
-        (Writes output.old output.new needed.old needed.new)) result }
+        (Writes T.left output.old output.new needed.old needed.new)) result }
     ensures kept { held_normalizers handle.new ≡ held_normalizers handle.old }
 {
     let owner = handle.take(alloc)?;

@@ -1,20 +1,20 @@
 //! Writing forms to the buffers of callers.
 ghost use Rattle.std.specs.Prelude.{◌≡◌};
-ghost use Rattle.std.specs.Cow.{cow_slice_items, cow_str_bytes, IsBorrowedSlice, IsBorrowedStr};
-ghost use Rattle.normalizer_text.specs.Encodings.{Encoding};
+ghost use Rattle.normalizer_text.specs.Encodings.{Encoding, decoded_in};
 ghost use Rattle.normalizer_text.specs.EncodedForm.{encoded_form};
-ghost use Rattle.icu_normalizer.specs.Owned.{ReturnsForm};
-ghost use Rattle.icu_normalizer_c.specs.Calls.{AtForm, NeedsNoMemory, Over, WritesForm};
+ghost use Rattle.icu_normalizer.specs.Writing.{WritesForm as WritesFormTo};
+ghost use Rattle.icu_normalizer_c.specs.Buffers.{LeavesBeginning, ReportsCount};
+ghost use Rattle.icu_normalizer_c.specs.Calls.{AtForm, NeedsNoMemory, Over, Overwrites, WritesForm};
 ghost use Rattle.normalizer_handles.specs.Handles.{held_normalizers};
 ghost use Rattle.normalizer_handles.specs.Status.{IsStatus};
 ghost use Rattle.normalizer_handles.specs.Made.{made_by};
 
-use crate::buffer::fill;
 use crate::text::{Text, write};
 use icu_normalizer::NormalizeError;
+use normalizer_buffers::Buffer;
 use normalizer_handles::{Fault, Handle, Normalizer, Normalizers};
+use normalizer_text::sink::{Write, Write16};
 use std::alloc::Global;
-use std::borrow::{CowSlice, CowStr};
 
 /// The form of an input, by the number of the form.
 #[derive(Drop)]
@@ -25,6 +25,8 @@ struct Form<U> {
 
 impl<'a> Text for Form<&'a [u8]> {
     type Unit = u8;
+
+    ghost left = { LeavesBeginning };
 
     ghost at = { λ t Unchanged Is n.
         AtForm n t.form Unchanged (λ m.
@@ -44,6 +46,8 @@ impl<'a> Text for Form<&'a [u8]> {
 
 impl<'a> Text for Form<&'a [u16]> {
     type Unit = u16;
+
+    ghost left = { LeavesBeginning };
 
     ghost at = { λ t Unchanged Is n.
         AtForm n t.form Unchanged (λ m.
@@ -70,10 +74,9 @@ fn write_utf8(
     ensures { WritesForm Encoding.Utf8 input.now output.old output.new needed.old needed.new
         (made_by normalizer.now) result }
 {
-    match normalize_utf8(normalizer, input)? {
-        CowStr::Borrowed(form) => fill(form.as_bytes(), output, needed),
-        CowStr::Owned(form) => fill(form.as_bytes(), output, needed),
-    }
+    let room = output.len();
+    let count = overwrite_utf8(normalizer, input, output)?;
+    report_count(count, room, needed)
 }
 
 fn write_utf16(
@@ -85,41 +88,91 @@ fn write_utf16(
     ensures { WritesForm Encoding.Utf16 input.now output.old output.new needed.old needed.new
         (made_by normalizer.now) result }
 {
-    match normalize_utf16(normalizer, input)? {
-        CowSlice::Borrowed(form) => fill(form, output, needed),
-        CowSlice::Owned(form) => fill(form.as_slice(), output, needed),
+    let room = output.len();
+    let count = overwrite_utf16(normalizer, input, output)?;
+    report_count(count, room, needed)
+}
+
+/// Reports how many units a form has that was written to a buffer with room for so many. With `usize::MAX` units, or
+/// more, it doesn't fit into memory.
+fn report_count(count: usize, room: usize, needed: &mut usize) -> Result<(), Fault>
+    ensures { ReportsCount count room needed.old needed.new result }
+{
+    if count == usize::MAX {
+        return Err(Fault::Memory);
+    }
+    *needed = count;
+    if count > room {
+        return Err(Fault::BufferTooSmall);
+    }
+    Ok(())
+}
+
+/// Overwrites the front of a buffer with the form, as far as there is room, and returns how many units that has, or
+/// `usize::MAX` if it has more.
+fn overwrite_utf8(
+    normalizer: &Normalizer<'_>,
+    input: &[u8],
+    output: &mut [u8],
+) -> Result<usize, NormalizeError>
+    ensures { Overwrites (made_by normalizer.now) Encoding.Utf8 input.now output.old output.new result }
+{
+    let mut buffer = Buffer::new(output);
+    let outcome = normalize_utf8_to(normalizer, input, &mut buffer);
+    let count = buffer.count();
+    outcome?;
+    Ok(count)
+}
+
+/// Overwrites the front of a buffer with the form, as far as there is room, and returns how many units that has, or
+/// `usize::MAX` if it has more.
+fn overwrite_utf16(
+    normalizer: &Normalizer<'_>,
+    input: &[u16],
+    output: &mut [u16],
+) -> Result<usize, NormalizeError>
+    ensures { Overwrites (made_by normalizer.now) Encoding.Utf16 input.now output.old output.new result }
+{
+    let mut buffer = Buffer::new(output);
+    let outcome = normalize_utf16_to(normalizer, input, &mut buffer);
+    let count = buffer.count();
+    outcome?;
+    Ok(count)
+}
+
+fn normalize_utf8_to<W: Write>(
+    normalizer: &Normalizer<'_>,
+    input: &[u8],
+    sink: &mut W,
+) -> Result<(), NormalizeError>
+    ensures { WritesFormTo Encoding.Utf8 W.text_taken W.refusal W.refusal_effect (made_by normalizer.now)
+        (decoded_in Encoding.Utf8 input.now) sink.old result sink.new }
+{
+    match normalizer {
+        Normalizer::Decomposing(n) => n.normalize_utf8_to(input, sink),
+        Normalizer::Composing(n) => n.normalize_utf8_to(input, sink),
     }
 }
 
-fn normalize_utf8<'t>(
+fn normalize_utf16_to<W: Write16>(
     normalizer: &Normalizer<'_>,
-    input: &'t [u8],
-) -> Result<CowStr<'t, Global>, NormalizeError>
-    ensures { ReturnsForm cow_str_bytes IsBorrowedStr (made_by normalizer.now) Encoding.Utf8 input.now result }
+    input: &[u16],
+    sink: &mut W,
+) -> Result<(), NormalizeError>
+    ensures { WritesFormTo Encoding.Utf16 W.text_taken W.refusal W.refusal_effect (made_by normalizer.now)
+        (decoded_in Encoding.Utf16 input.now) sink.old result sink.new }
 {
     match normalizer {
-        Normalizer::Decomposing(n) => n.normalize_utf8(input),
-        Normalizer::Composing(n) => n.normalize_utf8(input),
-    }
-}
-
-fn normalize_utf16<'t>(
-    normalizer: &Normalizer<'_>,
-    input: &'t [u16],
-) -> Result<CowSlice<'t, u16, Global>, NormalizeError>
-    ensures { ReturnsForm cow_slice_items IsBorrowedSlice (made_by normalizer.now) Encoding.Utf16 input.now result }
-{
-    match normalizer {
-        Normalizer::Decomposing(n) => n.normalize_utf16(input),
-        Normalizer::Composing(n) => n.normalize_utf16(input),
+        Normalizer::Decomposing(n) => n.normalize_utf16_to(input, sink),
+        Normalizer::Composing(n) => n.normalize_utf16_to(input, sink),
     }
 }
 
 /// Writes the form of what `input` decodes to, in UTF-8. `needed` is then how many units the form has.
 ///
 /// # Errors
-/// `NotOpen`, `InUse`, `UnknownForm`, `Memory`, which never comes for normalized input of short runs, or
-/// `BufferTooSmall`, after which `needed` is how many units the form has. `output` is then unchanged.
+/// `NotOpen`, `InUse`, `UnknownForm`, `Memory`, which never comes over short runs, or `BufferTooSmall`, after which
+/// `needed` is how many units the form has. After the last two the front of `output` has a beginning of the form.
 #[unsafe(no_mangle)]
 pub extern "C" fn icu_normalizer_normalize_utf8_nonnull(
     alloc: Global,
@@ -140,8 +193,8 @@ pub extern "C" fn icu_normalizer_normalize_utf8_nonnull(
 /// Writes the form of what `input` decodes to, in UTF-16. `needed` is then how many units the form has.
 ///
 /// # Errors
-/// `NotOpen`, `InUse`, `UnknownForm`, `Memory`, which never comes for normalized input of short runs, or
-/// `BufferTooSmall`, after which `needed` is how many units the form has. `output` is then unchanged.
+/// `NotOpen`, `InUse`, `UnknownForm`, `Memory`, which never comes over short runs, or `BufferTooSmall`, after which
+/// `needed` is how many units the form has. After the last two the front of `output` has a beginning of the form.
 #[unsafe(no_mangle)]
 pub extern "C" fn icu_normalizer_normalize_utf16_nonnull(
     alloc: Global,

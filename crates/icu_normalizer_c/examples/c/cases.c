@@ -84,13 +84,13 @@ static icu_normalizer_status normalize(icu_normalizer *normalizer, icu_normalize
                      : icu_normalizer_normalize_utf16(normalizer, form, input, length, output, room, needed);
 }
 
-/* Buffers of all sizes: what is needed is written if there is room for it, and nothing else. */
+/* Buffers of all sizes: what is needed is written as far as there is room for it, and nothing else. */
 static void compare_rooms(icu_normalizer *normalizer, icu_normalizer_form form, size_t bits, enum side side,
     const void *input, size_t length, const void *wanted, size_t wanted_length) {
     size_t width = bits / 8;
     for (size_t room = 0; room <= wanted_length + 1; room++) {
         uint8_t *output = at(side, outputs, room * width);
-        size_t needed = 0, written = room < wanted_length ? 0 : wanted_length * width;
+        size_t needed = 0, written = (room < wanted_length ? room : wanted_length) * width;
         if (room) memset(output, UNWRITTEN, room * width);
         icu_normalizer_status status = normalize(normalizer, form, bits, input, length, output, room, &needed);
         EXPECT(status == (room < wanted_length ? ICU_NORMALIZER_BUFFER_TOO_SMALL : ICU_NORMALIZER_OK));

@@ -67,7 +67,7 @@ static void calls(icu_normalizer *normalizer) {
         if (is_done(icu_normalizer_normalize_utf8(normalizer, form, text, 161, output, 400, &number)))
             EXPECT(number == (composes ? 160 : 161));
         else
-            EXPECT(output[0] == 0xAA && output[399] == 0xAA);
+            EXPECT((output[0] == 0xAA || output[0] == 'a') && output[1] == 0xAA && output[399] == 0xAA);
         if (is_done(icu_normalizer_normalize_utf16(normalizer, form, units, 81, wide, 400, &number)))
             EXPECT(number == (composes ? 80 : 81));
         if (is_done(icu_normalizer_is_normalized_utf8(normalizer, form, text, 161, &is))) EXPECT(!is);

@@ -67,16 +67,16 @@ class Normalizer:
         self._handle, defect = _Handle(), _Defect()
         files = *_array(unicode_data), *_array(exclusions)
         if idna_table is None:
-            _check(self._calls.icu_normalizer_open_unicode_data_nonnull(ctypes.byref(self._handle), *files))
+            _check(self._calls.icu_normalizer_open_unicode_data(ctypes.byref(self._handle), *files))
             return
         files += _array(idna_table)
-        opened = self._calls.icu_normalizer_open_files_nonnull(
+        opened = self._calls.icu_normalizer_open_files(
             ctypes.byref(self._handle), *files, ctypes.c_uint32(disallowed_limit), ctypes.byref(defect)
         )
         _check(opened, defect)
 
     def close(self):
-        self._calls.icu_normalizer_close_nonnull(ctypes.byref(self._handle))
+        self._calls.icu_normalizer_close(ctypes.byref(self._handle))
 
     def __enter__(self):
         return self
@@ -132,7 +132,7 @@ class Normalizer:
         return self._call(name, ctypes.c_uint32(form), *_array(text), ctypes.byref(told))
 
     def _call(self, name, *words):
-        return getattr(self._calls, f"icu_normalizer_{name}_utf8_nonnull")(ctypes.byref(self._handle), *words)
+        return getattr(self._calls, f"icu_normalizer_{name}_utf8")(ctypes.byref(self._handle), *words)
 
 
 def _encoded(text):
