@@ -1,5 +1,6 @@
 pub mod Labels
 pub mod Last
+pub mod PreparedForms
 pub mod Reports
 pub mod IteratorRuns
 pub mod Shaping

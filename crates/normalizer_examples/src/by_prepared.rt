@@ -1,0 +1,91 @@
+//! Normalizing text with prepared data.
+ghost use Rattle.std.specs.Prelude.{◌≡◌, IfErr, IfOk, List, Ok};
+ghost use Rattle.icu_normalizer.specs.Building.{Builds};
+ghost use Rattle.icu_normalizer.specs.Packed.{Packed};
+ghost use Rattle.icu_normalizer.specs.RecordValue.{RecordValue, Uts46RecordValue};
+ghost use Rattle.icu_normalizer.specs.Utf8.{decoded_utf8};
+ghost use Rattle.normalizer_built.specs.RecordedForms.{form_of_data, recorded_form};
+ghost use Rattle.normalizer_prepared.specs.Prepared.{prepared_bytes, prepared_in, Fits};
+ghost use Rattle.normalizer_examples.specs.PreparedForms.{IsFaultOfPrepared, IsFormByPrepared};
+
+use crate::{nfc_of_bytes, nfd_of_bytes};
+use icu_normalizer::{ComposingNormalizer, DataError, DecomposingNormalizer, NormalizeError};
+use normalizer_built::NormalForm;
+use normalizer_prepared::{PreparedData, PreparedError};
+use std::alloc::Global;
+
+/// Why a file of prepared data yielded no normal form.
+#[derive(Clone, Copy, Debug, PartialEq, Eq)]
+pub enum PreparedFault {
+    /// The file has a fault, or memory was refused.
+    File(PreparedError),
+    /// Its data break a condition, or memory was refused.
+    Data(DataError),
+}
+
+/// Returns the normal form of the text that bytes decode to, by the bytes of a file of prepared data.
+///
+/// # Errors
+/// The first fault of the file, the condition that its data break, or `Memory`.
+pub fn form_by_prepared_data(
+    alloc: Global,
+    prepared: &[u8],
+    form: NormalForm,
+    bytes: &[u8],
+) -> Result<Vec<char>, PreparedFault>
+    // By the data whose file it is.
+    ensures form { IfOk result (λ v. IsFormByPrepared prepared.now form (decoded_utf8 bytes.now) v.items) }
+
+    // By the records that these data were built from.
+    ensures records { (records : List RecordValue) (uts46 : List Uts46RecordValue) (p : Packed) →
+        Builds records uts46 p → Fits p → prepared.now ≡ prepared_bytes p →
+        IfOk result (λ v. v.items ≡ recorded_form records form (decoded_utf8 bytes.now)) }
+    ensures fault { IfErr result (IsFaultOfPrepared prepared.now) }
+{
+    match PreparedData::read(alloc, prepared) {
+        Ok(read) => match form_by_read(alloc, &read, form, bytes) {
+            Ok(text) => Ok(text),
+            Err(error) => Err(PreparedFault::Data(error)),
+        },
+        Err(error) => Err(PreparedFault::File(error)),
+    }
+}
+
+/// The normal form over the data of a file.
+fn form_by_read(
+    alloc: Global,
+    read: &PreparedData,
+    form: NormalForm,
+    bytes: &[u8],
+) -> Result<Vec<char>, DataError>
+    ensures { IfOk result (λ v. v.items ≡ form_of_data (prepared_in read.now) form (decoded_utf8 bytes.now)) }
+{
+    match form {
+        NormalForm::Nfd => {
+            let normalizer = DecomposingNormalizer::try_new_nfd_unstable(read)?;
+            text_of(nfd_of_bytes(alloc, &normalizer.as_borrowed(), bytes))
+        }
+        NormalForm::Nfc => {
+            let normalizer = ComposingNormalizer::try_new_nfc_unstable(read)?;
+            text_of(nfc_of_bytes(alloc, &normalizer.as_borrowed(), bytes))
+        }
+        NormalForm::Nfkd => {
+            let normalizer = DecomposingNormalizer::try_new_nfkd_unstable(read)?;
+            text_of(nfd_of_bytes(alloc, &normalizer.as_borrowed(), bytes))
+        }
+        NormalForm::Nfkc => {
+            let normalizer = ComposingNormalizer::try_new_nfkc_unstable(read)?;
+            text_of(nfc_of_bytes(alloc, &normalizer.as_borrowed(), bytes))
+        }
+    }
+}
+
+/// A text, unless memory was refused.
+fn text_of(text: Result<Vec<char>, NormalizeError>) -> Result<Vec<char>, DataError>
+    ensures { IfOk result (λ v. text ≡ Ok v) }
+{
+    match text {
+        Ok(text) => Ok(text),
+        Err(_) => Err(DataError::Memory),
+    }
+}
