@@ -1,18 +1,16 @@
 -- Steps whose characters are in a set.
-use Rattle.std.proofs.Common.{◌≡◌, ◌≢◌, ℕ, zero, suc, ◌+◌, ◌-◌, ◌<◌, ◌≤◌, ◌&&◌, Bool, true, false, inl, inr, List, [], ◌∷◌, ◌++◌, length, take, drop, map, get_or, length-drop, length-take-le, arith, refl, ap, sym, ◌∙◌, subst, cond}
+use Rattle.std.proofs.Common.{◌≡◌, ◌≢◌, ℕ, ◌+◌, ◌-◌, ◌<◌, ◌≤◌, Bool, true, false, inl, inr, List, [], ◌∷◌, ◌++◌, length, take, drop, map, get_or, length-drop, length-take-le, arith, refl, ap, sym, ◌∙◌, subst}
 use Rattle.std.specs.Prelude.{All, if◌then◌else◌}
-use Rattle.std.specs.List.{slice_range}
-use Rattle.std.proofs.Math.ListN.{get_or-eq_default}
 use Rattle.std.proofs.lemmas.Bool.{cases_Bool, cases_lt, cond-true, cond-false, true≢false}
 use Rattle.std.proofs.lemmas.List.{drop-drop, drop_all}
 use Rattle.std.proofs.lemmas.List.Elements.{All-nil, All-cons, All-head, All-tail}
 use Rattle.normalizer_sets.specs.CharacterSets.{has}
 use Rattle.normalizer_sets.proofs.SetLemmas.{has_past, has-surrogate, has-replacement}
 use Rattle.normalizer_text.specs.declared.decoding_step.Step.{Step}
-use Rattle.normalizer_text.specs.DecodingSteps.{read, replacement_step, steps, width_of, IsBoundary}
+use Rattle.normalizer_text.specs.DecodingSteps.{replacement_step, steps, width_of, IsBoundary}
 use Rattle.normalizer_text.specs.Encodings.{Encoding, first_in}
 use Rattle.normalizer_text.specs.Scans.{leading_below, width_in, width_within, EndsLowCharacters}
-use Rattle.normalizer_text.specs.Utf16.{first_of_utf16, is_single, is_high, is_low, pair_value, unpaired_step}
+use Rattle.normalizer_text.specs.Utf16.{first_of_utf16, is_single, pair_value, unpaired_step}
 use Rattle.normalizer_text.specs.Utf8.{first_of_utf8}
 use Rattle.normalizer_text.proofs.scans.LowLemmas.{first-ascii_byte}
 use Rattle.normalizer_text.proofs.rules.Utf16Lemmas.{cases, high-is_single, low-is_single, pair-bounds, unpaired-cases}

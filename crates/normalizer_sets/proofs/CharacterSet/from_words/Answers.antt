@@ -1,4 +1,4 @@
-use Rattle.std.proofs.Common.{arith, sym, ◌∙◌}
+use Rattle.std.proofs.Common.{arith, ◌∙◌}
 use Rattle.normalizer_sets.proofs.SetLemmas.{has_bit-left, has-bit, IsSet-left}
 use Rattle.normalizer_sets.proofs.CharacterSet.from_words.Goals as goal
 

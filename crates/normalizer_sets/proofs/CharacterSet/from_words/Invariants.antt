@@ -1,6 +1,4 @@
-use Rattle.std.proofs.Common.{◌≡◌, ◌+◌, ◌*◌, ◌<◌, ◌≤◌, ◌==◌, ℕ, get_or, length}
-use Rattle.std.specs.Int.{bit_at}
-use Rattle.normalizer_sets.specs.CharacterSets.{has, has_bit}
+use Rattle.std.proofs.Common.{◌≡◌, ◌<◌, ◌≤◌, ℕ, get_or, length}
 use Rattle.normalizer_sets.specs.inner.Bits.{CharactersOnly}
 use Rattle.normalizer_sets.proofs.CharacterSet.from_words.Given as goal
 

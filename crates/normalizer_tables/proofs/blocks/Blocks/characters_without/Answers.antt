@@ -1,4 +1,4 @@
-use Rattle.std.proofs.Common.{◌≡◌, ◌<◌, ◌∙◌, [], length, arith, ap, get_or, subst}
+use Rattle.std.proofs.Common.{◌≡◌, ◌<◌, ◌∙◌, length, arith, ap, get_or, subst}
 use Rattle.std.proofs.lemmas.List.{get_or_read}
 use Rattle.normalizer_tables.proofs.code_points.BlockSets.{AreAtPlaces, AreAtPlaces-more, AreOfBlocks, IsSetWithout-blocks}
 use Rattle.normalizer_tables.proofs.code_points.BlockLemmas.{length-numbers, stored_number-within}

@@ -1,4 +1,3 @@
-use Rattle.std.proofs.Common.{length}
 use Rattle.normalizer_tables.proofs.code_points.BlockSets.{AreOfBlocks, AreAtPlaces}
 use Rattle.normalizer_tables.proofs.blocks.Blocks.characters_without.Given as goal
 

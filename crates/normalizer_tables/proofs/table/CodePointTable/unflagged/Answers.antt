@@ -1,6 +1,5 @@
 use Rattle.std.proofs.Common.{◌&&◌, ap, ◌∙◌}
 use Rattle.normalizer_sets.specs.CharacterSets.{may_have}
-use Rattle.normalizer_tables.specs.Table.{word_at}
 use Rattle.normalizer_tables.proofs.code_points.BlockSets.{has_no_flag-bits}
 use Rattle.normalizer_tables.proofs.table.CodePointTable.unflagged.Goals as goal
 

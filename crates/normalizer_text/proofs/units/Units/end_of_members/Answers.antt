@@ -1,4 +1,4 @@
-use Rattle.std.proofs.Common.{◌+◌, arith, sym, ◌∙◌}
+use Rattle.std.proofs.Common.{arith, sym, ◌∙◌}
 use Rattle.normalizer_sets.specs.CharacterSets.{has}
 use Rattle.normalizer_text.proofs.scans.MemberLemmas.{member-more, member-next, member-none, members-below, members-end}
 use Rattle.normalizer_text.proofs.steps.StepBoundaries.{boundary-le}
