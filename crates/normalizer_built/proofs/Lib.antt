@@ -1,2 +1,5 @@
 pub mod MemoryAlone
 pub mod FormsOfData
+mod LineFeedBytes
+mod LineFeedLemmas
+mod PartLemmas
