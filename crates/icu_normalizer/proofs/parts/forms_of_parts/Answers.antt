@@ -1,8 +1,8 @@
 use Rattle.std.proofs.Common.{arith}
 use Rattle.normalizer_text.specs.Encodings.{Encoding}
 use Rattle.icu_normalizer.specs.RecordedForms.{recorded_form}
-use Rattle.icu_normalizer.proofs.parts.LineFeedBytes.{encoded-after}
-use Rattle.icu_normalizer.proofs.parts.LineFeedLemmas.{recorded_form-after}
+use Rattle.icu_normalizer.proofs.divided_texts.LineFeedBytes.{encoded-after}
+use Rattle.icu_normalizer.proofs.divided_texts.LineFeedLemmas.{recorded_form-after}
 use Rattle.icu_normalizer.proofs.parts.forms_of_parts.Goals as goal
 
 pub returns-clause-text : goal.returns-clause-text

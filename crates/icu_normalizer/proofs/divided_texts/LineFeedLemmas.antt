@@ -22,7 +22,7 @@ use Rattle.icu_normalizer.specs.Parts.{is_without_line_feed, has_no_line_feed}
 use Rattle.icu_normalizer.specs.RecordedForms.{recorded_form}
 use Rattle.icu_normalizer.specs.declared.any_normalizer.NormalForm.{NormalForm}
 use Rattle.icu_normalizer.specs.declared.any_normalizer.NormalForm.TheVariants.{Nfd, Nfc, Nfkd, Nfkc}
-use Rattle.icu_normalizer.proofs.parts.PartLemmas.{form-after}
+use Rattle.icu_normalizer.proofs.divided_texts.PartLemmas.{form-after}
 
 both : (a b : Bool) → (a && b) ≡ true → (a ≡ true) × (b ≡ true)
 both true b h = (refl, h)
