@@ -6,7 +6,7 @@
    program child COMMAND..                         a program from its start to its end; by the same input and output
 
    DATA is the folder of UnicodeData.txt and CompositionExclusions.txt. `calls` writes a line for each cell: form, call,
-   library, nanoseconds, and the length and the checksum of what was written, with a tab between each two. */
+   library, nanoseconds of a call, and the length and the checksum of what was written, with a tab between each two. */
 #define _POSIX_C_SOURCE 200809L
 #define _DEFAULT_SOURCE
 
@@ -25,7 +25,7 @@
 /* How long the calls of a sample are to take, in nanoseconds. A call that takes more than SLOW is made once only. */
 #define SAMPLE 20000000u
 #define SLOW 250000000u
-#define MOST_TIMES 1000u
+#define MOST_TIMES 4000000u
 
 static const char *const FORM_NAMES[] = {"NFD", "NFC", "NFKD", "NFKC"};
 static const char *const CALL_NAMES[] = {
@@ -252,8 +252,8 @@ static void say_written(const struct cell *cell) {
     struct output output = {room_of(room), room, 0};
     cell->library->repeat(cell->form, cell->call, cell->text, 1, &output);
     size_t size = is_check(cell->call) ? 0 : cell->call == NORMALIZE_UTF16_TO ? 2 * output.length : output.length;
-    printf("%s\t%s\t%s\t%llu\t%zu\t%u\n", FORM_NAMES[cell->form], CALL_NAMES[cell->call], cell->library->name,
-           (unsigned long long)(passed(cell) / cell->times), output.length, digest_of(output.at, size));
+    printf("%s\t%s\t%s\t%.2f\t%zu\t%u\n", FORM_NAMES[cell->form], CALL_NAMES[cell->call], cell->library->name,
+           (double)passed(cell) / (double)cell->times, output.length, digest_of(output.at, size));
     free(output.at);
 }
 

@@ -3,6 +3,7 @@ pub mod PackedForms
 pub mod property_data
 pub mod acceptance
 pub mod passthrough
+pub mod divided_texts
 pub mod segments
 pub mod written_forms
 pub mod results

@@ -14,6 +14,7 @@ pub mod Mapping
 pub mod Normalizers
 pub mod Owned
 pub mod PairData
+pub mod Parts
 pub mod Properties
 pub mod RecordedForms
 pub mod Serving

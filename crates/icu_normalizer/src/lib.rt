@@ -51,6 +51,7 @@ pub mod laws;
 mod mapping;
 mod offence;
 mod owned;
+mod parts;
 pub mod properties;
 pub mod provider;
 mod runs;
@@ -81,3 +82,4 @@ pub use normalizer_tables::{
     NormalizerNfkdTablesV1, NormalizerUts46DataV1, Scalars16, Scalars24, TableError,
 };
 pub use normalizer_text::{Chars, Offence, Step, Units, Utf8Chars, Utf16Chars, sink};
+pub use parts::{forms_of_parts, has_no_line_feed};

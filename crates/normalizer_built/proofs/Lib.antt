@@ -1,5 +1,2 @@
 pub mod MemoryAlone
 pub mod FormsOfData
-mod LineFeedBytes
-mod LineFeedLemmas
-mod PartLemmas

@@ -20,12 +20,10 @@ use icu_normalizer::{
 
 mod mapping;
 mod normalizer;
-mod parts;
 mod provider;
 
 pub use mapping::{is_valid, mapped};
 pub use normalizer::Normalizer;
-pub use parts::{forms_of_parts, has_no_line_feed};
 pub use provider::{FormData, MappingData};
 
 /// The four normal forms (UAX #15, section 1.2).

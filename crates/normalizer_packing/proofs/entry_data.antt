@@ -1,4 +1,3 @@
 -- Entries, and the data that they are packed into.
 pub mod EntryLemmas
-pub mod PackableLemmas
 pub mod PackingLemmas

@@ -1,6 +1,5 @@
 -- What the contracts of private functions alone cite.
 pub mod Kinds
-pub mod Packable
 pub mod PackedWords
 pub mod Stores
 pub mod Breakpoints

@@ -1,4 +1,4 @@
-//! Entries that rise by character, looked up by their places, or by halving.
+//! Entries that rise by character, looked up by their places.
 #![tactic(auto, unfolding(normalizer_tables::specs::Entries::class_in, normalizer_tables::specs::Entries::list_in))]
 
 ghost use Rattle.std.specs.Prelude.{◌≡◌, [], ◌∷◌, IfOk, map, option_copied};
@@ -16,12 +16,12 @@ use std::marker::Model;
 pub struct Entries<'a> {
     entries: &'a [Entry],
     /// The place of each entry by its character.
-    places: Option<CodePointTable>,
+    places: CodePointTable,
 }
 
 impl<'a> Model for Entries<'a> {
-    ghost use Rattle.std.specs.Prelude.{List, IfSome, map};
-    ghost use Rattle.normalizer_tables.specs.Entries.{EntryValue, AreRising};
+    ghost use Rattle.std.specs.Prelude.{List, map};
+    ghost use Rattle.normalizer_tables.specs.Entries.{EntryValue};
     ghost use Rattle.normalizer_tables.specs.Places.{ArePlaces};
 
     ghost Value = { List EntryValue };
@@ -29,33 +29,21 @@ impl<'a> Model for Entries<'a> {
     ghost view = { λ e. e.entries.now };
 
     ghost invariant = { λ e.
-        AreRising e.entries.now × IfSome e.places (ArePlaces (map (λ f. f.character) e.entries.now)) };
+        ArePlaces (map (λ f. f.character) e.entries.now) e.places };
 }
 
 impl<'a> Entries<'a> {
-    /// Entries that are looked up by halving.
     /// Takes entries that rise by character.
-    pub fn new(entries: &'a [Entry]) -> Self
-        requires { AreRising entries.now }
-        ensures { result ≡ entries.now }
-    {
-        Entries {
-            entries,
-            places: None,
-        }
-    }
-
-    /// Entries that are looked up by their places.
-    pub fn with_places(alloc: Global, entries: &'a [Entry]) -> Result<Self, AllocError>
+    ///
+    /// # Errors
+    /// [`AllocError`] if an allocation was refused.
+    pub fn new(alloc: Global, entries: &'a [Entry]) -> Result<Self, AllocError>
         requires { AreRising entries.now }
         ensures { IfOk result (λ e. e ≡ entries.now) }
     {
         let characters = entry_characters(alloc, entries, 0)?;
         let places = places_of(alloc, &characters)?;
-        Ok(Entries {
-            entries,
-            places: Some(places),
-        })
+        Ok(Entries { entries, places })
     }
 
     /// Returns the entries as a slice.
@@ -69,10 +57,7 @@ impl<'a> Entries<'a> {
     pub fn entry_of(&self, character: char) -> Option<&'a Entry>
         ensures { option_copied result ≡ entry_of self.now character }
     {
-        match &self.places {
-            Some(places) => entry_by_place(self.entries, places, character),
-            None => entry_by_halving(self.entries, character),
-        }
+        entry_by_place(self.entries, &self.places, character)
     }
 
     /// The canonical combining class of a character: 0 without an entry.
@@ -126,16 +111,5 @@ fn entry_by_place<'a>(
     match place_in(places, character) {
         Some(place) => Some(&entries[place]),
         None => None,
-    }
-}
-
-fn entry_by_halving(entries: &[Entry], character: char) -> Option<&Entry>
-    requires { AreRising entries.now }
-    ensures { option_copied result ≡ entry_of entries.now character }
-{
-    let at = entries.partition_point(|entry| entry.character < character);
-    match entries.get(at) {
-        Some(entry) if entry.character == character => Some(entry),
-        _ => None,
     }
 }

@@ -6,7 +6,6 @@ mod cap;
 mod entries;
 mod flags;
 pub mod laws;
-mod packable;
 mod packed_words;
 mod packing;
 mod pointing;
@@ -20,7 +19,6 @@ use normalizer_tables::{
     CanonicalCompositions, DecompositionData, DecompositionTables,
     NonRecursiveDecompositionSupplement,
 };
-pub use packable::are_packable;
 pub use packing::pack;
 pub use stores::PackError;
 

@@ -37,7 +37,7 @@ pub fn pack(
     ensures packed { IfOk result (Packs entries.now pairs.items) }
     ensures full { IsErrOf result PackError.TableFull → item_limit < needed_items entries.now }
 {
-    match Entries::with_places(alloc, entries) {
+    match Entries::new(alloc, entries) {
         Ok(entries) => pack_entries(alloc, entries, pairs),
         Err(_) => Err(PackError::Memory),
     }

@@ -1,10 +1,10 @@
 -- Records that leave line feeds alone, and the forms of bytes by records.
 use Rattle.std.specs.Prelude.{ℕ, Bool, not, ◌&&◌, ◌==◌, List, encode_utf8_all}
 use Rattle.std.specs.List.{list_all, list_any}
-use Rattle.icu_normalizer.specs.RecordValue.{RecordValue}
-use Rattle.icu_normalizer.specs.Utf8.{decoded_utf8}
-use Rattle.normalizer_built.specs.RecordedForms.{recorded_form}
-use Rattle.normalizer_built.specs.declared.NormalForm.{NormalForm}
+use Rattle.normalizer_records.specs.RecordValue.{RecordValue}
+use Rattle.normalizer_text.specs.Utf8.{decoded_utf8}
+use Rattle.icu_normalizer.specs.RecordedForms.{recorded_form}
+use Rattle.icu_normalizer.specs.declared.any_normalizer.NormalForm.{NormalForm}
 
 -- a record that isn't of U+000A and doesn't have it in its mapping
 abbrev pub is_without_line_feed : RecordValue → Bool

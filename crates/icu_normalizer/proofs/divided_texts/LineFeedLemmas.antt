@@ -17,12 +17,12 @@ use Rattle.normalizer_records.specs.Meaning.{entry_of, class_of, replacement, re
 use Rattle.normalizer_records.specs.RecordValue.{RecordValue}
 use Rattle.normalizer_records.specs.declared.records.Mappings.{Mappings}
 use Rattle.normalizer_records.specs.declared.records.Mappings.TheVariants.{Canonical, All}
-use Rattle.icu_normalizer.specs.RecordedReading.{recorded_reading}
-use Rattle.normalizer_built.specs.Parts.{is_without_line_feed, has_no_line_feed}
-use Rattle.normalizer_built.specs.RecordedForms.{recorded_form}
-use Rattle.normalizer_built.specs.declared.NormalForm.{NormalForm}
-use Rattle.normalizer_built.specs.declared.NormalForm.TheVariants.{Nfd, Nfc, Nfkd, Nfkc}
-use Rattle.normalizer_built.proofs.PartLemmas.{form-after}
+use Rattle.normalizer_builder.specs.RecordedReading.{recorded_reading}
+use Rattle.icu_normalizer.specs.Parts.{is_without_line_feed, has_no_line_feed}
+use Rattle.icu_normalizer.specs.RecordedForms.{recorded_form}
+use Rattle.icu_normalizer.specs.declared.any_normalizer.NormalForm.{NormalForm}
+use Rattle.icu_normalizer.specs.declared.any_normalizer.NormalForm.TheVariants.{Nfd, Nfc, Nfkd, Nfkc}
+use Rattle.icu_normalizer.proofs.divided_texts.PartLemmas.{form-after}
 
 both : (a b : Bool) → (a && b) ≡ true → (a ≡ true) × (b ≡ true)
 both true b h = (refl, h)

@@ -1,7 +1,7 @@
 use Rattle.std.proofs.Common.{◌≡◌, ◌<◌, AllPairs, map, subst, sym, ◌∙◌}
 use Rattle.normalizer_tables.proofs.lists.PlaceTables.{rising_keys}
 use Rattle.normalizer_tables.specs.Entries.{EntryValue}
-use Rattle.normalizer_packing.proofs.entries.Entries.with_places.Goals as goal
+use Rattle.normalizer_packing.proofs.entries.Entries.new.Goals as goal
 
 pub places_of-requires : goal.places_of-requires
 places_of-requires c =

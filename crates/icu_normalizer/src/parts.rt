@@ -1,14 +1,14 @@
 //! The forms of parts of a text.
 ghost use Rattle.std.specs.Prelude.{◌≡◌, ◌++◌, ◌∷◌, ℕ, List, [], true};
-ghost use Rattle.icu_normalizer.specs.Building.{Builds};
-ghost use Rattle.icu_normalizer.specs.Packed.{Packed};
-ghost use Rattle.icu_normalizer.specs.RecordValue.{RecordValue, Uts46RecordValue};
-ghost use Rattle.normalizer_built.specs.Parts.{encoded_recorded_form, has_no_line_feed};
-ghost use Rattle.normalizer_built.specs.RecordedForms.{recorded_form};
-ghost use Rattle.normalizer_built.specs.declared.NormalForm.{NormalForm};
+ghost use Rattle.normalizer_builder.specs.Building.{Builds};
+ghost use Rattle.normalizer_packing.specs.declared.Packed.{Packed};
+ghost use Rattle.normalizer_records.specs.RecordValue.{RecordValue, Uts46RecordValue};
+ghost use Rattle.icu_normalizer.specs.Parts.{encoded_recorded_form, has_no_line_feed};
+ghost use Rattle.icu_normalizer.specs.RecordedForms.{recorded_form};
+ghost use Rattle.icu_normalizer.specs.declared.any_normalizer.NormalForm.{NormalForm};
 
-use icu_normalizer::Record;
-use icu_normalizer::record_laws::what_is_built_suits_the_laws;
+use normalizer_builder::laws::what_is_built_suits_the_laws;
+use normalizer_records::Record;
 use normalizer_text::laws::{
     low_units_begin_low_characters, step_begins_at_unit_that_cannot_trail,
 };

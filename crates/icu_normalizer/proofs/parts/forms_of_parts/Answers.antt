@@ -1,9 +1,9 @@
 use Rattle.std.proofs.Common.{arith}
 use Rattle.normalizer_text.specs.Encodings.{Encoding}
-use Rattle.normalizer_built.specs.RecordedForms.{recorded_form}
-use Rattle.normalizer_built.proofs.LineFeedBytes.{encoded-after}
-use Rattle.normalizer_built.proofs.LineFeedLemmas.{recorded_form-after}
-use Rattle.normalizer_built.proofs.parts.forms_of_parts.Goals as goal
+use Rattle.icu_normalizer.specs.RecordedForms.{recorded_form}
+use Rattle.icu_normalizer.proofs.divided_texts.LineFeedBytes.{encoded-after}
+use Rattle.icu_normalizer.proofs.divided_texts.LineFeedLemmas.{recorded_form-after}
+use Rattle.icu_normalizer.proofs.parts.forms_of_parts.Goals as goal
 
 pub returns-clause-text : goal.returns-clause-text
 returns-clause-text c = λ records uts46 p builds none form. (
