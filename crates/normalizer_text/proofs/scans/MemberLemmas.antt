@@ -1,21 +1,25 @@
 -- Steps whose characters are in a set.
-use Rattle.std.proofs.Common.{◌≡◌, ◌≢◌, ℕ, ◌+◌, ◌-◌, ◌<◌, ◌≤◌, Bool, true, false, inl, inr, List, [], ◌∷◌, ◌++◌, length, take, drop, map, get_or, length-drop, length-take-le, arith, refl, ap, sym, ◌∙◌, subst}
+use Rattle.std.proofs.Common.{◌≡◌, ◌≢◌, ℕ, suc, ◌+◌, ◌-◌, ◌<◌, ◌≤◌, Bool, true, false, inl, inr, List, [], ◌∷◌, ◌++◌, length, take, drop, map, get_or, length-drop, length-take-le, arith, refl, ap, sym, ◌∙◌, subst}
 use Rattle.std.specs.Prelude.{All, if◌then◌else◌}
 use Rattle.std.proofs.lemmas.Bool.{cases_Bool, cases_lt, cond-true, cond-false, true≢false}
 use Rattle.std.proofs.lemmas.List.{drop-drop, drop_all}
 use Rattle.std.proofs.lemmas.List.Elements.{All-nil, All-cons, All-head, All-tail}
+use Rattle.std.proofs.lemmas.List.Sums.{prefix_len-le-length}
+use Rattle.std.specs.List.{prefix_len}
 use Rattle.normalizer_sets.specs.CharacterSets.{has}
-use Rattle.normalizer_sets.proofs.SetLemmas.{has_past, has-surrogate, has-replacement}
+use Rattle.normalizer_sets.proofs.SetLemmas.{has_past, has-surrogate, has-replacement, has-IsCandidate}
 use Rattle.normalizer_text.specs.declared.decoding_step.Step.{Step}
-use Rattle.normalizer_text.specs.DecodingSteps.{replacement_step, steps, width_of, IsBoundary}
+use Rattle.normalizer_text.specs.DecodingSteps.{read, replacement_step, steps, width_of, IsBoundary}
 use Rattle.normalizer_text.specs.Encodings.{Encoding, first_in}
 use Rattle.normalizer_text.specs.Scans.{leading_below, width_in, width_within, EndsLowCharacters}
 use Rattle.normalizer_text.specs.Utf16.{first_of_utf16, is_single, pair_value, unpaired_step}
 use Rattle.normalizer_text.specs.Utf8.{first_of_utf8}
 use Rattle.normalizer_text.proofs.scans.LowLemmas.{first-ascii_byte}
-use Rattle.normalizer_text.proofs.rules.Utf16Lemmas.{cases, high-is_single, low-is_single, pair-bounds, unpaired-cases}
+use Rattle.normalizer_text.proofs.scans.PrefixLemmas.{All-prefix, prefix-stricter}
+use Rattle.normalizer_text.proofs.scans.ScanLemmas.{boundary-single}
+use Rattle.normalizer_text.proofs.rules.Utf16Lemmas.{cases, first-single, high-is_single, low-is_single, pair-bounds, unpaired-cases}
 use Rattle.normalizer_text.proofs.steps.StepLemmas.{steps-nil, steps-some}
-use Rattle.normalizer_text.proofs.steps.StepBoundaries.{boundary-between, boundary-le, boundary-more, step-some, steps-take-drop, width_of-steps}
+use Rattle.normalizer_text.proofs.steps.StepBoundaries.{boundary-after, boundary-between, boundary-le, boundary-more, step-some, steps-take-drop, width_of-steps}
 
 -- ---- a front of members
 
@@ -167,3 +171,54 @@ module _ (set : List ℕ) where
       (λ pair. let bounds = pair-bounds u v pair in
       rw (has_past set (pair_value u v) (omega arith), has-surrogate set u (omega (arith, bounds.0)) (omega (arith, bounds.0))) refl)
       (λ single. alone u)
+
+  -- ---- units that are members by themselves
+
+  single-member : (u : ℕ) (us : List ℕ) → has set u ≡ true → first_of_utf16 (u ∷ us) ≡ read u 1
+  single-member u us is =
+      let may = has-IsCandidate set u is in
+      elim may.apart [
+        | inl below ↦ first-single u us (low-is_single u below)
+        | inr above ↦ first-single u us (high-is_single u (omega arith) (let l = may.low in omega arith))
+      ]
+
+  -- a step ends with them
+  pub boundary-alone : (units : List ℕ) (n : ℕ) → IsBoundary first_of_utf16 units n → IsBoundary first_of_utf16 units (n + prefix_len (has set) (drop n units))
+  boundary-alone units n here =
+      let rest = drop n units in
+      boundary-after Encoding.Utf16 units n (prefix_len (has set) rest) here
+      (boundary-single Encoding.Utf16 (λ u. has set u ≡ true) single-member rest (prefix_len (has set) rest) (prefix_len-le-length (has set) rest) (All-prefix (has set) rest))
+
+  -- and all their characters are members
+  pub members-alone : (units : List ℕ) → prefix_len (has set) units + width_within (has set) (steps first_of_utf16 (drop (prefix_len (has set) units) units))
+      ≡ width_within (has set) (steps first_of_utf16 units)
+  members-alone [] = omega arith
+  members-alone (u ∷ us) =
+      let n = prefix_len (has set) us in
+      elim (cases_Bool (has set u)) [
+        | inl is ↦
+            let one : prefix_len (has set) (u ∷ us) ≡ suc n = cond-true (has set u) (1 + n) 0 is ∙ (omega arith) in
+            let step = steps-some Encoding.Utf16 (u ∷ us) (omega arith) ∙ ap (λ s. s ∷ steps first_of_utf16 (drop s.width (u ∷ us))) (single-member u us is) in
+            let whole = ap (width_within (has set)) step ∙ cond-true (has set u) (1 + width_within (has set) (steps first_of_utf16 us)) 0 is in
+            ap (λ k. k + width_within (has set) (steps first_of_utf16 (drop k (u ∷ us)))) one ∙ omega (arith, whole, members-alone us)
+        | inr is_not ↦ ap (λ k. k + width_within (has set) (steps first_of_utf16 (drop k (u ∷ us)))) (cond-false (has set u) (1 + n) 0 is_not) ∙ (omega arith)
+      ]
+
+  -- no more follow if the next unit is none
+  members-other : (units : List ℕ) → prefix_len (has set) units ≡ 0 → width_within (has set) (steps first_of_utf16 units) ≡ 0
+  members-other [] none = ap (width_within (has set)) (steps-nil Encoding.Utf16)
+  members-other (u ∷ us) none =
+      let is_not : has set u ≡ false = elim (cases_Bool (has set u)) [
+        | inl is ↦ absurd (omega (arith, cond-true (has set u) (1 + prefix_len (has set) us) 0 is))
+        | inr is_not ↦ is_not
+      ] in
+      let some : 0 < length (u ∷ us) = omega arith in
+      let width : width_in (has set) (first_of_utf16 (u ∷ us)) ≡ 0 = member-unit (u ∷ us) some ∙ rw is_not refl in
+      omega (arith, member-none (has set) Encoding.Utf16 (u ∷ us) 0 0 some (sym width) refl)
+
+  -- so they are all members in front
+  pub members-of_units : (units : List ℕ) → prefix_len (has set) units ≡ width_within (has set) (steps first_of_utf16 units)
+  members-of_units units =
+      let n = prefix_len (has set) units in
+      let none : prefix_len (has set) (drop n units) ≡ 0 = omega (arith, prefix-stricter (has set) (has set) (λ u is. is) units) in
+      omega (arith, members-alone units, members-other (drop n units) none)
