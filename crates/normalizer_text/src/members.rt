@@ -6,8 +6,9 @@ ghost use Rattle.normalizer_text.specs.DecodingSteps.{steps, IsBoundary};
 ghost use Rattle.normalizer_text.specs.Encodings.{Encoding, first_in};
 ghost use Rattle.normalizer_text.specs.Scans.{leading_below, low_byte, width_in, width_within, EndsLowCharacters};
 ghost use Rattle.normalizer_text.specs.Utf16.{first_of_utf16};
+ghost use Rattle.normalizer_text.specs.inner.PairMembers.{width_of_pairs_in};
 
-use crate::{scan, utf8};
+use crate::{scan, utf8, utf16};
 use normalizer_sets::CharacterSet;
 
 /// Bytes below this are characters by themselves.
@@ -167,7 +168,28 @@ pub(crate) fn end_of_unit_members(units: &[u16], position: usize, set: &Characte
     ensures { result ≡ position
         + width_within (has set.now) (steps first_of_utf16 (drop position units.now)) }
 {
-    end_of_single_members(units, position, set)
+    let mut end = position;
+    while end < units.len() {
+        let pairs = end_of_single_members(units, end, set);
+        end = end_of_pair_members(units, pairs, set);
+        if end == pairs {
+            return end;
+        }
+    }
+    end
+}
+
+/// Returns the end of the surrogate pairs from a position on whose characters are members.
+#[inline(always)]
+fn end_of_pair_members(units: &[u16], position: usize, set: &CharacterSet) -> usize
+    requires { position ≤ length units.now }
+    ensures { result ≡ position + width_of_pairs_in (has set.now) (drop position units.now) }
+{
+    let mut end = position;
+    while units.len() - end >= 2 && utf16::has_pair(units[end], units[end + 1], set) {
+        end += 2;
+    }
+    end
 }
 
 /// Returns the end of the units from a position on that are members by themselves.
