@@ -1,15 +1,18 @@
 -- The bits of sets of characters.
-use Rattle.std.proofs.Common.{◌≡◌, ◌≢◌, ℕ, ◌+◌, ◌*◌, ◌/◌, ◌%◌, ◌<◌, ◌≤◌, ◌⊎◌, ◌&&◌, ◌==◌, true, false, inl, inr, length, List, get_or, arith, refl, ap, sym, ◌∙◌}
+use Rattle.std.proofs.Common.{◌≡◌, ◌≢◌, ℕ, ◌+◌, zero, suc, ◌*◌, ◌/◌, ◌%◌, ◌^◌, ◌<◌, ◌≤◌, ◌⊎◌, ◌&&◌, ◌==◌, Bool, ◌-◌, true, false, inl, inr, length, List, [], ◌∷◌, ◌++◌, take, drop, get_or, bit_and, arith, refl, ap, sym, ◌∙◌, zero-add}
 use Rattle.std.specs.Int.{bit_at}
 use Rattle.std.proofs.Math.ListN.{get_or-eq_default}
-use Rattle.std.proofs.lemmas.Nat.Bits.{bit_at-zero}
-use Rattle.std.proofs.lemmas.Bool.{cases_Bool, cases_lt, and_left, and_right, true≢false}
+use Rattle.std.proofs.lemmas.Nat.Bits.{bit_at-zero, bit_at-lt, bit_at_and, bit_at_lowest}
+use Rattle.std.specs.Prelude.{min}
+use Rattle.std.proofs.lemmas.List.{get_or-take, get_or-drop, ext_get_or, get_or_push, get_or_append_left, length_push}
+use Rattle.std.proofs.lemmas.List.FromFn.{get_or-map-range_with_len, length-map-range_with_len}
+use Rattle.std.proofs.lemmas.Bool.{cond-false, le-ltb, cases_Bool, cases_lt, and_left, and_right, true≢false}
 use Rattle.std.proofs.lemmas.Bool.Decides.{nat_tests}
 use Rattle.normalizer_sets.specs.CharacterSets.{has, has_bit, may_have}
-use Rattle.normalizer_sets.specs.inner.Bits.{CharactersOnly, IsSet}
+use Rattle.normalizer_sets.specs.inner.Bits.{all_words, place_of, ArePages, CharactersOnly, HasPageAt, IsKept, IsSet}
 
 -- which numbers a set may have
-pub may_have-character : (n : ℕ) → n < 0x10000 → (n < 0xD800) ⊎ (0xDFFF < n) → n ≢ 0xFFFD → may_have n ≡ true
+pub may_have-character : (n : ℕ) → n < 0x110000 → (n < 0xD800) ⊎ (0xDFFF < n) → n ≢ 0xFFFD → may_have n ≡ true
 unfolding may_have
 may_have-character n low (inl below) other = grind (arith, nat_tests)
 may_have-character n low (inr above) other = grind (arith, nat_tests)
@@ -20,7 +23,7 @@ may_have-surrogate n low high = grind (arith, nat_tests)
 
 -- what is known of those that it may have
 pub record IsCandidate (n : ℕ) : Type 0 where
-  pub low : n < 0x10000
+  pub low : n < 0x110000
   pub apart : (n < 0xD800) ⊎ (0xDFFF < n)
   pub other : n ≢ 0xFFFD
 
@@ -36,20 +39,64 @@ has_bit-at words block place word below is =
     let m : (64 * block + place) % 64 ≡ place = omega arith in
     rw (d, m, is) refl
 
+-- the lowest bit after a shift
+pub bit_at-from : (word k : ℕ) → bit_at (word / 2 ^ k) 0 ≡ bit_at word k
+bit_at-from word k = bit_at_lowest (word / 2 ^ k)
+
+least_one : (x y : ℕ) → x < 2 → y < 2 → (min x y == 1) ≡ ((x == 1) && (y == 1))
+least_one zero zero _ _ = refl
+least_one zero (suc zero) _ _ = refl
+least_one (suc zero) zero _ _ = refl
+least_one (suc zero) (suc zero) _ _ = refl
+least_one (suc (suc x)) y h _ = absurd (omega arith)
+least_one zero (suc (suc y)) _ h = absurd (omega arith)
+least_one (suc zero) (suc (suc y)) _ h = absurd (omega arith)
+
+-- the lowest bits of words together
+lowest_of_two : (a b : ℕ) → (bit_at (bit_and a b) 0 == 1) ≡ ((bit_at a 0 == 1) && (bit_at b 0 == 1))
+lowest_of_two a b = ap (λ n. n == 1) (bit_at_and a b 0) ∙ least_one (bit_at a 0) (bit_at b 0) (bit_at-lt a 0) (bit_at-lt b 0)
+
+pub lowest_of_four : (a b c d : ℕ) → (bit_and (bit_and (bit_and a b) c) d % 2 == 1) ≡ ((((bit_at a 0 == 1) && (bit_at b 0 == 1)) && (bit_at c 0 == 1)) && (bit_at d 0 == 1))
+lowest_of_four a b c d =
+    ap (λ n. n == 1) (sym (bit_at_lowest (bit_and (bit_and (bit_and a b) c) d)))
+    ∙ lowest_of_two (bit_and (bit_and a b) c) d
+    ∙ ap (λ x. x && (bit_at d 0 == 1)) (lowest_of_two (bit_and a b) c ∙ ap (λ x. x && (bit_at c 0 == 1)) (lowest_of_two a b))
+
+-- the bit at a place of a word of the set
+pub has_bit-at_place : (words pages : List ℕ) (block place word : ℕ) → block < 17408 → place < 64 → get_or words (place_of pages block) 0 ≡ word
+    → has_bit (all_words words pages) (64 * block + place) ≡ (bit_at word place == 1)
+unfolding all_words
+has_bit-at_place words pages block place word within below is =
+    has_bit-at (all_words words pages) block place word below
+    (get_or-map-range_with_len (λ b. get_or words (place_of pages b) 0) 0 17408 block block 0 within (zero-add block) ∙ is)
+
+pub place_of-plane : (pages : List ℕ) (block : ℕ) → block < 1024 → place_of pages block ≡ block
+place_of-plane pages block low = grind (arith, nat_tests)
+
+pub place_of-page : (pages : List ℕ) (page block : ℕ) → block < 64 → place_of pages (1024 + 64 * page + block) ≡ get_or pages page 0 + block
+place_of-page pages page block low =
+    let high : (1024 + 64 * page + block) / 64 - 16 ≡ page = omega arith in
+    let in_page : (1024 + 64 * page + block) % 64 ≡ block = omega arith in
+    cond-false _ _ _ (le-ltb (1024 + 64 * page + block) 1024 (omega arith)) ∙ ap (λ k. get_or pages k 0 + (1024 + 64 * page + block) % 64) high ∙ ap (λ k. get_or pages page 0 + k) in_page
+
+pub length-all_words : (words pages : List ℕ) → length (all_words words pages) ≡ 17408
+unfolding all_words
+length-all_words words pages = length-map-range_with_len (λ block. get_or words (place_of pages block) 0) 0 17408
+
 -- a set has exactly the numbers whose bits are set
-pub has-bit : (words : List ℕ) (low : ℕ) → IsSet words low → (n : ℕ) → has words n ≡ has_bit words n
+pub has-bit : (words pages : List ℕ) (low : ℕ) → IsSet words pages low → (n : ℕ) → has (all_words words pages) n ≡ has_bit (all_words words pages) n
 unfolding has
-has-bit words low set n = elim (cases_Bool (has_bit words n)) [
+has-bit words pages low set n = elim (cases_Bool (has_bit (all_words words pages) n)) [
   | inl is ↦ rw (is, set.characters n is) refl
-  | inr is_not ↦ and_right (may_have n) (has_bit words n) is_not ∙ sym is_not
+  | inr is_not ↦ and_right (may_have n) (has_bit (all_words words pages) n) is_not ∙ sym is_not
 ]
 
 -- no bit is past the words
-pub has_bit-past : (words : List ℕ) → length words ≡ 1024 → (n : ℕ) → 0x10000 ≤ n → has_bit words n ≡ false
+pub has_bit-past : (words : List ℕ) → length words ≡ 17408 → (n : ℕ) → 0x110000 ≤ n → has_bit words n ≡ false
 unfolding has_bit
 has_bit-past words long n past = rw (get_or-eq_default words 0 {n = n / 64} (omega arith), bit_at-zero (n % 64)) refl
 
-may_have-past : (n : ℕ) → 0x10000 ≤ n → may_have n ≡ false
+may_have-past : (n : ℕ) → 0x110000 ≤ n → may_have n ≡ false
 unfolding may_have
 may_have-past n past = grind (arith, nat_tests)
 
@@ -60,27 +107,41 @@ has-may words n is = elim (cases_Bool (may_have n)) [
   | inr may_not ↦ absurd (true≢false (sym is ∙ and_left (may_have n) (has_bit words n) may_not))
 ]
 
--- words of whose bits those of characters are left
-module _ (old new : List ℕ) (long : length new ≡ 1024) (only : (b : ℕ) → b < 1024 → CharactersOnly b (get_or old b 0) (get_or new b 0)) where
+-- words of whose bits those of characters are left: no word above the plane changes
+module _ (old new : List ℕ) (long : length new ≡ 17408) (only : (b : ℕ) → b < 1024 → CharactersOnly b (get_or old b 0) (get_or new b 0))
+    (same : (b : ℕ) → 1024 ≤ b → get_or new b 0 ≡ get_or old b 0) where
   pub has_bit-left : (n : ℕ) → has_bit new n ≡ has old n
   unfolding has has_bit
   has_bit-left n = elim (cases_lt n 0x10000) [
     | inl low ↦
         let whole : 64 * (n / 64) + n % 64 ≡ n = omega arith in
         only (n / 64) (omega arith) (n % 64) (omega arith) ∙ ap (λ m. may_have m && (bit_at (get_or old (n / 64) 0) (n % 64) == 1)) whole
-    | inr past ↦ has_bit-past new long n past ∙ sym (and_left (may_have n) (has_bit old n) (may_have-past n past))
+    | inr high ↦ elim (cases_lt n 0x110000) [
+      | inl within ↦ rw (same (n / 64) (omega arith), may_have-character n within (inr (omega arith)) (λ e. absurd (omega arith))) refl
+      | inr past ↦ has_bit-past new long n past ∙ sym (and_left (may_have n) (has_bit old n) (may_have-past n past))
+    ]
   ]
 
-  pub IsSet-left : (low : ℕ) → ((n : ℕ) → n < low → has_bit new n ≡ true) → has_bit new low ≡ false → IsSet new low
-  IsSet-left low below missing = record {
-    long = long;
-    characters = λ n is. has-may old n (sym (has_bit-left n) ∙ is);
-    below = below;
-    missing = missing;
-  }
+  -- and that are packed
+  module _ (words pages : List ℕ) (kept : ArePages words pages) (packed : all_words words pages ≡ new) where
+    pub IsSet-packed : (low : ℕ) → ((n : ℕ) → n < low → has_bit new n ≡ true) → has_bit new low ≡ false → IsSet words pages low
+    IsSet-packed low below missing = record {
+      kept = kept;
+      characters = λ n is. has-may old n (sym (has_bit-left n) ∙ ap (λ l. has_bit l n) (sym packed) ∙ is);
+      below = λ n l. ap (λ l. has_bit l n) packed ∙ below n l;
+      missing = ap (λ l. has_bit l low) packed ∙ missing;
+    }
+
+    pub has-packed : (n : ℕ) → has (all_words words pages) n ≡ has old n
+    unfolding has
+    has-packed n = ap (λ b. may_have n && b) (ap (λ l. has_bit l n) packed ∙ has_bit-left n) ∙ ap (λ b. may_have n && b) refl ∙ twice (may_have n) (has_bit old n)
+      where
+        twice : (a b : Bool) → (a && (a && b)) ≡ (a && b)
+        twice true b = refl
+        twice false b = refl
 
 -- what a set never has
-pub has_past : (words : List ℕ) (n : ℕ) → 0x10000 ≤ n → has words n ≡ false
+pub has_past : (words : List ℕ) (n : ℕ) → 0x110000 ≤ n → has words n ≡ false
 unfolding has
 has_past words n past = and_left (may_have n) (has_bit words n) (may_have-past n past)
 
@@ -94,3 +155,63 @@ has-replacement words = refl
 
 pub has-IsCandidate : (words : List ℕ) (n : ℕ) → has words n ≡ true → IsCandidate n
 has-IsCandidate words n is = IsCandidate-may_have n (has-may words n is)
+
+-- ---- pages that are kept
+
+pub get_or-range : (words : List ℕ) (start end k : ℕ) → k < end - start → get_or (take (end - start) (drop start words)) k 0 ≡ get_or words (start + k) 0
+get_or-range words start end k low = get_or-take (end - start) (drop start words) k 0 low ∙ get_or-drop start words k 0
+
+-- the first pages
+pub record IsPackedTo (words kept pages : List ℕ) (page : ℕ) : Type 0 where
+  pub least : 1024 ≤ length kept
+  pub most : length kept ≤ 1024 + 64 * page
+  pub long : length pages ≡ page
+  pub plane : (b : ℕ) → b < 1024 → get_or kept b 0 ≡ get_or words b 0
+  pub within : (p : ℕ) → p < page → get_or pages p 0 + 64 ≤ length kept
+  pub paged : (p k : ℕ) → p < page → k < 64 → get_or kept (get_or pages p 0 + k) 0 ≡ get_or words (1024 + 64 * p + k) 0
+
+pub IsPackedTo-more : (words kept pages : List ℕ) (page : ℕ) (whole : List ℕ) (after : List ℕ) (at : ℕ) → IsPackedTo words kept pages page
+    → ((k : ℕ) → k < 64 → get_or whole k 0 ≡ get_or words (1024 + 64 * page + k) 0) → IsKept kept whole after at → IsPackedTo words after (pages ++ at ∷ []) (page + 1)
+IsPackedTo-more words kept pages page whole after at so_far of_page more = record {
+  least = (let l = so_far.least in let m = more.longer in omega arith);
+  most = (let l = so_far.most in let m = more.most in omega arith);
+  long = (let l = so_far.long in omega (arith, length_push pages at));
+  plane = λ b low. more.earlier b (let l = so_far.least in omega arith) ∙ so_far.plane b low;
+  within = λ p below. elim (cases_lt p page) [
+    | inl earlier ↦ rw (get_or_append_left pages (at ∷ []) 0 p (let l = so_far.long in omega arith)) (let w = so_far.within p earlier in let m = more.longer in omega arith)
+    | inr last ↦
+        let same : p ≡ page = omega arith in
+        rw (same, get_or_push pages at 0 page so_far.long) more.placed.room
+  ];
+  paged = λ p k below in_page. elim (cases_lt p page) [
+    | inl earlier ↦
+        rw (get_or_append_left pages (at ∷ []) 0 p (let l = so_far.long in omega arith))
+        (more.earlier (get_or pages p 0 + k) (let w = so_far.within p earlier in omega arith) ∙ so_far.paged p k earlier in_page)
+    | inr last ↦
+        let same : p ≡ page = omega arith in
+        rw (same, get_or_push pages at 0 page so_far.long) (more.placed.same k in_page ∙ of_page k in_page)
+  ];
+}
+
+module _ (words kept pages : List ℕ) (long : length words ≡ 17408) (all : IsPackedTo words kept pages 256) where
+  pub ArePages-packed : ArePages kept pages
+  ArePages-packed = record { plane = all.least; long = all.long; within = all.within }
+
+  pub all_words-packed : all_words kept pages ≡ words
+  unfolding all_words
+  all_words-packed = ext_get_or 0 (all_words kept pages) words (length-all_words kept pages ∙ sym long)
+      (λ b within. let low : b < 17408 = omega (arith, length-all_words kept pages) in
+      get_or-map-range_with_len (λ n. get_or kept (place_of pages n) 0) 0 17408 b b 0 low (zero-add b) ∙ word b low)
+    where
+      word : (b : ℕ) → b < 17408 → get_or kept (place_of pages b) 0 ≡ get_or words b 0
+      word b low = elim (cases_lt b 1024) [
+        | inl plane ↦ ap (λ k. get_or kept k 0) (place_of-plane pages b plane) ∙ all.plane b plane
+        | inr above ↦
+            let page = b / 64 - 16 in
+            let k = b % 64 in
+            let whole : 1024 + 64 * page + k ≡ b = omega arith in
+            ap (λ n. get_or kept (place_of pages n) 0) (sym whole)
+            ∙ ap (λ n. get_or kept n 0) (place_of-page pages page k (omega arith))
+            ∙ all.paged page k (omega arith) (omega arith)
+            ∙ ap (λ n. get_or words n 0) whole
+      ]

@@ -1,4 +1,4 @@
--- Sets of characters of the Basic Multilingual Plane, as words of 64 bits.
+-- Sets of characters, as words of 64 bits.
 use Rattle.std.specs.Prelude.{ℕ, ◌/◌, ◌%◌, ◌==◌, ◌&&◌, Bool, not, nat_lt, List, slice_index_or}
 use Rattle.std.specs.Int.{bit_at, is_in_range}
 
@@ -6,9 +6,9 @@ use Rattle.std.specs.Int.{bit_at, is_in_range}
 unfoldable pub has_bit : List ℕ → ℕ → Bool
 has_bit words n = bit_at (slice_index_or words (n / 64) 0) (n % 64) == 1
 
--- a character of the plane, but U+FFFD, as which errors of decoding read
+-- a character, but U+FFFD, as which errors of decoding read
 unfoldable pub may_have : ℕ → Bool
-may_have n = nat_lt n 0x10000 && not (is_in_range 0xD800 0xDFFF n) && not (n == 0xFFFD)
+may_have n = nat_lt n 0x110000 && not (is_in_range 0xD800 0xDFFF n) && not (n == 0xFFFD)
 
 -- the set of these words has the number
 unfoldable pub has : List ℕ → ℕ → Bool

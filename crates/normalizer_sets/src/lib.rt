@@ -1,52 +1,69 @@
-//! Sets of characters of the Basic Multilingual Plane: whether a 16-bit unit is a member is found by one load.
+//! Sets of characters: whether a 16-bit unit is a member is found by one load, and whether a surrogate pair is by two.
 #![tactic(auto)]
 
-ghost use Rattle.std.specs.Prelude.{◌≡◌, ◌==◌, ◌+◌, ◌*◌, ◌<◌, ◌&&◌, ℕ, true, false, length, slice_index_or};
+ghost use Rattle.std.specs.Prelude.{◌≡◌, ◌==◌, ◌+◌, ◌*◌, ◌<◌, ◌≤◌, ◌&&◌, ℕ, true, false, length, slice_index_or, IfOk, IfSome, IsTrue};
 ghost use Rattle.std.specs.Int.{bit_at};
 ghost use Rattle.normalizer_sets.specs.CharacterSets.{has, has_bit, may_have};
-ghost use Rattle.normalizer_sets.specs.inner.Bits.{CharactersOnly};
+ghost use Rattle.normalizer_sets.specs.inner.Bits.{all_words, ArePages, CharactersOnly, HasPageAt, IsKept};
 
-use std::alloc::Global;
+use std::alloc::{AllocError, Global};
 use std::marker::Model;
 
 /// How many code points have their bits in one word.
 const WORD: usize = 64;
 
-/// How many words the plane has.
-pub const WORDS: usize = 1024;
+/// How many words all code points have.
+pub const WORDS: usize = 17_408;
 
-/// A set of characters of the Basic Multilingual Plane. U+FFFD is in none, nor are surrogates.
+/// How many words the Basic Multilingual Plane has.
+const PLANE: usize = 1024;
+
+/// How many words a page above it has.
+const PAGE: usize = 64;
+
+/// How many pages there are.
+const PAGES: usize = 256;
+
+/// A set of characters. U+FFFD is in none, nor are surrogates.
 #[derive(Drop)]
 pub struct CharacterSet {
-    /// A bit for each code point of the plane.
+    /// A bit for each code point of the Basic Multilingual Plane, and then for those of pages of 4,096 above it, each
+    /// page once.
     words: Vec<u64>,
-    /// The least number without one.
+    /// Where in `words` each page begins.
+    pages: Vec<u16>,
+    /// The least number without a bit.
     low: u32,
 }
 
 impl Model for CharacterSet {
     ghost use Rattle.std.specs.Prelude.{ℕ, List};
-    ghost use Rattle.normalizer_sets.specs.inner.Bits.{IsSet};
+    ghost use Rattle.normalizer_sets.specs.inner.Bits.{all_words, IsSet};
 
     ghost Value = { List ℕ };
 
-    ghost view = { λ set. set.words.items };
+    ghost view = { λ set. all_words set.words.items set.pages.items };
 
-    ghost invariant = { λ set. IsSet set.words.items set.low };
+    ghost invariant = { λ set. IsSet set.words.items set.pages.items set.low };
 }
 
 impl CharacterSet {
-    /// Makes the set of the characters whose bits are set, in a word for each 64 code points of the plane. The bits of
-    /// U+FFFD and of surrogates are cleared.
-    pub fn from_words(mut words: Vec<u64>) -> Self
-        requires { length words.items ≡ 1024 }
-        ensures { (n : ℕ) → has result n ≡ has words.items n }
+    /// Makes the set of the characters whose bits are set, in a word for each 64 code points. The bits of U+FFFD and of
+    /// surrogates are cleared.
+    ///
+    /// # Errors
+    /// If an allocation was refused.
+    pub fn from_words(mut words: Vec<u64>) -> Result<Self, AllocError>
+        requires { length words.items ≡ 17408 }
+        ensures { IfOk result (λ set. (n : ℕ) → has set n ≡ has words.items n) }
     {
-        for place in 0..WORDS {
+        let alloc = *words.allocator();
+        for place in 0..PLANE {
             words[place] = characters_only(place, words[place]);
         }
         let low = first_missing(&words);
-        CharacterSet { words, low }
+        let (words, pages) = packed(alloc, &words)?;
+        Ok(CharacterSet { words, pages, low })
     }
 
     /// Returns the allocator of the set.
@@ -65,12 +82,16 @@ impl CharacterSet {
 
     /// Returns whether the set has a character.
     #[inline(always)]
-    #[tactic(auto, using(crate::proofs::SetLemmas::has_past))]
     pub fn contains(&self, character: char) -> bool
         ensures { result ≡ has self.now character }
     {
         let number = character as u32;
-        number < 0x10000 && self.has_at((number / 64) as usize, number % 64)
+        if number < 0x10000 {
+            return self.has_at((number / 64) as usize, number % 64);
+        }
+        let above = number - 0x10000;
+        let page = (above / 4096) as usize;
+        self.has_above(page, (above / 64 % 64) as usize, above % 64)
     }
 
     /// Returns whether the set has a 16-bit unit as a character.
@@ -79,6 +100,27 @@ impl CharacterSet {
         ensures { result ≡ has self.now unit }
     {
         self.has_at((unit / 64) as usize, (unit % 64) as u32)
+    }
+
+    /// Returns whether the set has each of four 16-bit units as a character. There is one branch for all four.
+    #[inline(always)]
+    pub fn has_four(&self, first: u16, second: u16, third: u16, fourth: u16) -> bool
+        ensures { result ≡ (has self.now first && has self.now second && has self.now third
+            && has self.now fourth) }
+    {
+        let bits = self.bits_from(first)
+            & self.bits_from(second)
+            & self.bits_from(third)
+            & self.bits_from(fourth);
+        bits % 2 == 1
+    }
+
+    /// The bits of a block from that of a unit on.
+    #[inline(always)]
+    fn bits_from(&self, unit: u16) -> u64
+        ensures { (bit_at result 0 == 1) ≡ has self.now unit }
+    {
+        self.words[(unit / 64) as usize] >> (unit % 64) as u32
     }
 
     /// Returns whether the set has the character at a place of a block of 64.
@@ -90,6 +132,18 @@ impl CharacterSet {
     {
         (self.words[block] >> place) % 2 == 1
     }
+
+    /// Returns whether the set has the character at a place of a block of 64, of a page of 4,096 above the Basic
+    /// Multilingual Plane.
+    #[inline(always)]
+    pub fn has_above(&self, page: usize, block: usize, place: u32) -> bool
+        requires page { page < 256 }
+        requires block { block < 64 }
+        requires place { place < 64 }
+        ensures { result ≡ has self.now (0x10000 + 4096 * page + 64 * block + place) }
+    {
+        (self.words[self.pages[page] as usize + block] >> place) % 2 == 1
+    }
 }
 
 impl Clone for CharacterSet {
@@ -98,6 +152,7 @@ impl Clone for CharacterSet {
     fn clone(&self) -> Result<Self, std::alloc::AllocError> {
         Ok(CharacterSet {
             words: self.words.clone()?,
+            pages: self.pages.clone()?,
             low: self.low,
         })
     }
@@ -117,24 +172,86 @@ fn characters_only(place: usize, word: u64) -> u64
 
 /// The least number whose bit isn't set.
 fn first_missing(words: &[u64]) -> u32
-    requires { length words.now ≡ 1024 }
+    requires { length words.now ≡ 17408 }
     ensures below { (n : ℕ) → n < result → has_bit words.now n ≡ true }
     ensures missing { has_bit words.now result ≡ false }
 {
-    for number in 0..0x10000 {
+    for number in 0..0x110000 {
         if !has_bit(words, number) {
             return number as u32;
         }
     }
-    0x10000
+    0x110000
 }
 
 /// Whether the bit of a number is set.
 #[tactic(auto, unfolding(crate::specs::CharacterSets::has_bit))]
 fn has_bit(words: &[u64], number: usize) -> bool
-    requires long { length words.now ≡ 1024 }
-    requires within { number < 0x10000 }
+    requires long { length words.now ≡ 17408 }
+    requires within { number < 0x110000 }
     ensures { result ≡ has_bit words.now number }
 {
     (words[number / WORD] >> (number % WORD) as u32) % 2 == 1
+}
+
+/// The words of the plane and of the pages that differ, and where each page begins.
+fn packed(alloc: Global, words: &[u64]) -> Result<(Vec<u64>, Vec<u16>), AllocError>
+    requires { length words.now ≡ 17408 }
+    ensures pages { IfOk result (λ r. ArePages r.0.items r.1.items) }
+    ensures words { IfOk result (λ r. all_words r.0.items r.1.items ≡ words.now) }
+{
+    let mut kept = Vec::from_slice(alloc, &words[..PLANE])?;
+    let mut pages = Vec::with_capacity(alloc, PAGES)?;
+    for page in 0..PAGES {
+        let start = PLANE + page * PAGE;
+        let place = kept_page(&mut kept, &words[start..start + PAGE])?;
+        pages.push(place as u16)?;
+    }
+    Ok((kept, pages))
+}
+
+/// The place of a page, which is added to those that are kept if it is none of them.
+fn kept_page(kept: &mut Vec<u64>, page: &[u64]) -> Result<usize, AllocError>
+    requires plane { 1024 ≤ length kept.old.items }
+    requires page { length page.now ≡ 64 }
+    ensures { IfOk result (IsKept kept.old.items page.now kept.new.items) }
+{
+    if let Some(place) = place_of_page(kept, page) {
+        return Ok(place);
+    }
+    let place = kept.len();
+    for k in 0..PAGE {
+        kept.push(page[k])?;
+    }
+    Ok(place)
+}
+
+/// The place of a page that is kept already.
+fn place_of_page(kept: &[u64], page: &[u64]) -> Option<usize>
+    requires plane { 1024 ≤ length kept.now }
+    requires page { length page.now ≡ 64 }
+    ensures { IfSome result (HasPageAt kept.now page.now) }
+{
+    let mut place = PLANE;
+    while kept.len() - place >= PAGE {
+        if has_page_at(kept, page, place) {
+            return Some(place);
+        }
+        place += PAGE;
+    }
+    None
+}
+
+/// Whether a page is at a place.
+fn has_page_at(kept: &[u64], page: &[u64], place: usize) -> bool
+    requires page { length page.now ≡ 64 }
+    requires room { place + 64 ≤ length kept.now }
+    ensures { IsTrue result → HasPageAt kept.now page.now place }
+{
+    for k in 0..PAGE {
+        if kept[place + k] != page[k] {
+            return false;
+        }
+    }
+    true
 }

@@ -8,6 +8,6 @@ use Rattle.normalizer_tables.specs.Words.{is_backward_combining, is_non_round_tr
 unfoldable pub has_no_flag : ℕ → Bool
 has_no_flag w = not (is_non_round_trip w) && not (is_backward_combining w)
 
--- the set has the characters of the Basic Multilingual Plane, but U+FFFD, whose words have none of the bits
+-- the set has the characters, but U+FFFD, whose words have none of the bits
 abbrev pub IsSetWithout : ℕ → Table → List ℕ → Type 0
 IsSetWithout bits t set = (n : ℕ) → has set n ≡ (may_have n && (bit_and (word_at t n) bits == 0))

@@ -117,7 +117,7 @@ impl Blocks {
         for place in 0..WORDS {
             words.push(kept[self.numbers[place] as usize])?;
         }
-        Ok(CharacterSet::from_words(words))
+        CharacterSet::from_words(words)
     }
 }
 

@@ -186,7 +186,7 @@ impl<'a> CharacterData<'a> {
         decompositions.passthrough_cap
     }
 
-    /// Returns the characters of the Basic Multilingual Plane, but U+FFFD, whose words have nothing but flags.
+    /// Returns the characters, but U+FFFD, whose words have nothing but flags.
     #[tactic(auto, unfolding(crate::specs::Characters::word_of))]
     pub fn plain(&self) -> &'a CharacterSet
         ensures { (n : ℕ) → has result.now n ≡ (may_have n && is_plain (word_of self.now n)) }
@@ -195,7 +195,7 @@ impl<'a> CharacterData<'a> {
         decompositions.table.plain()
     }
 
-    /// Returns the characters of the Basic Multilingual Plane, but U+FFFD, whose words have no flag.
+    /// Returns the characters, but U+FFFD, whose words have no flag.
     #[tactic(auto, unfolding(crate::specs::Characters::word_of))]
     pub fn unflagged(&self) -> &'a CharacterSet
         ensures { (n : ℕ) → has result.now n ≡ (may_have n && has_no_flag (word_of self.now n)) }

@@ -124,7 +124,7 @@ impl CodePointTable {
         self.words.word(number)
     }
 
-    /// Returns the characters of the Basic Multilingual Plane, but U+FFFD, whose words have nothing but flags.
+    /// Returns the characters, but U+FFFD, whose words have nothing but flags.
     #[tactic(auto, unfolding(crate::specs::Words::is_plain))]
     pub fn plain(&self) -> &CharacterSet
         ensures { (n : ℕ) → has result.now n ≡ (may_have n && is_plain (word_at self.now n)) }
@@ -132,7 +132,7 @@ impl CodePointTable {
         &self.plain
     }
 
-    /// Returns the characters of the Basic Multilingual Plane, but U+FFFD, whose words have no flag.
+    /// Returns the characters, but U+FFFD, whose words have no flag.
     pub fn unflagged(&self) -> &CharacterSet
         ensures { (n : ℕ) → has result.now n ≡ (may_have n && has_no_flag (word_at self.now n)) }
     {

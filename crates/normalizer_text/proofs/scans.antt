@@ -1,4 +1,5 @@
--- Units below a bound.
+-- Units below a bound, and members of a set.
 pub mod LowLemmas
+pub mod PrefixLemmas
 pub mod ScanLemmas
 pub mod MemberLemmas

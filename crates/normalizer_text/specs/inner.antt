@@ -1,3 +1,4 @@
 -- What the contracts of private functions alone cite.
 pub mod Backwards
+pub mod PairMembers
 pub mod Trails

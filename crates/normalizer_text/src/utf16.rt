@@ -1,9 +1,11 @@
 //! Decoding 16-bit units that may not be UTF-16, with U+FFFD for unpaired surrogates (The Unicode Standard, section
 //! 3.9).
-ghost use Rattle.std.specs.Prelude.{◌≡◌, ◌<◌, ◌≤◌, IsTrue, length};
+ghost use Rattle.std.specs.Prelude.{◌≡◌, ◌<◌, ◌≤◌, ◌&&◌, IsTrue, length};
+ghost use Rattle.normalizer_sets.specs.CharacterSets.{has};
 ghost use Rattle.normalizer_text.specs.Utf16.{is_high, is_low, pair_value, first_of_utf16};
 
 use crate::decoding_step::Step;
+use normalizer_sets::CharacterSet;
 
 /// The first unit of a pair (D72).
 fn is_high_surrogate(unit: u16) -> bool
@@ -27,6 +29,26 @@ fn character_of_pair(high: u16, low: u16) -> char
 {
     let code = 0x10000 + (high as u32 - 0xD800) * 0x400 + (low as u32 - 0xDC00);
     char::from_u32(code).unwrap()
+}
+
+/// Whether two units are a pair whose character a set has.
+#[inline(always)]
+pub(crate) fn has_pair(high: u16, low: u16, set: &CharacterSet) -> bool
+    ensures { result ≡ (is_high high && is_low low && has set.now (pair_value high low)) }
+{
+    is_high_surrogate(high) && is_low_surrogate(low) && has_character_of_pair(high, low, set)
+}
+
+/// Whether a set has the character of a pair: the bit is found by the units.
+#[inline(always)]
+fn has_character_of_pair(high: u16, low: u16, set: &CharacterSet) -> bool
+    requires high { IsTrue (is_high high) }
+    requires low { IsTrue (is_low low) }
+    ensures { result ≡ has set.now (pair_value high low) }
+{
+    let page = ((high - 0xD800) / 4) as usize;
+    let block = high as usize % 4 * 16 + (low - 0xDC00) as usize / 64;
+    set.has_above(page, block, (low % 64) as u32)
 }
 
 /// The first step of units that aren't empty.

@@ -1,5 +1,5 @@
 //! Decoding bytes that may not be UTF-8, with U+FFFD for ill-formed sequences (The Unicode Standard, section 3.9).
-ghost use Rattle.std.specs.Prelude.{◌≡◌, ◌+◌, ◌<◌, ◌≤◌, IsTrue, length, option_map, slice_index_or};
+ghost use Rattle.std.specs.Prelude.{◌≡◌, ◌+◌, ◌<◌, ◌≤◌, IsTrue, length, option_map, slice_index, slice_index_or};
 ghost use Rattle.std.specs.Str.{continuation_len};
 ghost use Rattle.normalizer_sets.specs.CharacterSets.{has};
 ghost use Rattle.normalizer_text.specs.Scans.{low_byte, width_in};
@@ -161,21 +161,25 @@ fn member_of_width(bytes: &[u8], width: usize, set: &CharacterSet) -> usize
     }
 }
 
-/// Whether a set has the character of a well-formed sequence.
+/// Whether a set has the character of a well-formed sequence: the bit is found by the bytes.
 #[inline(always)]
-#[tactic(auto, using(crate::proofs::sequences::SubpartLemmas::bounds_of_sequence, normalizer_sets::proofs::SetLemmas::has_past))]
+#[tactic(auto, using(crate::proofs::sequences::SubpartLemmas::bounds_of_sequence))]
 fn has_sequence(sequence: &[u8], set: &CharacterSet) -> bool
     requires { IsWellFormedSequence sequence.now }
     ensures { result ≡ has set.now (scalar_value sequence.now) }
 {
     match sequence {
         [a] => set.has_at((*a / 64) as usize, (*a % 64) as u32),
-        [a, b] => set.has_at((*a - 0xC0) as usize, (*b - 0x80) as u32),
+        [a, b] => set.has_at((*a - 0xC0) as usize, (*b % 64) as u32),
         [a, b, c] => {
             let block = (*a as usize - 0xE0) * 64 + (*b as usize - 0x80);
-            set.has_at(block, (*c - 0x80) as u32)
+            set.has_at(block, (*c % 64) as u32)
         }
-        _ => false,
+        [a, b, c, d] => {
+            let page = (*a as usize - 0xF0) * 64 + (*b as usize - 0x80) - 16;
+            set.has_above(page, (*c % 64) as usize, (*d % 64) as u32)
+        }
+        _ => unreachable!(),
     }
 }
 
@@ -344,10 +348,40 @@ pub(crate) fn member(bytes: &[u8], set: &CharacterSet) -> usize
         if set.has_unit(lead as u16) { 1 } else { 0 }
     } else if lead < 0xE0 && begins_with_two(bytes) {
         member_of_width(bytes, 2, set)
-    } else if 0xE0 <= lead && begins_with_three(bytes) {
-        member_of_width(bytes, 3, set)
+    } else if 0xE0 <= lead && lead <= 0xEF {
+        member_of_three(bytes, set)
+    } else if 0xF0 <= lead && begins_with_four(bytes) {
+        member_of_width(bytes, 4, set)
     } else {
         member_of_others(bytes, set)
+    }
+}
+
+/// The same of bytes whose first one begins sequences of three. No set has surrogates, and the blocks below 32 have no
+/// sequence of three, so that the first two bytes need no further tests.
+#[inline(always)]
+fn member_of_three(bytes: &[u8], set: &CharacterSet) -> usize
+    requires some { 0 < length bytes.now }
+    requires lead { (0xE0 ≤ slice_index bytes.now 0) × (slice_index bytes.now 0 ≤ 0xEF) }
+    ensures { result ≡ width_in (has set.now) (first_of_utf8 bytes.now) }
+{
+    if bytes.len() < 3 {
+        return 0;
+    }
+    if !is_continuation(bytes[1]) {
+        return 0;
+    }
+    if !is_continuation(bytes[2]) {
+        return 0;
+    }
+    let block = (bytes[0] as usize - 0xE0) * 64 + (bytes[1] as usize - 0x80);
+    if block < 32 {
+        return 0;
+    }
+    if set.has_at(block, (bytes[2] % 64) as u32) {
+        3
+    } else {
+        0
     }
 }
 

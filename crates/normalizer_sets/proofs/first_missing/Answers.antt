@@ -3,4 +3,4 @@ use Rattle.normalizer_sets.proofs.SetLemmas.{has_bit-past}
 use Rattle.normalizer_sets.proofs.first_missing.Goals as goal
 
 pub returns-clause-missing : goal.returns-clause-missing
-returns-clause-missing c = has_bit-past c.args.words.now c.requires 65536 (omega arith)
+returns-clause-missing c = has_bit-past c.args.words.now c.requires 1114112 (omega arith)

@@ -82,9 +82,9 @@ AreAtPlaces-more kept numbers n words word so_far here = record {
   ];
 }
 
--- so they are the bits of all characters of the plane
+-- so they are the bits of all characters
 module _ (bits : ℕ) (blocks : List Block) (numbers kept words : List ℕ) (stored : IsStored blocks numbers (stored_words blocks numbers))
-    (of_blocks : AreOfBlocks bits blocks (length blocks) kept) (at_places : AreAtPlaces kept numbers 1024 words) where
+    (of_blocks : AreOfBlocks bits blocks (length blocks) kept) (at_places : AreAtPlaces kept numbers 17408 words) where
   pub IsSetWithout-blocks : (above : ℕ) (set : List ℕ) → ((n : ℕ) → has set n ≡ has words n) → IsSetWithout bits (record { words = stored_words blocks numbers; past = above }) set
   unfolding has has_bit word_at block_at code_points
   IsSetWithout-blocks above set same n = same n ∙ elim (cases_Bool (may_have n)) [

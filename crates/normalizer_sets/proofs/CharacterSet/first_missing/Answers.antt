@@ -3,7 +3,7 @@ use Rattle.normalizer_sets.proofs.SetLemmas.{has-bit}
 use Rattle.normalizer_sets.proofs.CharacterSet.first_missing.Goals as goal
 
 pub returns-clause-below : goal.returns-clause-below
-returns-clause-below c = λ n below. rw (← c.self.view_is) (has-bit _ _ c.self.invariant n ∙ c.self.invariant.below n below)
+returns-clause-below c = λ n below. rw (← c.self.view_is) (has-bit _ _ _ c.self.invariant n ∙ c.self.invariant.below n below)
 
 pub returns-clause-missing : goal.returns-clause-missing
-returns-clause-missing c = rw (← c.self.view_is) (has-bit _ _ c.self.invariant _ ∙ c.self.invariant.missing)
+returns-clause-missing c = rw (← c.self.view_is) (has-bit _ _ _ c.self.invariant _ ∙ c.self.invariant.missing)

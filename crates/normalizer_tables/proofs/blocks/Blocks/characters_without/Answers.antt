@@ -1,5 +1,6 @@
 use Rattle.std.proofs.Common.{◌≡◌, ◌<◌, ◌∙◌, length, arith, ap, get_or, subst}
 use Rattle.std.proofs.lemmas.List.{get_or_read}
+use Rattle.std.proofs.lemmas.Result.{IfOk-weaker}
 use Rattle.normalizer_tables.proofs.code_points.BlockSets.{AreAtPlaces, AreAtPlaces-more, AreOfBlocks, IsSetWithout-blocks}
 use Rattle.normalizer_tables.proofs.code_points.BlockLemmas.{length-numbers, stored_number-within}
 use Rattle.normalizer_tables.proofs.blocks.Blocks.characters_without.Goals as goal
@@ -41,7 +42,8 @@ returns c = λ above.
     let kept = c.loop-block.kept.items in
     let words = c.loop-place.words.items in
     let all_blocks : c.loop-block.block ≡ length blocks = omega (arith, c.loop-block.auto.block-end, c.len-block-end.ensures, c.self.inside.blocks.ok.0) in
-    let all_places : c.loop-place.place ≡ 1024 = omega (arith, c.loop-place.auto.place-end) in
-    rw (← c.self.view_is) (IsSetWithout-blocks c.args.bits blocks numbers kept words c.self.invariant
+    let all_places : c.loop-place.place ≡ 17408 = omega (arith, c.loop-place.auto.place-end) in
+    rw (← c.self.view_is) (IfOk-weaker c.from_words.result _ _ (λ set same.
+    IsSetWithout-blocks c.args.bits blocks numbers kept words c.self.invariant
     (subst (λ n. AreOfBlocks c.args.bits blocks n kept) all_blocks c.loop-block.invariant)
-    (subst (λ n. AreAtPlaces kept numbers n words) all_places c.loop-place.invariant) above c.from_words.result c.from_words.ensures)
+    (subst (λ n. AreAtPlaces kept numbers n words) all_places c.loop-place.invariant) above _ same) c.from_words.ensures)

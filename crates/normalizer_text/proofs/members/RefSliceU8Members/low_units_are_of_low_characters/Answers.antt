@@ -4,7 +4,7 @@ use Rattle.std.specs.Prelude.{min}
 use Rattle.normalizer_text.specs.Encodings.{Encoding}
 use Rattle.normalizer_text.proofs.scans.LowLemmas.{first-ascii}
 use Rattle.normalizer_text.proofs.scans.ScanLemmas.{EndsLowCharacters-single}
-use Rattle.normalizer_text.proofs.units.RefSliceU8Units.low_units_are_of_low_characters.Goals as goal
+use Rattle.normalizer_text.proofs.members.RefSliceU8Members.low_units_are_of_low_characters.Goals as goal
 
 pub returns : goal.returns
 returns c position bound here =
