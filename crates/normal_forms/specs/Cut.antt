@@ -19,6 +19,6 @@ pub record IsCommonFront (x y : List ℕ) (n : ℕ) : Type 0 where
   pub within_second : n ≤ length y
   pub same : take n x ≡ take n y
 
--- x is a front of y
+-- x is a prefix of y
 abbrev pub IsFront : List ℕ → List ℕ → Type 0
 IsFront x y = (rest : List ℕ) × (y ≡ x ++ rest)

@@ -37,12 +37,12 @@ pub fn composition_by_starters()
     ensures { (d : Reading) → HasStarterResults d → (x : List ℕ) → compose d x ≡ compose_by_starters d x }
 {}
 
-/// A common front cancels: if two texts with a common front have equal order, so have the texts after it.
+/// A common prefix cancels: if two texts with a common prefix have equal order, so have the texts after it.
 pub fn left_cancellation()
     ensures { (d : Reading) (u v w : List ℕ) → order d (u ++ v) ≡ order d (u ++ w) → order d v ≡ order d w }
 {}
 
-/// Two texts are equivalent exactly if their normal forms are equal: for the decomposing form, if their full
+/// Two texts are equivalent if and only if their normal forms are equal: for the decomposing form, if their full
 /// decompositions in canonical order are (D70). They are so through texts alone if characters decompose to texts.
 pub fn canonicity()
     ensures lists { (d : Reading) (form : Form) → SuitsForm d form → (x y : List ℕ) →
@@ -72,7 +72,7 @@ pub fn twice_is_once()
 {}
 
 /// The two forms of a text have the same decomposing form and the same composing form; so two texts have equal
-/// composing forms exactly if they have equal decomposing forms.
+/// composing forms if and only if they have equal decomposing forms.
 pub fn composing_keeps_decomposing()
     ensures decomposed { (d : Reading) → SuitsForm d Composing → (x : List ℕ) → nfd d (nfc d x) ≡ nfd d x }
     ensures composed { (d : Reading) → HasFullLists d → (x : List ℕ) → nfc d (nfd d x) ≡ nfc d x }
@@ -80,7 +80,7 @@ pub fn composing_keeps_decomposing()
         (nfc d x ≡ nfc d y) ↔ (nfd d x ≡ nfd d y) }
 {}
 
-/// A number qualifies for the cut exactly if that many characters are a common front of the text and its form. So 0
+/// A number qualifies for the cut if and only if that many characters are a common front of the text and its form. So 0
 /// qualifies, and every number below one that does.
 pub fn cut_is_common_front()
     ensures exactly { (d : Reading) (form : Form) → SuitsForm d form → (x : List ℕ) (n : ℕ) →
@@ -90,7 +90,7 @@ pub fn cut_is_common_front()
         QualifiesForCut d form x n → m ≤ n → QualifiesForCut d form x m }
 {}
 
-/// Every text has exactly one cut. If the laws hold, it is the length of the longest common front of the text and its
+/// Every text has exactly one cut. If the laws hold, it is the length of the longest common prefix of the text and its
 /// form.
 pub fn one_cut()
     ensures exists { (d : Reading) (form : Form) (x : List ℕ) → (n : ℕ) × IsCut d form x n }
@@ -107,7 +107,7 @@ pub fn parts_at_cut()
         IsNormalized d form (drop n x) → drop n x ≡ [] }
 {}
 
-/// Every front and every suffix of a normal form is a normal form.
+/// Every prefix and every suffix of a normal form is a normal form.
 pub fn parts_of_normal_form()
     ensures front { (d : Reading) (form : Form) → SuitsForm d form → (x front rest : List ℕ) →
         normal_form d form x ≡ front ++ rest → IsNormalized d form front }
@@ -115,7 +115,7 @@ pub fn parts_of_normal_form()
         normal_form d form x ≡ front ++ rest → IsNormalized d form rest }
 {}
 
-/// A text is normalized exactly if it is a front of its form, and exactly if its cut is its length.
+/// A text is normalized if and only if it is a prefix of its form, and if and only if its cut is its length.
 pub fn normalized_is_front()
     ensures front { (d : Reading) (form : Form) → SuitsForm d form → (x : List ℕ) →
         IsNormalized d form x ↔ IsFront x (normal_form d form x) }
@@ -133,7 +133,7 @@ pub fn first_offence()
         IsFirstOffence d form x place found wanted → found ≢ wanted }
 {}
 
-/// A search for the first mismatch of a text has exactly one result: none exactly if the text is normalized.
+/// A search for the first mismatch of a text has exactly one result: none if and only if the text is normalized.
 pub fn offence_of_text()
     ensures exists { (d : Reading) (form : Form) → HasNonemptyLists d → (x : List ℕ) →
         (o : Option (ℕ × ℕ × ℕ)) × IsOffenceOf d form x o }
@@ -163,7 +163,7 @@ pub fn offence_under_continuation()
         (place : ℕ) × (found' : ℕ) × (wanted' : ℕ) × IsFirstOffence d form (x ++ y) place found' wanted' × (place ≤ n) }
 {}
 
-/// If a text begins with the form of one of its fronts, that front is normalized. So no text is its form followed by
+/// If a text begins with the form of one of its prefixes, that prefix is normalized. So no text is its form followed by
 /// more.
 pub fn offered_front()
     ensures piece { (d : Reading) (form : Form) → SuitsForm d form → HasNonemptyLists d → (u v : List ℕ) →
@@ -226,7 +226,7 @@ pub fn short_runs()
 {}
 
 /// Over a run of marks composition is one pass, which yields a starter and the marks that stay. A character joins
-/// after ordered marks exactly if none stays or the last one has a lower class.
+/// after ordered marks if and only if none stays or the last one has a lower class.
 pub fn composition_over_marks()
     ensures pass { (d : Reading) (a : ℕ) (waiting marks rest : List ℕ) → All (IsMark d) marks →
         compose_after d a waiting (marks ++ rest) ≡

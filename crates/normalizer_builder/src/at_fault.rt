@@ -32,7 +32,7 @@ impl Records {
     /// mapper come after the others. There is none if the error is of all records together, or is `Memory`.
     ///
     /// # Errors
-    /// [`AllocError`] if an allocation was refused.
+    /// [`AllocError`] if an allocation failed.
     pub fn first_at_fault(
         alloc: Global,
         records: &[Record],

@@ -49,7 +49,7 @@ pub fn packed_records_are_one()
         PacksRecords records uts46 p → PacksRecords records uts46 q → p ≡ q }
 {}
 
-/// The records alone decide the result, unless memory is refused: they have one smallest fault at most, and none if
+/// The records alone decide the result, unless memory ran out: they have one smallest fault at most, and none if
 /// they build data.
 pub fn records_have_one_answer()
     ensures refusal { (records : List RecordValue) (uts46 : List Uts46RecordValue) (e f : BuildError) →

@@ -17,7 +17,7 @@ use normalizer_tables::{
 pub(crate) mod results;
 pub(crate) mod round_trips;
 
-/// Whether pairs strictly rise, and none has a vowel or a trailing consonant of Hangul as its second.
+/// Whether pairs are sorted, without duplicates, and none has a vowel or a trailing consonant of Hangul as its second.
 pub fn are_sound_pairs(compositions: &CanonicalCompositions) -> bool
     ensures { IsTrue result ↔ AreSoundPairs compositions.now }
 {

@@ -47,7 +47,7 @@ pub(crate) fn has_sound_step(
     }
 }
 
-/// Whether a step of a character is `Default` exactly if the list is the character alone, and else the list is the
+/// Whether a step of a character is `Default` if and only if the list is the character alone, and else the list is the
 /// ordered lists of its parts.
 #[tactic(auto, unfolding(normalizer_tables::specs::StepConditions::IsSoundStep, normalizer_tables::specs::StepConditions::IsInOrder))]
 fn is_sound_step(data: &CharacterData<'_>, read: &ReadCharacter<'_>, step: Step) -> bool

@@ -40,7 +40,7 @@ pub record PacksKind (kind : Kind) (entries : List EntryValue) (pairs : List Pai
   pub words : HasWords (IsPackedWord kind entries pairs) d.table
   pub cap : IsCap kind entries pairs d.cap
 
--- the entries can be packed: they rise, and a word has room for the length of each list in a table
+-- the entries can be packed: they are sorted, and a word has room for the length of each list in a table
 pub record ArePackable (entries : List EntryValue) : Type 0 where
   pub rising : AreRising entries
   pub lengths : (kind : Kind) → All HasLengthOfWord (listed_in entries kind)

@@ -43,7 +43,7 @@ spells_two class n a b =
 abbrev pub spelling_of_one : ℕ → Spelling
 spelling_of_one a = if nat_le a 0xFFFF && not (a == 1) then Short a else Listed
 
--- a list of two characters is spelled in 15 bits each, if that is no other form of word
+-- a list of two characters is spelled in 15 bits each, if that isn't another form of word
 abbrev pub spelling_of_two : (ℕ → ℕ) → ℕ → ℕ → ℕ → Spelling
 spelling_of_two class n a b = if spells_two class n a b then Short (a + b * 0x8000) else Listed
 

@@ -45,7 +45,7 @@ unfoldable pub apart_from : List (List ℕ) → List (List ℕ) → List (List �
 apart_from before lists = filter (λ x. not (is_among x before)) lists
 
 -- the lists of canonical data, and those that only the other kinds need, of compatibility data before the mapper's: in
--- the order in which characters, as they rise, first need them
+-- the order in which characters, as they are sorted, first need them
 unfoldable pub canonical_lists : List EntryValue → List (List ℕ)
 canonical_lists entries = first_come (listed_in entries Canonical)
 

@@ -18,7 +18,7 @@ const EDGES: [char; 10] = [
 /// their order.
 ///
 /// # Errors
-/// [`AllocError`] if an allocation was refused.
+/// [`AllocError`] if an allocation failed.
 pub fn breakpoints_of(
     alloc: Global,
     entries: &[Entry],

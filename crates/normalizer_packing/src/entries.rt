@@ -1,4 +1,4 @@
-//! Entries that rise by character, looked up by their places.
+//! Entries that are sorted by character, looked up by their places.
 #![tactic(auto, unfolding(normalizer_tables::specs::Entries::class_in, normalizer_tables::specs::Entries::list_in))]
 
 ghost use Rattle.std.specs.Prelude.{◌≡◌, [], ◌∷◌, IfOk, map, option_copied};
@@ -33,10 +33,10 @@ impl<'a> Model for Entries<'a> {
 }
 
 impl<'a> Entries<'a> {
-    /// Takes entries that rise by character.
+    /// Takes entries that are sorted by character.
     ///
     /// # Errors
-    /// [`AllocError`] if an allocation was refused.
+    /// [`AllocError`] if an allocation failed.
     pub fn new(alloc: Global, entries: &'a [Entry]) -> Result<Self, AllocError>
         requires { AreRising entries.now }
         ensures { IfOk result (λ e. e ≡ entries.now) }
@@ -91,7 +91,7 @@ pub fn entry_characters(
 ) -> Result<Vec<char>, AllocError>
     ensures { IfOk result (λ v. v.items ≡ map (λ e. e.character) entries.now) }
 {
-    // (`collect` would try again after a refused growth)
+    // (`collect` would try again after a failed growth)
     let mut characters = Vec::with_capacity(alloc, entries.len().saturating_add(room))?;
     for entry in entries {
         characters.push(entry.character)?;

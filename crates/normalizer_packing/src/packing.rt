@@ -27,7 +27,7 @@ use std::alloc::{AllocError, Global};
 /// them, equal ones once.
 ///
 /// # Errors
-/// `TableFull` if the lists have more items than the limit, 8,191; `Memory` if an allocation was refused.
+/// `TableFull` if the lists have more items than the limit, 8,191; `Memory` if an allocation failed.
 pub fn pack(
     alloc: Global,
     entries: &[Entry],
@@ -154,7 +154,7 @@ fn kinds_of<'e>(
     })
 }
 
-/// The pairs as they are: the only error is a refused allocation.
+/// The pairs as they are: the only error is a failed allocation.
 fn compositions_of(pairs: Vec<(char, char, char)>) -> Result<CanonicalCompositions, AllocError>
     ensures { IfOk result (λ c. c ≡ pairs.items) }
 {

@@ -115,7 +115,7 @@ fn spelling_of_list(entries: &Entries<'_>, character: char, list: &[char]) -> Sp
     }
 }
 
-/// How a list of two characters is spelled: in one word if both have 15 bits and it is no other form of word.
+/// How a list of two characters is spelled: in one word if both have 15 bits and it isn't another form of word.
 fn spelling_of_two(entries: &Entries<'_>, character: char, first: char, second: char) -> Spelling
     ensures line { result ≡ spelling_of_two (class_in entries.now) character first second }
     ensures room { HasRoomForFlags result }

@@ -145,7 +145,7 @@ impl StepWords<'_, '_, '_> {
 /// Returns the supplement of the entries.
 ///
 /// # Errors
-/// [`AllocError`] if an allocation was refused.
+/// [`AllocError`] if an allocation failed.
 pub fn supplement_of(
     alloc: Global,
     entries: &Entries<'_>,

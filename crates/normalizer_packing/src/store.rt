@@ -58,7 +58,7 @@ impl<'a> Store<'a> {
     /// Appends a list to its table, if it isn't there.
     ///
     /// # Errors
-    /// [`AllocError`] if an allocation was refused.
+    /// [`AllocError`] if an allocation failed.
     pub fn put(&mut self, list: &'a [char]) -> Result<(), AllocError>
         ensures { OnOk result (HoldsMore self.old list.now self.new) }
     {
@@ -152,7 +152,7 @@ pub fn listed_of<'a>(entries: &Entries<'_>, kind: Kind, entry: &'a Entry) -> Opt
 /// Puts the lists of one kind of data that no word spells into a store, except those in the one before.
 ///
 /// # Errors
-/// [`AllocError`] if an allocation was refused.
+/// [`AllocError`] if an allocation failed.
 pub fn put_lists<'a>(
     entries: &Entries<'a>,
     kind: Kind,

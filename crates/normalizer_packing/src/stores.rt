@@ -17,7 +17,7 @@ pub enum PackError {
     /// The distinct lists that no word spells have more than 8,191 items together.
     #[error("the lists have more items than the limit")]
     TableFull,
-    /// An allocation was refused.
+    /// An allocation failed.
     #[error("out of memory")]
     Memory,
 }
@@ -34,7 +34,7 @@ pub struct Stores<'a> {
 /// Returns the stores of all lists that no word spells.
 ///
 /// # Errors
-/// `TableFull` if the lists have more items than the limit, `Memory` if an allocation was refused.
+/// `TableFull` if the lists have more items than the limit, `Memory` if an allocation failed.
 #[tactic(auto, using(crate::proofs::lists::StoreLemmas::needed_items_stored))]
 pub fn stores_of<'a>(alloc: Global, entries: &Entries<'a>) -> Result<Stores<'a>, PackError>
     ensures stored { IfOk result (λ s. AreStored entries.now s.canonical s.supplementary) }

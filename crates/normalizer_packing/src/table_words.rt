@@ -30,7 +30,7 @@ pub trait Words {
 /// Returns the table of the words of all code points, if those between two listed characters have one word.
 ///
 /// # Errors
-/// [`AllocError`] if an allocation was refused.
+/// [`AllocError`] if an allocation failed.
 pub fn table_of<W: Words>(
     alloc: Global,
     words: &W,

@@ -15,15 +15,15 @@ use Rattle.normalizer_records.specs.Meaning.{mapper_list, mapping_of, pairs_of, 
 
 -- Order
 
--- the records strictly rise by character
+-- the records are sorted, without duplicates, by character
 abbrev pub AreRising : List RecordValue → Type 0
 AreRising records = AllPairs (λ r s. r.c < s.c) records
 
--- the records of the mapper strictly rise by character
+-- the records of the mapper are sorted, without duplicates, by character
 abbrev pub AreMapperRising : List Uts46RecordValue → Type 0
 AreMapperRising uts46 = AllPairs (λ r s. r.c < s.c) uts46
 
--- the records, or those of the mapper, don't strictly rise
+-- the records, or those of the mapper, aren't sorted, without duplicates
 unfoldable pub HasOrderFault : List RecordValue → List Uts46RecordValue → Type 0
 HasOrderFault records uts46 = ¬ (AreRising records × AreMapperRising uts46)
 
@@ -217,6 +217,6 @@ IsFirstRefusal records uts46 None = (e : BuildError) → ¬ HasFault records uts
 IsFirstRefusal records uts46 (Some e) =
     HasFault records uts46 e × ((f : BuildError) → rank_of f < rank_of e → ¬ HasFault records uts46 f)
 
--- the first refusal, unless memory was refused
+-- the first refusal, unless memory ran out
 abbrev pub IsRefusal : List RecordValue → List Uts46RecordValue → BuildError → Type 0
 IsRefusal records uts46 e = (e ≡ Memory) ⊎ IsFirstRefusal records uts46 (Some e)

@@ -58,10 +58,10 @@ struct Findings<'a> {
 }
 
 /// Returns the first record at fault, if records are refused with the error: the mapper's after the others. There is
-/// none if the error is of all data together, or if an allocation was refused.
+/// none if the error is of all data together, or if an allocation failed.
 ///
 /// # Errors
-/// [`AllocError`] if an allocation was refused.
+/// [`AllocError`] if an allocation failed.
 pub fn first_at_fault(
     alloc: Global,
     records: &[Record],

@@ -24,7 +24,7 @@ ghost use Rattle.normalizer_tables.specs.Hangul.{is_hangul_syllable};
 use crate::records::{Record, Uts46Record, Uts46Status};
 use normalizer_tables::word::is_hangul_syllable;
 
-/// Whether records strictly rise by character.
+/// Whether records are sorted, without duplicates, by character.
 pub(crate) fn are_rising(records: &[Record]) -> bool
     ensures { IsTrue result ↔ AreRising records.now }
 {

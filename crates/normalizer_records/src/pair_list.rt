@@ -52,7 +52,7 @@ pub(crate) fn unsorted_pairs(
 /// pair.
 ///
 /// # Errors
-/// [`AllocError`] if an allocation was refused.
+/// [`AllocError`] if an allocation failed.
 pub fn pairs(alloc: Global, records: &[Record]) -> Result<Vec<(char, char, char)>, AllocError>
     ensures same { IfOk result (λ v. IsPermutation (pairs_of records.now) v.items) }
     ensures sorted { IfOk result (λ v. IsSorted by_second_and_first v.items) }
@@ -69,7 +69,7 @@ fn is_before(pair: &(char, char, char), next: &(char, char, char)) -> bool
     pair.0 < next.0 || (pair.0 == next.0 && pair.1 < next.1)
 }
 
-/// Whether pairs strictly rise by second, then by first.
+/// Whether pairs are sorted, without duplicates, by second, then by first.
 pub(crate) fn are_rising(pairs: &[(char, char, char)]) -> bool
     ensures { IsAllAdjacentAnswer (λ p q b. b ≡ is_before p q.0 q.1) pairs.now result }
 {

@@ -13,7 +13,7 @@ fn recorded_characters(
 ) -> Result<Vec<char>, AllocError>
     ensures { IfOk result (λ v. v.items ≡ recorded_characters records.now uts46.now) }
 {
-    // (`collect` would try again after a refused growth)
+    // (`collect` would try again after a failed growth)
     let mut characters = Vec::with_capacity(alloc, records.len())?;
     for entry in records {
         characters.push(entry.c)?;

@@ -119,7 +119,7 @@ pub enum Mappings {
 /// Why records were refused: the first fault in the order of the variants. `Memory` may come in place of any.
 #[derive(Clone, Copy, PartialEq, Eq, Debug, Error)]
 pub enum BuildError {
-    /// The records of a kind don't strictly rise by character.
+    /// The records of a kind aren't sorted, without duplicates by character.
     #[error("the records don't strictly rise by character")]
     Order,
     /// A record for a character whose data are fixed: U+FFFD, a conjoining jamo or a Hangul syllable.
@@ -151,7 +151,7 @@ pub enum BuildError {
     /// The lists that need tables have more than 8,191 items together.
     #[error("the lists have more items than the tables hold")]
     TableFull,
-    /// An allocation was refused.
+    /// An allocation failed.
     #[error("out of memory")]
     Memory,
 }

@@ -98,7 +98,7 @@ pub struct ExpandedRecords {
     pub pairs: Vec<(char, char, char)>,
 }
 
-/// What is packed of records that rise and have no fixed character, or their first refusal.
+/// What is packed of records that are sorted and have no fixed character, or their first refusal.
 fn expanded_of_rising(
     alloc: Global,
     records: &[Record],
@@ -152,7 +152,7 @@ fn first_among(
 ///
 /// # Errors
 /// The first thing that is wrong with the records by themselves, `Pair` or a variant of [`BuildError`] before it; or
-/// `Memory` if an allocation was refused.
+/// `Memory` if an allocation failed.
 pub fn expanded(
     alloc: Global,
     records: &[Record],

@@ -52,7 +52,7 @@ impl CharacterSet {
     /// surrogates are cleared.
     ///
     /// # Errors
-    /// If an allocation was refused.
+    /// If an allocation failed.
     pub fn from_words(mut words: Vec<u64>) -> Result<Self, AllocError>
         requires { length words.items ≡ 17408 }
         ensures { IfOk result (λ set. (n : ℕ) → has set n ≡ has words.items n) }

@@ -58,7 +58,7 @@ listed_in t low after =
 unfoldable pub listed_at : Characters → ℕ → ℕ → Option (List ℕ)
 listed_at s item low = listed_in s.tables low (listed_in s.supplementary low (λ past. None)) item
 
--- the list that a reading names; none if a member is no scalar value, or it lies outside the tables
+-- the list that a reading names; none if a member isn't a scalar value, or it lies outside the tables
 unfoldable pub named_list : Characters → List ℕ → ℕ → WordReading → Option (List ℕ)
 named_list s ignored n Ignored = Some ignored
 named_list s ignored n Itself = Some (n ∷ [])

@@ -16,7 +16,7 @@ pub record EntryValue : Type 0 where
   pub mapper : Option (List ℕ)
   pub mapping : Step
 
--- the entries strictly rise by character
+-- the entries are sorted, without duplicates, by character
 abbrev pub AreRising : List EntryValue → Type 0
 AreRising entries = AllPairs (λ e f. e.character < f.character) entries
 

@@ -11,7 +11,7 @@ use Rattle.normalizer_tables.specs.Pairs.{Pair, AreRising, is_vowel_or_trailing_
 use Rattle.normalizer_tables.specs.Readings.{reading_by}
 use Rattle.normalizer_tables.specs.Ignored.{Dropped}
 
--- pairs strictly rise, and none of their seconds is one of the Hangul arithmetic
+-- pairs are sorted, without duplicates, and none of their seconds is one of the Hangul arithmetic
 pub record AreSoundPairs (pairs : List Pair) : Type 0 where
   pub rising : AreRising pairs
   pub seconds : All (λ p. is_vowel_or_trailing_jamo p.0 ≡ false) pairs

@@ -18,7 +18,7 @@ same_pair p q = (nat_eq p.0 q.0 && nat_eq p.1 q.1) && nat_eq p.2 q.2
 unfoldable pub is_before : Pair → ℕ → ℕ → Bool
 is_before p second first = nat_lt p.0 second || ((p.0 == second) && nat_lt p.1 first)
 
--- triples that strictly rise by second, then by first
+-- triples that are sorted, without duplicates, by second, then by first
 abbrev pub AreRising : List Pair → Type 0
 AreRising pairs = AllPairs (λ p q. is_before p q.0 q.1 ≡ true) pairs
 

@@ -16,7 +16,7 @@ use Rattle.normalizer_tables.specs.Ignored.{Dropped}
 unfoldable pub IsInOrder : Characters → ℕ → List ℕ → Type 0
 IsInOrder s n x = (list_of s [] n ≢ n ∷ []) × (list_of s [] n ≡ order (reading_by s Dropped []) x)
 
--- a step of n is `Default` exactly if the list of n is n alone, and else that list is the ordered lists of its parts
+-- a step of n is `Default` if the list of n is n alone, and else that list is the ordered lists of its parts
 unfoldable pub IsSoundStep : Characters → ℕ → Step → Type 0
 IsSoundStep s n Default = list_of s [] n ≡ n ∷ []
 IsSoundStep s n (Singleton a) = IsInOrder s n (list_of s [] a)
@@ -27,6 +27,6 @@ IsSoundStep s n (Expansion a b) = IsInOrder s n (list_of s [] a ++ list_of s [] 
 unfoldable pub AvoidsFdfa : Characters → ℕ → Type 0
 AvoidsFdfa s n = reading_of_word s n ≢ Fdfa
 
--- a scalar value that is no Hangul syllable has a sound step
+-- a scalar value that isn't a Hangul syllable has a sound step
 unfoldable pub HasSoundStep : Characters → Supplement → ℕ → Type 0
 HasSoundStep s t n = IsScalar n → is_hangul_syllable n ≡ false → IsSomeAnd (step_of s t n) (IsSoundStep s n)

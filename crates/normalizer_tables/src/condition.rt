@@ -48,7 +48,7 @@ pub enum Condition {
     /// No word outside the Hangul syllables has the form of U+FDFA, that of no surrogate and no number past the code
     /// points either.
     FdfaForms,
-    /// Except for Hangul syllables, a character has a step. It is `Default` exactly if the list is the character alone,
+    /// Except for Hangul syllables, a character has a step. It is `Default` if the list is the character alone,
     /// and otherwise the list is the ordered lists of its parts.
     Steps,
     /// The part of `Surrogates` for classes alone: the word of no surrogate has a class form.

@@ -56,7 +56,7 @@ impl CanonicalCompositions {
     /// rises.
     ///
     /// # Errors
-    /// `Memory` if an allocation was refused.
+    /// `Memory` if an allocation failed.
     pub fn from_pairs(pairs: Vec<(char, char, char)>) -> Result<Self, TableError>
         ensures held { IfOk result (λ c. c ≡ pairs.items) }
         ensures refused { IsOkUnless result TableError.Memory }
@@ -115,7 +115,7 @@ pub fn may_be_second(pairs: &CanonicalCompositions, second: char) -> bool
     is_vowel_or_trailing_jamo(second) || pairs.seconds.has(second)
 }
 
-/// Returns whether the list strictly rises by second, then by first.
+/// Returns whether the list is sorted, without duplicates, by second, then by first.
 pub fn is_rising(pairs: &CanonicalCompositions) -> bool
     ensures { IsTrue result ↔ AreRising pairs.now }
 {
@@ -150,7 +150,7 @@ pub fn has_no_jamo_second(pairs: &CanonicalCompositions) -> bool
     true
 }
 
-/// Equal exactly if the lists are.
+/// Equal if and only if the lists are.
 impl PartialEq for CanonicalCompositions {
     ghost use Rattle.std.specs.Cmp.{partial_equiv_from_equiv};
     ghost use Rattle.std.specs.Cmp.Lexicographic.{pointwise};

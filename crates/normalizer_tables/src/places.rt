@@ -9,7 +9,7 @@ use std::alloc::{AllocError, Global};
 /// has 0.
 ///
 /// # Errors
-/// `AllocError` if an allocation was refused.
+/// `AllocError` if an allocation failed.
 pub fn places_of(alloc: Global, characters: &[char]) -> Result<CodePointTable, AllocError>
     requires { AllPairs (λ c d. c < d) characters.now }
     ensures { IfOk result (ArePlaces characters.now) }

@@ -47,7 +47,7 @@ pub enum DataError {
         /// The number of the condition.
         condition: u8,
     },
-    /// An allocation was refused.
+    /// An allocation failed.
     #[error("out of memory")]
     Memory,
 }
@@ -70,7 +70,7 @@ pub trait DataProvider<M: DataMarker> {
     /// Returns what is held for the marker.
     ///
     /// # Errors
-    /// `Provider` exactly if nothing is held; otherwise `Memory` alone.
+    /// `Provider` if and only if nothing is held; otherwise `Memory` alone.
     fn load(&self) -> Result<M::Data, DataError>
         ensures ok { IfOk result (λ d. payload self.now ≡ Some d) }
         ensures missing { IsErrOf result (DataError.Provider M.INFO) ↔ IsNone (payload self.now) }

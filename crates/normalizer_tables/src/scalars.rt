@@ -142,7 +142,7 @@ impl Scalars24 {
         self.scalars.len()
     }
 
-    /// Returns whether there is no character.
+    /// Returns whether there isn't a character.
     pub fn is_empty(&self) -> bool
         ensures { IsTrue result ↔ (self.now ≡ []) }
     {

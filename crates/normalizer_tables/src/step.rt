@@ -53,7 +53,7 @@ pub fn step_of(
     step_by_reading(supplement, &read_character(data, character))
 }
 
-/// Returns the canonical mapping of a character that is no Hangul syllable.
+/// Returns the canonical mapping of a character that isn't a Hangul syllable.
 #[tactic(auto, using(crate::proofs::words::ReadLemmas::readings), unfolding(crate::specs::Steps::step_of, crate::specs::Steps::step_of_reading, crate::specs::Steps::two_characters_step, crate::specs::Steps::step_by))]
 pub fn step_by_reading(
     supplement: &NonRecursiveDecompositionSupplement,

@@ -20,10 +20,10 @@ use thiserror::Error;
 /// Why a table was refused.
 #[derive(Clone, Copy, Debug, PartialEq, Eq, Error)]
 pub enum TableError {
-    /// A first number above its last, a last above 0x10FFFF, or ranges that overlap or don't rise.
+    /// A first number above its last, a last above 0x10FFFF, or ranges that overlap or aren't sorted.
     #[error("the ranges of a table overlap, don't rise, or leave the code points")]
     Ranges,
-    /// An allocation was refused.
+    /// An allocation failed.
     #[error("out of memory")]
     Memory,
 }
@@ -39,7 +39,7 @@ impl From<AllocError> for TableError {
 }
 
 /// A 32-bit word for every number: one for each code point, and one for all numbers above 0x10FFFF. Tables are equal
-/// exactly if each number has the same word in both.
+/// if and only if each number has the same word in both.
 #[derive(Drop)]
 pub struct CodePointTable {
     words: Blocks,
@@ -71,8 +71,8 @@ impl CodePointTable {
     /// 0, and every number above 0x10FFFF has `past`.
     ///
     /// # Errors
-    /// - `Ranges` if a first is above its last, a last is above 0x10FFFF, or ranges overlap or don't rise.
-    /// - `Memory` if an allocation was refused.
+    /// - `Ranges` if a first is above its last, a last is above 0x10FFFF, or ranges overlap or aren't sorted.
+    /// - `Memory` if an allocation failed.
     pub fn from_ranges(ranges: Vec<(u32, u32, u32)>, past: u32) -> Result<Self, TableError>
         ensures table { IfOk result (IsTableOf ranges.items past) }
         ensures accepted { IfOk result (λ _. IsRangeList ranges.items) }

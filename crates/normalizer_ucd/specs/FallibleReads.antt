@@ -20,7 +20,7 @@ abbrev pub Fails : {Y : Type 0} → UcdError → Result Y LineFault → Type 0
 Fails errors.Memory read = Unit {0}
 Fails (errors.Line f) read = read ≡ Err f
 
--- what was returned, through `view`, is what reading yields, unless memory was refused
+-- what was returned, through `view`, is what reading yields, unless memory ran out
 abbrev pub Gives : {X Y : Type 0} → (X → Y) → Result X UcdError → Result Y LineFault → Type 0
 Gives view (Ok x) read = read ≡ Ok (view x)
 Gives view (Err e) read = Fails e read

@@ -139,7 +139,7 @@ ranges_in choice parts = do
   full ← full_end read.0
   Ok read.1
 
--- a surrogate is no character
+-- a surrogate isn't a character
 abbrev pub entries_at : Status → ℕ → List Uts46RecordValue
 entries_at status c = if is_scalar_value c then record { c = c; status = status } ∷ [] else []
 

@@ -41,7 +41,7 @@ pub record States (line : List ℕ) (r : RecordValue) : Type 0 where
 abbrev pub IsExcluded : List ℕ → ℕ → Type 0
 IsExcluded exclusions c = (line : List ℕ) × Contains (lines exclusions) line × IsOfCode line c
 
--- the two files state the record: a line of the first does, and it is excluded exactly if the second lists its character
+-- the two files state the record: a line of the first does, and it is excluded if the second lists its character
 pub record IsStated (unicode_data exclusions : List ℕ) (r : RecordValue) : Type 0 where
   pub line : List ℕ
   pub there : Contains (lines unicode_data) line

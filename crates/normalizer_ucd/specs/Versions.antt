@@ -28,7 +28,7 @@ words line = slice_split (λ b. not (is_digit_or_stop b)) line
 abbrev pub number_at : List ℕ → ℕ → Option ℕ
 number_at word n = option_and_then (number 10) (part word 0x2E n)
 
--- three decimal numbers that full stops join, at the front of a word
+-- three decimal numbers that full stops join, at the beginning of a word
 abbrev pub version_of : List ℕ → Option Version
 version_of word = option_and_then (λ major. option_and_then (λ minor. option_map (λ update.
     record { major = major; minor = minor; update = update }) (number_at word 2)) (number_at word 1)) (number_at word 0)

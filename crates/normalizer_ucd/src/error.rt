@@ -86,7 +86,7 @@ pub enum Problem {
     Mapping,
     /// A status is not one of Unicode Technical Standard #46.
     Status,
-    /// The code points of lines don't strictly rise.
+    /// The code points of lines aren't sorted, without duplicates.
     Order,
     /// The first line of a range has no last line right after it, or the last has no first right before it.
     Range,
@@ -168,7 +168,7 @@ impl fmt::Display for LineFault {
 pub enum UcdError {
     /// The first line that is wrong.
     Line(LineFault),
-    /// An allocation was refused.
+    /// An allocation failed.
     Memory,
 }
 

@@ -19,7 +19,7 @@ use std::alloc::{AllocError, Global};
 /// mapper, the first line of `IdnaMappingTable.txt` whose range has it. There is none if no line does.
 ///
 /// # Errors
-/// If an allocation is refused.
+/// If an allocation fails.
 #[tactic(auto, unfolding(crate::specs::RecordPlaces::place_of_record))]
 pub fn place_of_record(
     alloc: Global,

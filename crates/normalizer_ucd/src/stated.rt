@@ -48,7 +48,7 @@ pub(crate) struct Statement {
 /// `15.0.0`, in the lines before its first line with data. A file may state none, as `UnicodeData.txt` of Unicode.
 ///
 /// # Errors
-/// If an allocation is refused.
+/// If an allocation fails.
 pub fn stated_version(alloc: Global, file: &[u8]) -> Result<Option<Version>, AllocError>
     ensures { IfOk result (λ version. version ≡ stated_version file.now) }
 {

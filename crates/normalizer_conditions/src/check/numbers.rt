@@ -118,7 +118,7 @@ pub fn is_sound_word(data: &CharacterData<'_>, read: &ReadCharacter<'_>) -> bool
         && (data.is_mapper() || read.word != IGNORED_MARKER)
 }
 
-/// Whether a word is no class form, or has a class that its character may have.
+/// Whether a word isn't a class form, or has a class that its character may have.
 #[tactic(auto, using(normalizer_tables::proofs::conditions::ConditionLemmas::one_class_form))]
 pub fn is_sound_class(character: char, word: u32) -> bool
     ensures { IsTrue result ↔ IsSoundClass character word }

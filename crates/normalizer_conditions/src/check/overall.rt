@@ -44,7 +44,7 @@ pub fn is_flagged_replacement(data: &CharacterData<'_>) -> bool
     is_plain_starter(&read) && is_non_round_trip(read.word) && !is_backward_combining(read.word)
 }
 
-/// Whether no number that is no character has a word with the form of U+FDFA: no surrogate, and none past the code
+/// Whether no number that isn't a character has a word with the form of U+FDFA: no surrogate, and none past the code
 /// points.
 pub fn avoid_fdfa_elsewhere(data: &CharacterData<'_>) -> bool
     ensures { IsTrue result ↔ ((n : ℕ) → (IsScalar n → ⊥) → AvoidsFdfa data.now n) }

@@ -5,7 +5,7 @@ use Rattle.normalizer_records.specs.Faults.{AreMapperRising, AreRising, IsOnLong
 use Rattle.normalizer_records.specs.Meaning.{pairs_of}
 use Rattle.normalizer_records.specs.inner.Chains.{IsSetOf}
 
--- records that rise, the characters on long chains, and the pairs
+-- records that are sorted, the characters on long chains, and the pairs
 pub record AreFound (f : Findings) : Type 0 where
   pub rising : AreRising f.records.now
   pub mapper : AreMapperRising f.uts46.now

@@ -4,7 +4,7 @@ ghost use Rattle.normalizer_tables.specs.Table.{word_at};
 
 use crate::table::CodePointTable;
 
-/// Tables are equal exactly if each number has the same word in both.
+/// Tables are equal if and only if each number has the same word in both.
 pub fn equal_tables_agree(table: &CodePointTable, other: &CodePointTable) -> bool
     ensures { IsTrue result ↔ ((n : ℕ) → word_at table.now n ≡ word_at other.now n) }
 {
