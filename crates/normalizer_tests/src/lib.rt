@@ -8,8 +8,6 @@ mod documented;
 #[cfg(test)]
 mod over_rows;
 #[cfg(test)]
-mod packing;
-#[cfg(test)]
 mod program;
 #[cfg(test)]
 mod readme;
