@@ -1,7 +1,7 @@
 //! What the calls of a normalizer return for an input, in each of the three encodings.
-ghost use Rattle.std.specs.Iterator.{IsFinite};
-
-use icu_normalizer::{AnyNormalizerBorrowed, NormalizeError, Offence, Utf8Chars, Utf16Chars};
+use icu_normalizer::{
+    AnyNormalizerBorrowed as Normalizer, Chars, NormalizeError, Offence, Units, Utf16Chars,
+};
 use rows_language::fault::{Fault, agreed};
 use rows_language::input::Input;
 use rows_language::items::are;
@@ -22,65 +22,44 @@ pub struct Results {
 }
 
 /// An input in an encoding, and the calls on it.
-pub trait Encoded: Copy {
-    /// How many units it has.
-    fn count(self) -> usize;
-
+pub trait Encoded: Units {
     /// The form as it is returned, and whether it is borrowed.
-    fn form(
-        self,
-        alloc: Global,
-        normalizer: &AnyNormalizerBorrowed<'_>,
-    ) -> Result<(Vec<char>, bool), Fault>;
+    fn form(self, alloc: Global, normalizer: &Normalizer<'_>) -> Result<(Vec<char>, bool), Fault>;
 
     /// Whether the form is returned. This allocates nothing else.
-    fn is_returned(
-        self,
-        normalizer: &AnyNormalizerBorrowed<'_>,
-        form: &[char],
-    ) -> Result<bool, Fault>;
+    fn is_returned(self, normalizer: &Normalizer<'_>, form: &[char]) -> Result<bool, Fault>;
 
     /// Whether the form is written to a sink after what is there. A refused write leaves a beginning of it. Besides the
     /// sink, and a text of 16-bit units, this allocates nothing else.
     fn is_written(
         self,
         alloc: Global,
-        normalizer: &AnyNormalizerBorrowed<'_>,
+        normalizer: &Normalizer<'_>,
         before: &str,
         form: &[char],
     ) -> Result<bool, Fault>;
 
-    /// Whether an iterator yields the form.
-    fn is_yielded(
-        self,
-        normalizer: &AnyNormalizerBorrowed<'_>,
-        form: &[char],
-    ) -> Result<bool, Fault>;
-
     /// Whether the input is normalized.
-    fn is_own(self, normalizer: &AnyNormalizerBorrowed<'_>) -> Result<bool, NormalizeError>;
+    fn is_own(self, normalizer: &Normalizer<'_>) -> Result<bool, NormalizeError>;
 
     /// The length of the front that may be cut off, if the two parts are the input.
-    fn cut(self, normalizer: &AnyNormalizerBorrowed<'_>) -> Result<usize, Fault>;
+    fn cut(self, normalizer: &Normalizer<'_>) -> Result<usize, Fault>;
 
     /// The first mismatch.
-    fn offence(
-        self,
-        normalizer: &AnyNormalizerBorrowed<'_>,
-    ) -> Result<Option<Offence>, NormalizeError>;
+    fn offence(self, normalizer: &Normalizer<'_>) -> Result<Option<Offence>, NormalizeError>;
 }
 
 /// What the calls return, if they agree.
 fn results_of<E: Encoded>(
     alloc: Global,
-    normalizer: &AnyNormalizerBorrowed<'_>,
+    normalizer: &Normalizer<'_>,
     input: E,
 ) -> Result<Results, Fault> {
     let (form, is_own) = input.form(alloc, normalizer)?;
     let (cut, offence) = places(alloc, normalizer, input, &form)?;
     agreed(
         is_own == input.is_own(normalizer)?
-            && is_own == (cut == input.count())
+            && is_own == (cut == Units::len(input))
             && is_own == offence.is_none(),
     )?;
     Ok(Results {
@@ -94,12 +73,12 @@ fn results_of<E: Encoded>(
 /// The cut and the first mismatch, if each call makes this form.
 fn places<E: Encoded>(
     alloc: Global,
-    normalizer: &AnyNormalizerBorrowed<'_>,
+    normalizer: &Normalizer<'_>,
     input: E,
     form: &[char],
 ) -> Result<(usize, Option<Offence>), Fault> {
     agreed(
-        input.is_written(alloc, normalizer, BEFORE, form)? && input.is_yielded(normalizer, form)?,
+        input.is_written(alloc, normalizer, BEFORE, form)? && is_yielded(normalizer, input, form)?,
     )?;
     Ok((input.cut(normalizer)?, input.offence(normalizer)?))
 }
@@ -107,7 +86,7 @@ fn places<E: Encoded>(
 /// What the calls return for an input in its encoding, or for a text in all three.
 pub fn results_of_input(
     alloc: Global,
-    normalizer: &AnyNormalizerBorrowed<'_>,
+    normalizer: &Normalizer<'_>,
     input: &Input,
 ) -> Result<Results, Fault> {
     match input {
@@ -120,7 +99,7 @@ pub fn results_of_input(
 /// What the calls return for a text, if they agree in the three encodings.
 fn results_of_text(
     alloc: Global,
-    normalizer: &AnyNormalizerBorrowed<'_>,
+    normalizer: &Normalizer<'_>,
     text: &str,
 ) -> Result<Results, Fault> {
     let of_text = results_of(alloc, normalizer, text)?;
@@ -133,7 +112,7 @@ fn results_of_text(
 
 fn are_results_of_bytes(
     alloc: Global,
-    normalizer: &AnyNormalizerBorrowed<'_>,
+    normalizer: &Normalizer<'_>,
     bytes: &[u8],
     wanted: &Results,
 ) -> Result<bool, Fault> {
@@ -142,7 +121,7 @@ fn are_results_of_bytes(
 
 fn are_results_of_units(
     alloc: Global,
-    normalizer: &AnyNormalizerBorrowed<'_>,
+    normalizer: &Normalizer<'_>,
     text: &str,
     wanted: &Results,
 ) -> Result<bool, Fault> {
@@ -170,20 +149,16 @@ fn offence_in_units(text: &str, offence: Option<Offence>) -> Option<Offence> {
     })
 }
 
-/// Whether the iterator over characters yields a form.
-fn is_form_of<I>(
-    normalizer: &AnyNormalizerBorrowed<'_>,
-    characters: I,
+/// Whether the iterator over an input yields a form.
+pub fn is_yielded<E: Encoded>(
+    normalizer: &Normalizer<'_>,
+    input: E,
     form: &[char],
-) -> Result<bool, Fault>
-where
-    I: Iterator<Item = char> + Drop,
-    requires can { I.can_next characters }
-    requires ends { IsFinite (I.remaining characters) }
-{
+) -> Result<bool, Fault> {
+    let characters = Chars::new(input);
     match normalizer {
-        AnyNormalizerBorrowed::Decomposing(n) => are(n.normalize_iter(characters)?, form),
-        AnyNormalizerBorrowed::Composing(n) => are(n.normalize_iter(characters)?, form),
+        Normalizer::Decomposing(n) => are(n.normalize_iter(characters)?, form),
+        Normalizer::Composing(n) => are(n.normalize_iter(characters)?, form),
     }
 }
 
@@ -218,23 +193,11 @@ fn characters(alloc: Global, form: &CowStr<'_, Global>) -> Result<(Vec<char>, bo
 }
 
 impl Encoded for &str {
-    fn count(self) -> usize {
-        self.len()
-    }
-
-    fn form(
-        self,
-        alloc: Global,
-        normalizer: &AnyNormalizerBorrowed<'_>,
-    ) -> Result<(Vec<char>, bool), Fault> {
+    fn form(self, alloc: Global, normalizer: &Normalizer<'_>) -> Result<(Vec<char>, bool), Fault> {
         characters(alloc, &normalizer.normalize(self)?)
     }
 
-    fn is_returned(
-        self,
-        normalizer: &AnyNormalizerBorrowed<'_>,
-        form: &[char],
-    ) -> Result<bool, Fault> {
+    fn is_returned(self, normalizer: &Normalizer<'_>, form: &[char]) -> Result<bool, Fault> {
         let found = normalizer.normalize(self)?;
         Ok(found.as_str().chars().eq(form.iter().copied()))
     }
@@ -242,7 +205,7 @@ impl Encoded for &str {
     fn is_written(
         self,
         alloc: Global,
-        normalizer: &AnyNormalizerBorrowed<'_>,
+        normalizer: &Normalizer<'_>,
         before: &str,
         form: &[char],
     ) -> Result<bool, Fault> {
@@ -251,27 +214,16 @@ impl Encoded for &str {
         holds(written, &sink, before, form)
     }
 
-    fn is_yielded(
-        self,
-        normalizer: &AnyNormalizerBorrowed<'_>,
-        form: &[char],
-    ) -> Result<bool, Fault> {
-        is_form_of(normalizer, self.chars(), form)
-    }
-
-    fn is_own(self, normalizer: &AnyNormalizerBorrowed<'_>) -> Result<bool, NormalizeError> {
+    fn is_own(self, normalizer: &Normalizer<'_>) -> Result<bool, NormalizeError> {
         normalizer.is_normalized(self)
     }
 
-    fn cut(self, normalizer: &AnyNormalizerBorrowed<'_>) -> Result<usize, Fault> {
+    fn cut(self, normalizer: &Normalizer<'_>) -> Result<usize, Fault> {
         let (front, rest) = normalizer.split_normalized(self)?;
         cut_between(self.strip_prefix(front) == Some(rest), front.len())
     }
 
-    fn offence(
-        self,
-        normalizer: &AnyNormalizerBorrowed<'_>,
-    ) -> Result<Option<Offence>, NormalizeError> {
+    fn offence(self, normalizer: &Normalizer<'_>) -> Result<Option<Offence>, NormalizeError> {
         normalizer.first_offence(self)
     }
 }
@@ -282,23 +234,11 @@ fn cut_between(are_the_input: bool, cut: usize) -> Result<usize, Fault> {
 }
 
 impl Encoded for &[u8] {
-    fn count(self) -> usize {
-        self.len()
-    }
-
-    fn form(
-        self,
-        alloc: Global,
-        normalizer: &AnyNormalizerBorrowed<'_>,
-    ) -> Result<(Vec<char>, bool), Fault> {
+    fn form(self, alloc: Global, normalizer: &Normalizer<'_>) -> Result<(Vec<char>, bool), Fault> {
         characters(alloc, &normalizer.normalize_utf8(self)?)
     }
 
-    fn is_returned(
-        self,
-        normalizer: &AnyNormalizerBorrowed<'_>,
-        form: &[char],
-    ) -> Result<bool, Fault> {
+    fn is_returned(self, normalizer: &Normalizer<'_>, form: &[char]) -> Result<bool, Fault> {
         let found = normalizer.normalize_utf8(self)?;
         Ok(found.as_str().chars().eq(form.iter().copied()))
     }
@@ -306,7 +246,7 @@ impl Encoded for &[u8] {
     fn is_written(
         self,
         alloc: Global,
-        normalizer: &AnyNormalizerBorrowed<'_>,
+        normalizer: &Normalizer<'_>,
         before: &str,
         form: &[char],
     ) -> Result<bool, Fault> {
@@ -315,19 +255,11 @@ impl Encoded for &[u8] {
         holds(written, &sink, before, form)
     }
 
-    fn is_yielded(
-        self,
-        normalizer: &AnyNormalizerBorrowed<'_>,
-        form: &[char],
-    ) -> Result<bool, Fault> {
-        is_form_of(normalizer, Utf8Chars::new(self), form)
-    }
-
-    fn is_own(self, normalizer: &AnyNormalizerBorrowed<'_>) -> Result<bool, NormalizeError> {
+    fn is_own(self, normalizer: &Normalizer<'_>) -> Result<bool, NormalizeError> {
         normalizer.is_normalized_utf8(self)
     }
 
-    fn cut(self, normalizer: &AnyNormalizerBorrowed<'_>) -> Result<usize, Fault> {
+    fn cut(self, normalizer: &Normalizer<'_>) -> Result<usize, Fault> {
         let (front, rest) = normalizer.split_normalized_utf8(self)?;
         cut_between(
             self.strip_prefix(front.as_bytes()) == Some(rest),
@@ -335,24 +267,13 @@ impl Encoded for &[u8] {
         )
     }
 
-    fn offence(
-        self,
-        normalizer: &AnyNormalizerBorrowed<'_>,
-    ) -> Result<Option<Offence>, NormalizeError> {
+    fn offence(self, normalizer: &Normalizer<'_>) -> Result<Option<Offence>, NormalizeError> {
         normalizer.first_offence_utf8(self)
     }
 }
 
 impl Encoded for &[u16] {
-    fn count(self) -> usize {
-        self.len()
-    }
-
-    fn form(
-        self,
-        alloc: Global,
-        normalizer: &AnyNormalizerBorrowed<'_>,
-    ) -> Result<(Vec<char>, bool), Fault> {
+    fn form(self, alloc: Global, normalizer: &Normalizer<'_>) -> Result<(Vec<char>, bool), Fault> {
         let form = normalizer.normalize_utf16(self)?;
         let text = text_of_units(alloc, form.as_slice())?;
         Ok((
@@ -361,11 +282,7 @@ impl Encoded for &[u16] {
         ))
     }
 
-    fn is_returned(
-        self,
-        normalizer: &AnyNormalizerBorrowed<'_>,
-        form: &[char],
-    ) -> Result<bool, Fault> {
+    fn is_returned(self, normalizer: &Normalizer<'_>, form: &[char]) -> Result<bool, Fault> {
         let found = normalizer.normalize_utf16(self)?;
         let units = found.as_slice();
         Ok(is_utf16(units) && Utf16Chars::new(units).eq(form.iter().copied()))
@@ -374,7 +291,7 @@ impl Encoded for &[u16] {
     fn is_written(
         self,
         alloc: Global,
-        normalizer: &AnyNormalizerBorrowed<'_>,
+        normalizer: &Normalizer<'_>,
         before: &str,
         form: &[char],
     ) -> Result<bool, Fault> {
@@ -383,27 +300,16 @@ impl Encoded for &[u16] {
         holds(written, &text_of_units(alloc, &sink)?, before, form)
     }
 
-    fn is_yielded(
-        self,
-        normalizer: &AnyNormalizerBorrowed<'_>,
-        form: &[char],
-    ) -> Result<bool, Fault> {
-        is_form_of(normalizer, Utf16Chars::new(self), form)
-    }
-
-    fn is_own(self, normalizer: &AnyNormalizerBorrowed<'_>) -> Result<bool, NormalizeError> {
+    fn is_own(self, normalizer: &Normalizer<'_>) -> Result<bool, NormalizeError> {
         normalizer.is_normalized_utf16(self)
     }
 
-    fn cut(self, normalizer: &AnyNormalizerBorrowed<'_>) -> Result<usize, Fault> {
+    fn cut(self, normalizer: &Normalizer<'_>) -> Result<usize, Fault> {
         let (front, rest) = normalizer.split_normalized_utf16(self)?;
         cut_between(self.strip_prefix(front) == Some(rest), front.len())
     }
 
-    fn offence(
-        self,
-        normalizer: &AnyNormalizerBorrowed<'_>,
-    ) -> Result<Option<Offence>, NormalizeError> {
+    fn offence(self, normalizer: &Normalizer<'_>) -> Result<Option<Offence>, NormalizeError> {
         normalizer.first_offence_utf16(self)
     }
 }

@@ -3,9 +3,9 @@
 //! over what is built, of `try nfc` the constructor, of `copies` the copies of each part, of `unchecked`, `map` and
 //! `validate` the iterator, of `ranges` and `pairs` what makes them.
 use crate::data::refusal;
-use crate::encoded::Encoded;
+use crate::encoded::{Encoded, is_yielded};
 use crate::{by_data, mapping, parts};
-use icu_normalizer::AnyNormalizerBorrowed;
+use icu_normalizer::{AnyNormalizerBorrowed as Normalizer, Units};
 use rows_language::fault::{Fault, agreed};
 use rows_language::input::Input;
 use rows_language::setting::Setting;
@@ -74,7 +74,7 @@ fn copy(setting: &mut Setting<'_>, stage: Stage) -> Result<(), Fault> {
 
 fn make_on_input(
     alloc: Global,
-    normalizer: &AnyNormalizerBorrowed<'_>,
+    normalizer: &Normalizer<'_>,
     call: &str,
     input: &Input,
     stage: Stage,
@@ -88,7 +88,7 @@ fn make_on_input(
 
 fn make_on<E: Encoded>(
     alloc: Global,
-    normalizer: &AnyNormalizerBorrowed<'_>,
+    normalizer: &Normalizer<'_>,
     call: &str,
     input: E,
     stage: Stage,
@@ -100,7 +100,7 @@ fn make_on<E: Encoded>(
 /// Makes the call, and returns whether its result goes with the form.
 fn is_right<E: Encoded>(
     alloc: Global,
-    normalizer: &AnyNormalizerBorrowed<'_>,
+    normalizer: &Normalizer<'_>,
     call: &str,
     input: E,
     form: &[char],
@@ -108,12 +108,12 @@ fn is_right<E: Encoded>(
     match call {
         "normalize" => input.is_returned(normalizer, form),
         "normalize_to" => input.is_written(alloc, normalizer, "", form),
-        "normalize_iter" => input.is_yielded(normalizer, form),
+        "normalize_iter" => is_yielded(normalizer, input, form),
         "is_normalized" => {
             let _is_own = input.is_own(normalizer)?;
             Ok(true)
         }
-        "split_normalized" => Ok(input.cut(normalizer)? <= input.count()),
+        "split_normalized" => Ok(input.cut(normalizer)? <= Units::len(input)),
         "first_offence" => {
             let _offence = input.offence(normalizer)?;
             Ok(true)
