@@ -1,9 +1,10 @@
 //! The calls that are repeated over a text.
 use crate::fault::Fault;
-use crate::normalizer::Normalizer;
+use icu_normalizer::{AnyNormalizerBorrowed, NormalForm};
 use std::alloc::Global;
+use std::borrow::CowStr;
 use unicode_normalization::{
-    Form, UnicodeNormalization, is_nfc, is_nfd, is_nfkc, is_nfkd, to_nfc, to_nfd, to_nfkc, to_nfkd,
+    UnicodeNormalization, is_nfc, is_nfd, is_nfkc, is_nfkd, to_nfc, to_nfd, to_nfkc, to_nfkd,
 };
 
 /// What is repeated over a text.
@@ -38,21 +39,55 @@ impl Call {
     pub(crate) fn make(
         self,
         alloc: Global,
-        normalizer: &Normalizer,
-        form: Form,
+        normalizer: &AnyNormalizerBorrowed<'_>,
+        form: NormalForm,
         text: &str,
         written: &mut String,
     ) -> Result<(), Fault> {
         match self {
-            Call::Write => Ok(normalizer.write(text, written)?),
-            Call::Check => tell(normalizer.check(text)?, written),
-            Call::Own => normalizer.own(text, written),
-            Call::Iterate => normalizer.iterate(text, written),
+            Call::Write => Ok(normalizer.normalize_to(text, written)?),
+            Call::Check => tell(normalizer.is_normalized(text)?, written),
+            Call::Own => own(normalizer, text, written),
+            Call::Iterate => iterate(normalizer, text, written),
             Call::PortWrite => write_by_port(alloc, form, text, written),
             Call::PortCheck => tell(checked_by_port(alloc, form, text)?, written),
             Call::PortIterate => iterate_by_port(alloc, form, text, written),
         }
     }
+}
+
+/// Sets `written` to the form that is returned, copied if it is borrowed.
+fn own(
+    normalizer: &AnyNormalizerBorrowed<'_>,
+    text: &str,
+    written: &mut String,
+) -> Result<(), Fault> {
+    match normalizer.normalize(text)? {
+        CowStr::Borrowed(text) => written.push_str(text)?,
+        CowStr::Owned(made) => *written = made,
+    }
+    Ok(())
+}
+
+/// Writes the form item by item.
+fn iterate(
+    normalizer: &AnyNormalizerBorrowed<'_>,
+    text: &str,
+    written: &mut String,
+) -> Result<(), Fault> {
+    match normalizer {
+        AnyNormalizerBorrowed::Decomposing(n) => {
+            for item in n.normalize_iter(text.chars())? {
+                written.push(item?)?;
+            }
+        }
+        AnyNormalizerBorrowed::Composing(n) => {
+            for item in n.normalize_iter(text.chars())? {
+                written.push(item?)?;
+            }
+        }
+    }
+    Ok(())
 }
 
 fn tell(is_normalized: bool, written: &mut String) -> Result<(), Fault> {
@@ -62,48 +97,53 @@ fn tell(is_normalized: bool, written: &mut String) -> Result<(), Fault> {
     Ok(())
 }
 
-fn write_by_port(alloc: Global, form: Form, text: &str, written: &mut String) -> Result<(), Fault> {
+fn write_by_port(
+    alloc: Global,
+    form: NormalForm,
+    text: &str,
+    written: &mut String,
+) -> Result<(), Fault> {
     *written = match form {
-        Form::Nfd => to_nfd(alloc, text)?,
-        Form::Nfc => to_nfc(alloc, text)?,
-        Form::Nfkd => to_nfkd(alloc, text)?,
-        Form::Nfkc => to_nfkc(alloc, text)?,
+        NormalForm::Nfd => to_nfd(alloc, text)?,
+        NormalForm::Nfc => to_nfc(alloc, text)?,
+        NormalForm::Nfkd => to_nfkd(alloc, text)?,
+        NormalForm::Nfkc => to_nfkc(alloc, text)?,
     };
     Ok(())
 }
 
-fn checked_by_port(alloc: Global, form: Form, text: &str) -> Result<bool, Fault> {
+fn checked_by_port(alloc: Global, form: NormalForm, text: &str) -> Result<bool, Fault> {
     Ok(match form {
-        Form::Nfd => is_nfd(text),
-        Form::Nfc => is_nfc(alloc, text)?,
-        Form::Nfkd => is_nfkd(text),
-        Form::Nfkc => is_nfkc(alloc, text)?,
+        NormalForm::Nfd => is_nfd(text),
+        NormalForm::Nfc => is_nfc(alloc, text)?,
+        NormalForm::Nfkd => is_nfkd(text),
+        NormalForm::Nfkc => is_nfkc(alloc, text)?,
     })
 }
 
 fn iterate_by_port(
     alloc: Global,
-    form: Form,
+    form: NormalForm,
     text: &str,
     written: &mut String,
 ) -> Result<(), Fault> {
     match form {
-        Form::Nfd => {
+        NormalForm::Nfd => {
             for item in text.nfd(alloc) {
                 written.push(item?)?;
             }
         }
-        Form::Nfc => {
+        NormalForm::Nfc => {
             for item in text.nfc(alloc) {
                 written.push(item?)?;
             }
         }
-        Form::Nfkd => {
+        NormalForm::Nfkd => {
             for item in text.nfkd(alloc) {
                 written.push(item?)?;
             }
         }
-        Form::Nfkc => {
+        NormalForm::Nfkc => {
             for item in text.nfkc(alloc) {
                 written.push(item?)?;
             }

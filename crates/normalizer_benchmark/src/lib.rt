@@ -9,6 +9,6 @@
 
 mod call;
 mod fault;
-mod normalizer;
+mod form;
 mod repeating;
 mod starting;

@@ -1,7 +1,7 @@
 //! Building data, and making normalizers over them.
 use crate::fault::{Fault, status};
-use crate::normalizer::{Normalizer, form_numbered};
-use icu_normalizer::{Built, Record, Records};
+use crate::form::form_numbered;
+use icu_normalizer::{Built, FormData, Record, Records};
 use normalizer_ucd::records_of_unicode_data;
 use std::alloc::Global;
 
@@ -54,7 +54,7 @@ fn construct(
 fn construct_often(built: &Built, form: u32, times: u64) -> Result<(), Fault> {
     let form = form_numbered(form)?;
     for _ in 0..times {
-        let _normalizer = Normalizer::over(built, form)?;
+        let _normalizer = built.normalizer(form)?;
     }
     Ok(())
 }

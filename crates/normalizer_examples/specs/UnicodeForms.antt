@@ -4,8 +4,8 @@ use Rattle.icu_normalizer.specs.RecordValue.{RecordValue}
 use Rattle.icu_normalizer.specs.Building.{IsSmallest}
 use Rattle.normalizer_ucd.specs.FallibleReads.{Fails}
 use Rattle.normalizer_ucd.specs.UnicodeData.{records_of}
-use Rattle.normalizer_built.specs.RecordedForms.{recorded_form}
-use Rattle.normalizer_built.specs.declared.NormalForm.{NormalForm}
+use Rattle.icu_normalizer.specs.RecordedForms.{recorded_form}
+use Rattle.icu_normalizer.specs.declared.any_normalizer.NormalForm.{NormalForm}
 use Rattle.normalizer_examples.specs.declared.by_unicode_data.UnicodeFault.{UnicodeFault}
 use Rattle.normalizer_examples.specs.declared.by_unicode_data.UnicodeFault.TheVariants.{File, Records}
 

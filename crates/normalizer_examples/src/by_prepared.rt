@@ -1,16 +1,16 @@
 //! Normalizing text with prepared data.
-ghost use Rattle.std.specs.Prelude.{◌≡◌, IfErr, IfOk, List, Ok};
+ghost use Rattle.std.specs.Prelude.{◌≡◌, IfErr, IfOk, List};
 ghost use Rattle.icu_normalizer.specs.Building.{Builds};
 ghost use Rattle.icu_normalizer.specs.Packed.{Packed};
 ghost use Rattle.icu_normalizer.specs.RecordValue.{RecordValue, Uts46RecordValue};
 ghost use Rattle.icu_normalizer.specs.Utf8.{decoded_utf8};
-ghost use Rattle.normalizer_built.specs.RecordedForms.{form_of_data, recorded_form};
+ghost use Rattle.icu_normalizer.specs.ByRecords.{packed_form};
+ghost use Rattle.icu_normalizer.specs.Forms.{form_of};
+ghost use Rattle.icu_normalizer.specs.RecordedForms.{recorded_form};
 ghost use Rattle.normalizer_prepared.specs.Prepared.{prepared_bytes, prepared_in, Fits};
 ghost use Rattle.normalizer_examples.specs.PreparedForms.{IsFaultOfPrepared, IsFormByPrepared};
 
-use crate::{nfc_of_bytes, nfd_of_bytes};
-use icu_normalizer::{ComposingNormalizer, DataError, DecomposingNormalizer, NormalizeError};
-use normalizer_built::NormalForm;
+use icu_normalizer::{DataError, FormData, NormalForm, Utf8Chars};
 use normalizer_prepared::{PreparedData, PreparedError};
 use std::alloc::Global;
 
@@ -58,33 +58,14 @@ fn form_by_read(
     form: NormalForm,
     bytes: &[u8],
 ) -> Result<Vec<char>, DataError>
-    ensures { IfOk result (λ v. v.items ≡ form_of_data (prepared_in read.now) form (decoded_utf8 bytes.now)) }
+    ensures { IfOk result (λ v. v.items ≡ form_of (packed_form (prepared_in read.now) form) (decoded_utf8 bytes.now)) }
 {
-    match form {
-        NormalForm::Nfd => {
-            let normalizer = DecomposingNormalizer::try_new_nfd_unstable(read)?;
-            text_of(nfd_of_bytes(alloc, &normalizer.as_borrowed(), bytes))
-        }
-        NormalForm::Nfc => {
-            let normalizer = ComposingNormalizer::try_new_nfc_unstable(read)?;
-            text_of(nfc_of_bytes(alloc, &normalizer.as_borrowed(), bytes))
-        }
-        NormalForm::Nfkd => {
-            let normalizer = DecomposingNormalizer::try_new_nfkd_unstable(read)?;
-            text_of(nfd_of_bytes(alloc, &normalizer.as_borrowed(), bytes))
-        }
-        NormalForm::Nfkc => {
-            let normalizer = ComposingNormalizer::try_new_nfkc_unstable(read)?;
-            text_of(nfc_of_bytes(alloc, &normalizer.as_borrowed(), bytes))
-        }
-    }
-}
-
-/// A text, unless memory was refused.
-fn text_of(text: Result<Vec<char>, NormalizeError>) -> Result<Vec<char>, DataError>
-    ensures { IfOk result (λ v. text ≡ Ok v) }
-{
-    match text {
+    let normalizer = read.normalizer(form)?;
+    let characters = Utf8Chars::new(bytes);
+    match normalizer
+        .as_borrowed()
+        .form_of_characters(alloc, characters)
+    {
         Ok(text) => Ok(text),
         Err(_) => Err(DataError::Memory),
     }

@@ -6,18 +6,17 @@ ghost use Rattle.icu_normalizer.specs.Utf8.{decoded_utf8};
 ghost use Rattle.icu_normalizer.specs.Properties as properties;
 ghost use Rattle.icu_normalizer.specs.Building.{IsSmallest};
 ghost use Rattle.icu_normalizer.specs.Built.{AreBuilt, data_in};
-ghost use Rattle.normalizer_built.specs.RecordedForms.{form_of_data, recorded_form};
+ghost use Rattle.icu_normalizer.specs.RecordedForms.{recorded_form};
 
-use crate::{nfc_of_bytes, nfd_of_bytes};
 use icu_normalizer::properties::{
     CanonicalCombiningClassMap, CanonicalComposition, CanonicalDecomposition,
 };
 use icu_normalizer::record_laws::{
     data_that_meet_conditions_are_accepted, what_is_built_is_accepted,
 };
-use icu_normalizer::{BuildError, Built, DataError, NormalizeError, Record, Records, Uts46Record};
-use normalizer_built::{
-    NormalForm, nfc_normalizer, nfd_normalizer, nfkc_normalizer, nfkd_normalizer,
+use icu_normalizer::{
+    BuildError, Built, DataError, NormalForm, Record, Records, Utf8Chars, Uts46Record,
+    normalizer_to,
 };
 use std::alloc::Global;
 
@@ -36,28 +35,16 @@ pub fn form_by_records(
         (IsSmallest records.now uts46.now) }
 {
     let built = Records::build(alloc, records, uts46)?;
-    match form_by_built(alloc, &built, form, bytes) {
+    let Ok(normalizer) = normalizer_to(&built, form) else {
+        return Err(BuildError::Memory);
+    };
+    let characters = Utf8Chars::new(bytes);
+    match normalizer
+        .as_borrowed()
+        .form_of_characters(alloc, characters)
+    {
         Ok(text) => Ok(text),
         Err(_) => Err(BuildError::Memory),
-    }
-}
-
-/// The normal form over built data.
-fn form_by_built(
-    alloc: Global,
-    built: &Built,
-    form: NormalForm,
-    bytes: &[u8],
-) -> Result<Vec<char>, NormalizeError>
-    requires { AreBuilt (data_in built.now) }
-    ensures form { IfOk result (λ v. v.items ≡ form_of_data (data_in built.now) form (decoded_utf8 bytes.now)) }
-    ensures refused { IsOkUnless result NormalizeError.Memory }
-{
-    match form {
-        NormalForm::Nfd => nfd_of_bytes(alloc, &nfd_normalizer(built)?.as_borrowed(), bytes),
-        NormalForm::Nfc => nfc_of_bytes(alloc, &nfc_normalizer(built)?.as_borrowed(), bytes),
-        NormalForm::Nfkd => nfd_of_bytes(alloc, &nfkd_normalizer(built)?.as_borrowed(), bytes),
-        NormalForm::Nfkc => nfc_of_bytes(alloc, &nfkc_normalizer(built)?.as_borrowed(), bytes),
     }
 }
 

@@ -4,8 +4,7 @@ ghost use Rattle.icu_normalizer.specs.Utf8.{decoded_utf8};
 ghost use Rattle.normalizer_examples.specs.UnicodeForms.{IsFormByFiles, IsFaultOfFiles};
 
 use crate::by_records::form_by_records;
-use icu_normalizer::BuildError;
-use normalizer_built::NormalForm;
+use icu_normalizer::{BuildError, NormalForm};
 use normalizer_ucd::{UcdError, records_of_unicode_data};
 use std::alloc::Global;
 

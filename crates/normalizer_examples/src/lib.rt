@@ -48,7 +48,7 @@ use icu_normalizer::{
     NormalizeError, NormalizerNfcV1, NormalizerNfdTablesV1, NormalizerNfkdDataV1,
     NormalizerNfkdTablesV1, Utf8Chars, check_nfd_data, collected,
 };
-pub use normalizer_built::{NormalForm, built_mapper};
+pub use icu_normalizer::{NormalForm, built_mapper};
 use std::alloc::Global;
 
 /// Returns the NFD of the text that bytes decode to.

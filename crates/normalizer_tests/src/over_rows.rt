@@ -1,6 +1,6 @@
 //! Normalizers over the record set `rows`.
 use icu_normalizer::{Built, ComposingNormalizer, DecomposingNormalizer, Records};
-use normalizer_rows::{mapper_records, records};
+use normalizer_record_set::{mapper_records, records};
 use std::alloc::Global;
 
 pub(crate) fn built(alloc: Global) -> Option<Built> {

@@ -1,12 +1,12 @@
 //! The program over other data than its own.
 use icu_normalizer::{
-    DataError, DataMarker, DataProvider, Record, Records, Uts46Record, Uts46Status,
+    DataError, DataMarker, DataProvider, FormData, MappingData, NormalForm, Record, Records,
+    Uts46Record, Uts46Status,
 };
-use normalizer_built::{FormData, MappingData};
 use normalizer_io::{Answer, Input, Output};
-use normalizer_program::arguments::Command;
-use normalizer_program::ending::ToolFault;
-use normalizer_program::run::run;
+use normtool_command::arguments::Command;
+use normtool_command::ending::ToolFault;
+use normtool_command::run::run;
 use std::alloc::Global;
 
 /// Whether a run over data ends so, with this much of the input left and nothing written.
@@ -39,18 +39,18 @@ impl<M: DataMarker> DataProvider<M> for Lacking {
 }
 
 const COMMANDS: [Command; 15] = [
-    Command::Nfd,
-    Command::Nfc,
-    Command::Nfkd,
-    Command::Nfkc,
-    Command::IsNfd,
-    Command::IsNfc,
-    Command::IsNfkd,
-    Command::IsNfkc,
-    Command::WhereNfd,
-    Command::WhereNfc,
-    Command::WhereNfkd,
-    Command::WhereNfkc,
+    Command::Write(NormalForm::Nfd),
+    Command::Write(NormalForm::Nfc),
+    Command::Write(NormalForm::Nfkd),
+    Command::Write(NormalForm::Nfkc),
+    Command::Check(NormalForm::Nfd),
+    Command::Check(NormalForm::Nfc),
+    Command::Check(NormalForm::Nfkd),
+    Command::Check(NormalForm::Nfkc),
+    Command::Locate(NormalForm::Nfd),
+    Command::Locate(NormalForm::Nfc),
+    Command::Locate(NormalForm::Nfkd),
+    Command::Locate(NormalForm::Nfkc),
     Command::Map,
     Command::Validate,
     Command::Label,

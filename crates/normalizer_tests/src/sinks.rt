@@ -1,6 +1,6 @@
 //! Normalizing into sinks that have little room, note or refuse a hint, and count the writes.
 ghost use Rattle.std.specs.Prelude.{◌≡◌, ⊤, string_bytes};
-ghost use Rattle.normalizer_text.specs.Sinks.{AnyFault};
+ghost use Rattle.icu_normalizer.specs.Sinks.{AnyFault};
 
 use crate::over_rows::{nfc, nfd};
 use icu_normalizer::NormalizeError;

@@ -3,8 +3,8 @@
 #![tactic(auto)]
 
 use normalizer_io::{Input, Output};
-use normalizer_program::ending::{ToolFault, ending};
-use normalizer_program::run::program;
+use normtool_command::ending::{ToolFault, ending};
+use normtool_command::run::program;
 use std::alloc::AllocError;
 use std::env;
 use std::io::ErrorKind;

@@ -9,15 +9,13 @@
 mod comparison;
 mod fault;
 mod generated;
-mod normalizer;
 mod port;
 mod sample;
 mod test_file;
 
-use comparison::Tally;
+use comparison::{Subject, Tally};
 use fault::Fault;
-use icu_normalizer::{Built, Record, Records};
-use normalizer::{FORMS, Form, Normalizer};
+use icu_normalizer::{Built, FormData, NormalForm, Record, Records};
 use normalizer_ucd::records_of_unicode_data;
 use std::process::ExitCode;
 use std::{env, fs};
@@ -51,55 +49,69 @@ fn compared(rt: &HostRuntime) -> Result<u64, Fault> {
     let exclusions = fs::read(rt, exclusions.as_str())?;
     let records = records_of_unicode_data(rt.alloc(), &data, &exclusions)?;
     println!(rt; "{} records", records.len())?;
-    if task.as_str() == "file" {
-        let test = fs::read_to_string(rt, last.as_str())?;
-        by_test_file(rt, &records, test.as_str())
+    let standard = standard_named(rt, task.as_str(), &records, last.as_str())?;
+    let built = Records::build(rt.alloc(), &records, &[])?;
+    compared_forms(rt, &built, &standard)
+}
+
+fn standard_named(
+    rt: &HostRuntime,
+    task: &str,
+    records: &[Record],
+    last: &str,
+) -> Result<Standard, Fault> {
+    if task == "file" {
+        let lines = test_file::lines(rt.alloc(), &fs::read_to_string(rt, last)?)?;
+        println!(rt; "{} lines", lines.len())?;
+        Ok(Standard::Lines(lines))
     } else {
-        let count = last.as_str().parse::<u64>().ok().ok_or(Fault::Unreadable)?;
-        by_port(rt, &records, count)
+        let count = last.parse::<u64>().ok().ok_or(Fault::Unreadable)?;
+        Ok(Standard::Port(generated::pool(rt.alloc(), records)?, count))
     }
 }
 
-fn by_test_file(rt: &HostRuntime, records: &[Record], test: &str) -> Result<u64, Fault> {
-    let lines = test_file::lines(rt.alloc(), test)?;
-    println!(rt; "{} lines", lines.len())?;
-    let built = Records::build(rt.alloc(), records, &[])?;
+/// The four forms, and their names.
+const FORMS: [(NormalForm, &str); 4] = [
+    (NormalForm::Nfd, "NFD"),
+    (NormalForm::Nfc, "NFC"),
+    (NormalForm::Nfkd, "NFKD"),
+    (NormalForm::Nfkc, "NFKC"),
+];
+
+/// What the results are compared with.
+#[derive(Drop)]
+enum Standard {
+    /// The lines of a test file.
+    Lines(Vec<test_file::Line>),
+    /// Another implementation, over texts of these characters, so many of them.
+    Port(Vec<char>, u64),
+}
+
+fn compared_forms(rt: &HostRuntime, built: &Built, standard: &Standard) -> Result<u64, Fault> {
     let mut differing = 0u64;
-    for form in &FORMS {
-        let tally = compared_with_file(rt, *form, &built, &lines)?;
+    for (form, name) in FORMS {
+        let tally = compared_form(rt, form, name, built, standard)?;
         differing = differing.saturating_add(tally.differing);
     }
     Ok(differing)
 }
 
-fn compared_with_file(
+fn compared_form(
     rt: &HostRuntime,
-    form: Form,
+    form: NormalForm,
+    name: &'static str,
     built: &Built,
-    lines: &[test_file::Line],
+    standard: &Standard,
 ) -> Result<Tally, Fault> {
-    let normalizer = Normalizer::new(built, form)?;
-    test_file::compared(rt, form, &normalizer, lines)
-}
-
-fn by_port(rt: &HostRuntime, records: &[Record], count: u64) -> Result<u64, Fault> {
-    let pool = generated::pool(rt.alloc(), records)?;
-    let built = Records::build(rt.alloc(), records, &[])?;
-    let mut differing = 0u64;
-    for form in &FORMS {
-        let tally = compared_with_port(rt, *form, &built, &pool, count)?;
-        differing = differing.saturating_add(tally.differing);
+    let owned = built.normalizer(form)?;
+    let normalizer = owned.as_borrowed();
+    let subject = Subject {
+        form,
+        name,
+        normalizer,
+    };
+    match standard {
+        Standard::Lines(lines) => test_file::compared(rt, &subject, lines),
+        Standard::Port(pool, count) => port::compared(rt, &subject, pool, *count),
     }
-    Ok(differing)
-}
-
-fn compared_with_port(
-    rt: &HostRuntime,
-    form: Form,
-    built: &Built,
-    pool: &[char],
-    count: u64,
-) -> Result<Tally, Fault> {
-    let normalizer = Normalizer::new(built, form)?;
-    port::compared(rt, form, &normalizer, pool, count)
 }

@@ -1,35 +1,34 @@
 //! Compares with another implementation: the toolchain's `unicode_normalization`.
-use crate::comparison::{Tally, compare};
+use crate::comparison::{Subject, Tally, compare};
 use crate::fault::Fault;
 use crate::generated::{Numbers, next_text};
-use crate::normalizer::{Form, Normalizer};
+use icu_normalizer::NormalForm;
 use std::alloc::{AllocError, Global};
 use unicode_normalization::{to_nfc, to_nfd, to_nfkc, to_nfkd};
 
 /// The form of a text by the other implementation.
-fn form_by_port(alloc: Global, form: Form, text: &str) -> Result<String, AllocError> {
+fn form_by_port(alloc: Global, form: NormalForm, text: &str) -> Result<String, AllocError> {
     match form {
-        Form::Nfd => to_nfd(alloc, text),
-        Form::Nfc => to_nfc(alloc, text),
-        Form::Nfkd => to_nfkd(alloc, text),
-        Form::Nfkc => to_nfkc(alloc, text),
+        NormalForm::Nfd => to_nfd(alloc, text),
+        NormalForm::Nfc => to_nfc(alloc, text),
+        NormalForm::Nfkd => to_nfkd(alloc, text),
+        NormalForm::Nfkc => to_nfkc(alloc, text),
     }
 }
 
 /// Compares every character, and generated texts.
 pub fn compared(
     rt: &HostRuntime,
-    form: Form,
-    normalizer: &Normalizer,
+    subject: &Subject<'_>,
     pool: &[char],
     count: u64,
 ) -> Result<Tally, Fault> {
     let mut tally = Tally::new();
-    compare_characters(rt, &mut tally, form, normalizer)?;
-    tally.tell(rt, form, "every character")?;
+    compare_characters(rt, &mut tally, subject)?;
+    tally.tell(rt, subject.name, "every character")?;
     let mut texts = Tally::new();
-    compare_generated(rt, &mut texts, form, normalizer, (pool, count))?;
-    texts.tell(rt, form, "generated texts")?;
+    compare_generated(rt, &mut texts, subject, (pool, count))?;
+    texts.tell(rt, subject.name, "generated texts")?;
     tally.differing = tally.differing.saturating_add(texts.differing);
     Ok(tally)
 }
@@ -37,15 +36,14 @@ pub fn compared(
 fn compare_characters(
     rt: &HostRuntime,
     tally: &mut Tally,
-    form: Form,
-    normalizer: &Normalizer,
+    subject: &Subject<'_>,
 ) -> Result<(), Fault> {
     let mut text = String::new(rt.alloc());
     for c in '\0'..=char::MAX {
         text.clear();
         text.push(c)?;
-        let wanted = form_by_port(rt.alloc(), form, &text)?;
-        compare(rt, tally, form, normalizer, (&text, &wanted))?;
+        let wanted = form_by_port(rt.alloc(), subject.form, &text)?;
+        compare(rt, tally, subject, &text, &wanted)?;
     }
     Ok(())
 }
@@ -53,8 +51,7 @@ fn compare_characters(
 fn compare_generated(
     rt: &HostRuntime,
     tally: &mut Tally,
-    form: Form,
-    normalizer: &Normalizer,
+    subject: &Subject<'_>,
     generated: (&[char], u64),
 ) -> Result<(), Fault> {
     let (pool, count) = generated;
@@ -62,8 +59,8 @@ fn compare_generated(
     let mut text = String::new(rt.alloc());
     for _ in 0..count {
         next_text(&mut numbers, pool, &mut text)?;
-        let wanted = form_by_port(rt.alloc(), form, &text)?;
-        compare(rt, tally, form, normalizer, (&text, &wanted))?;
+        let wanted = form_by_port(rt.alloc(), subject.form, &text)?;
+        compare(rt, tally, subject, &text, &wanted)?;
     }
     Ok(())
 }

@@ -1,34 +1,25 @@
-//! A text with the form wanted of it, and what follows of the two: the first place where they differ.
+//! What calls must return for a text, by the form wanted of it.
 use crate::fault::Fault;
 use icu_normalizer::Offence;
+use rows_questions::encoded::Results;
 use std::alloc::Global;
 
-/// A text in two encodings.
-#[derive(Drop)]
-pub struct Text {
-    pub text: String,
-    pub units: Vec<u16>,
-}
-
-impl Text {
-    pub fn new(alloc: Global, text: &str) -> Result<Text, Fault> {
-        let units = utf16(alloc, text)?;
-        let text = String::from_str(alloc, text)?;
-        Ok(Text { text, units })
-    }
-}
-
-/// A text as UTF-16.
-fn utf16(alloc: Global, text: &str) -> Result<Vec<u16>, Fault> {
-    let mut units = Vec::new(alloc);
-    for unit in text.encode_utf16() {
-        units.push(unit)?;
-    }
-    Ok(units)
+/// What calls must return for a text of which a form is wanted: that, and the first place where the two differ.
+pub fn wanted_of(alloc: Global, text: &str, form: &str) -> Result<Results, Fault> {
+    let offence = first_difference(text, form);
+    Ok(Results {
+        form: form.chars().collect(alloc)?,
+        is_own: text == form,
+        cut: match offence {
+            Some(offence) => offence.place,
+            None => text.len(),
+        },
+        offence,
+    })
 }
 
 /// The first character of a text that is another than its form has there: its place in bytes, and the two characters.
-pub fn first_difference(text: &str, form: &str) -> Option<Offence> {
+fn first_difference(text: &str, form: &str) -> Option<Offence> {
     let mut place = 0usize;
     for (found, wanted) in text.chars().zip(form.chars()) {
         if found != wanted {
@@ -41,18 +32,4 @@ pub fn first_difference(text: &str, form: &str) -> Option<Offence> {
         place = place.saturating_add(found.len_utf8());
     }
     None
-}
-
-/// A difference with its place in 16-bit units.
-pub fn in_units(text: &str, difference: Option<Offence>) -> Option<Offence> {
-    let Offence {
-        place,
-        found,
-        wanted,
-    } = difference?;
-    Some(Offence {
-        place: text.get(..place)?.encode_utf16().count(),
-        found,
-        wanted,
-    })
 }

@@ -1,7 +1,7 @@
 //! `NormalizationTest.txt`: a line has a text, its NFC, its NFD, its NFKC and its NFKD. The last line is `# EOF`.
-use crate::comparison::{Tally, compare};
+use crate::comparison::{Subject, Tally, compare};
 use crate::fault::Fault;
-use crate::normalizer::{Form, Normalizer};
+use icu_normalizer::NormalForm;
 use std::alloc::Global;
 use std::collections::BTreeSet;
 
@@ -68,21 +68,16 @@ fn character_of(word: &str) -> Result<char, Fault> {
 }
 
 /// Compares the five texts of each line, and each character that the file doesn't list.
-pub fn compared(
-    rt: &HostRuntime,
-    form: Form,
-    normalizer: &Normalizer,
-    lines: &[Line],
-) -> Result<Tally, Fault> {
+pub fn compared(rt: &HostRuntime, subject: &Subject<'_>, lines: &[Line]) -> Result<Tally, Fault> {
     let mut tally = Tally::new();
     for line in lines {
-        compare_line(rt, &mut tally, form, normalizer, line)?;
+        compare_line(rt, &mut tally, subject, line)?;
     }
-    tally.tell(rt, form, "the columns")?;
+    tally.tell(rt, subject.name, "the columns")?;
     let listed = listed(rt.alloc(), lines)?;
     let mut others = Tally::new();
-    compare_others(rt, &mut others, form, normalizer, &listed)?;
-    others.tell(rt, form, "the other characters")?;
+    compare_others(rt, &mut others, subject, &listed)?;
+    others.tell(rt, subject.name, "the other characters")?;
     tally.differing = tally.differing.saturating_add(others.differing);
     Ok(tally)
 }
@@ -90,33 +85,20 @@ pub fn compared(
 fn compare_line(
     rt: &HostRuntime,
     tally: &mut Tally,
-    form: Form,
-    normalizer: &Normalizer,
+    subject: &Subject<'_>,
     line: &Line,
 ) -> Result<(), Fault> {
-    let (canonical, compatibility) = match form {
-        Form::Nfc => (&line.nfc, &line.nfkc),
-        Form::Nfd => (&line.nfd, &line.nfkd),
-        Form::Nfkc => (&line.nfkc, &line.nfkc),
-        Form::Nfkd => (&line.nfkd, &line.nfkd),
+    let (canonical, compatibility) = match subject.form {
+        NormalForm::Nfc => (&line.nfc, &line.nfkc),
+        NormalForm::Nfd => (&line.nfd, &line.nfkd),
+        NormalForm::Nfkc => (&line.nfkc, &line.nfkc),
+        NormalForm::Nfkd => (&line.nfkd, &line.nfkd),
     };
     for text in &[&line.source, &line.nfc, &line.nfd] {
-        compare(
-            rt,
-            tally,
-            form,
-            normalizer,
-            (text.as_str(), canonical.as_str()),
-        )?;
+        compare(rt, tally, subject, text, canonical)?;
     }
     for text in &[&line.nfkc, &line.nfkd] {
-        compare(
-            rt,
-            tally,
-            form,
-            normalizer,
-            (text.as_str(), compatibility.as_str()),
-        )?;
+        compare(rt, tally, subject, text, compatibility)?;
     }
     Ok(())
 }
@@ -138,8 +120,7 @@ fn listed(alloc: Global, lines: &[Line]) -> Result<BTreeSet<char>, Fault> {
 fn compare_others(
     rt: &HostRuntime,
     tally: &mut Tally,
-    form: Form,
-    normalizer: &Normalizer,
+    subject: &Subject<'_>,
     listed: &BTreeSet<char>,
 ) -> Result<(), Fault> {
     let mut text = String::new(rt.alloc());
@@ -147,7 +128,7 @@ fn compare_others(
         if !listed.contains(&c) {
             text.clear();
             text.push(c)?;
-            compare(rt, tally, form, normalizer, (&text, &text))?;
+            compare(rt, tally, subject, &text, &text)?;
         }
     }
     Ok(())

@@ -1,6 +1,6 @@
 use Rattle.icu_normalizer.specs.DataMarkerInfo.TheVariants.{NormalizerNfcV1}
 use Rattle.icu_normalizer.specs.PairData.{RefusesPairs}
-use Rattle.normalizer_built.proofs.MemoryAlone.{IsOkUnless-memory}
+use Rattle.icu_normalizer.proofs.MemoryAlone.{IsOkUnless-memory}
 use Rattle.normalizer_examples.proofs.by_records.built_composition.Goals as goal
 
 pub returns-clause-refused : goal.returns-clause-refused

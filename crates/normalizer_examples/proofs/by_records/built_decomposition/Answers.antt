@@ -2,7 +2,7 @@ use Rattle.icu_normalizer.specs.DataMarkerInfo.TheVariants.{NormalizerNfdDataV1}
 use Rattle.icu_normalizer.specs.StepData.{RefusesSteps}
 use Rattle.icu_normalizer.specs.Kind.TheVariants.{Canonical}
 use Rattle.icu_normalizer.specs.ReadBack.{characters_of}
-use Rattle.normalizer_built.proofs.MemoryAlone.{IsOkUnless-memory}
+use Rattle.icu_normalizer.proofs.MemoryAlone.{IsOkUnless-memory}
 use Rattle.normalizer_examples.proofs.by_records.built_decomposition.Goals as goal
 
 pub returns-clause-refused : goal.returns-clause-refused

@@ -1,13 +1,13 @@
 use Rattle.std.proofs.Common.{rules, ◌∙◌}
 use Rattle.icu_normalizer.specs.Building.{IsSmallest}
-use Rattle.normalizer_built.proofs.FormsOfData.{form_of_data-recorded}
 use Rattle.normalizer_examples.proofs.by_records.form_by_records.Goals as goal
 
-pub form_by_built-requires : goal.form_by_built-requires
-form_by_built-requires c = (c.args.records.now, c.args.uts46.now, c.in_ok-built.ensures)
+pub normalizer_to-requires : goal.normalizer_to-requires
+normalizer_to-requires c = (c.args.records.now, c.args.uts46.now, c.in_ok-built.ensures)
 
-pub returns-in-Ok : goal.returns-in-Ok
-returns-in-Ok c = c.in-Ok.ensures.form ∙ form_of_data-recorded c.args.records.now c.args.uts46.now c.in_ok-built.built.packed c.in_ok-built.ensures.means c.args.form _
+pub returns-in_default : goal.returns-in_default
+unfolding IsSmallest
+returns-in_default c = search rules
 
 pub returns : goal.returns
 unfolding IsSmallest

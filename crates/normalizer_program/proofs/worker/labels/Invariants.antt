@@ -1,7 +1,0 @@
-use Rattle.std.proofs.Common.{map, take}
-use Rattle.icu_normalizer.specs.Mappers.{mapper_data_of_borrowed}
-use Rattle.normalizer_program.specs.Labels.{TellsLabels}
-use Rattle.normalizer_program.proofs.worker.labels.Given as goal
-
-abbrev pub invariant-loop-field : goal.invariant-loop-field
-invariant-loop-field l = TellsLabels (mapper_data_of_borrowed l.mapper) (map (λ part. part.now) (take l.field-index l.field-items)) l.answer l.lines.items

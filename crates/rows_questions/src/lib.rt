@@ -1,0 +1,14 @@
+//! The questions of rows of worked examples, a module for each subject.
+#![tactic(auto)]
+
+pub mod by_data;
+pub mod calls;
+pub mod data;
+pub mod decoding;
+pub mod encoded;
+pub mod mapping;
+pub mod parts;
+pub mod plain_program;
+pub mod properties;
+pub mod record_questions;
+pub mod single;
