@@ -194,27 +194,29 @@ fn end_of_pair_members(units: &[u16], position: usize, set: &CharacterSet) -> us
     end
 }
 
-/// Returns the end of the units from a position on that are members by themselves. A run of none or one, as a space
-/// between others, is found without a call.
+/// Returns the end of the units from a position on that are members by themselves. Low ones, and then none or one, as a
+/// space between others, are passed over without a call.
 #[inline(always)]
 fn end_of_single_members(units: &[u16], position: usize, set: &CharacterSet) -> usize
     requires { position ≤ length units.now }
     ensures { result ≡ position + prefix_len (has set.now) (drop position units.now) }
 {
-    if position == units.len() {
-        return position;
+    let limit = set.first_missing();
+    let end = scan::end_of_below::<&[u16], true>(units, position, limit);
+    if end == units.len() {
+        return end;
     }
-    if !set.has_unit(units[position]) {
-        return position;
+    if !set.has_unit(units[end]) {
+        return end;
     }
-    let next = position + 1;
+    let next = end + 1;
     if next == units.len() {
         return next;
     }
     if !set.has_unit(units[next]) {
         return next;
     }
-    end_of_single_run(units, position, set)
+    end_of_single_run(units, end, set)
 }
 
 /// Returns the same end of more units. It isn't inlined, so that its loops have the registers for themselves.
@@ -224,16 +226,19 @@ fn end_of_single_run(units: &[u16], position: usize, set: &CharacterSet) -> usiz
     ensures { result ≡ position + prefix_len (has set.now) (drop position units.now) }
 {
     let limit = set.first_missing();
-    let mut end = scan::end_of_below::<&[u16], true>(units, position, limit);
+    let mut end = position;
     while units.len() - end >= GROUP {
-        let members = members_in_group(units, end, set);
-        if members != GROUP {
-            return end + members;
-        }
-        let is_low = is_low_group(units, end, limit);
-        end += GROUP;
-        if is_low {
-            end = scan::end_of_below::<&[u16], true>(units, end, limit);
+        if is_before_low_run(units, end, limit) {
+            if !set.has_unit(units[end]) {
+                return end;
+            }
+            end = scan::end_of_below::<&[u16], true>(units, end + 1, limit);
+        } else {
+            let members = members_in_group(units, end, set);
+            if members != GROUP {
+                return end + members;
+            }
+            end += GROUP;
         }
     }
     while end < units.len() && set.has_unit(units[end]) {
@@ -265,13 +270,10 @@ fn members_in_group(units: &[u16], position: usize, set: &CharacterSet) -> usize
     }
 }
 
-/// Whether the four units at a position are all below a limit.
+/// Whether the second and the third of the four units at a position are below a limit.
 #[inline(always)]
-fn is_low_group(units: &[u16], position: usize, limit: u32) -> bool
+fn is_before_low_run(units: &[u16], position: usize, limit: u32) -> bool
     requires { position + GROUP ≤ length units.now }
 {
-    u32::from(units[position + 3]) < limit
-        && u32::from(units[position]) < limit
-        && u32::from(units[position + 1]) < limit
-        && u32::from(units[position + 2]) < limit
+    u32::from(units[position + 1]) < limit && u32::from(units[position + 2]) < limit
 }

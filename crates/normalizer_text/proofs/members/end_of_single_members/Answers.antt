@@ -1,25 +1,56 @@
 use Rattle.std.proofs.Common.{◌+◌, ◌<◌, length, arith, sym, ◌∙◌}
 use Rattle.std.proofs.lemmas.List.Sums.{prefix_len-drop_all, prefix_len-drop_no, prefix_len-drop_yes}
 use Rattle.normalizer_sets.specs.CharacterSets.{has}
+use Rattle.normalizer_text.proofs.scans.PrefixLemmas.{prefix-below}
 use Rattle.normalizer_text.proofs.members.end_of_single_members.Goals as goal
 
-pub returns-then-position-units : goal.returns-then-position-units
-returns-then-position-units c =
-    omega (arith, prefix_len-drop_all (has c.args.set.now) c.args.units.now c.args.position (omega arith))
+pub offset_bounds-units-end : goal.offset_bounds-units-end
+offset_bounds-units-end c =
+    let low = prefix-below (has c.args.set.now) c.first_missing-limit.result c.first_missing-limit.ensures.below c.args.units.now c.args.position _ c.requires c.end_of_below-end.ensures in
+    omega (arith, low.0)
+
+pub bounds-units-end : goal.bounds-units-end
+bounds-units-end c =
+    let low = prefix-below (has c.args.set.now) c.first_missing-limit.result c.first_missing-limit.ensures.below c.args.units.now c.args.position _ c.requires c.end_of_below-end.ensures in
+    omega (arith, low.0)
+
+pub overflow_add-next : goal.overflow_add-next
+overflow_add-next c =
+    let low = prefix-below (has c.args.set.now) c.first_missing-limit.result c.first_missing-limit.ensures.below c.args.units.now c.args.position _ c.requires c.end_of_below-end.ensures in
+    omega (arith, low.0)
+
+pub offset_bounds-units-next : goal.offset_bounds-units-next
+offset_bounds-units-next c =
+    let low = prefix-below (has c.args.set.now) c.first_missing-limit.result c.first_missing-limit.ensures.below c.args.units.now c.args.position _ c.requires c.end_of_below-end.ensures in
+    omega (arith, low.0)
+
+pub returns-then-end-units : goal.returns-then-end-units
+returns-then-end-units c =
+    let low = prefix-below (has c.args.set.now) c.first_missing-limit.result c.first_missing-limit.ensures.below c.args.units.now c.args.position _ c.requires c.end_of_below-end.ensures in
+    omega (arith, low.1, prefix_len-drop_all (has c.args.set.now) c.args.units.now c.end_of_below-end.result (omega arith))
 
 pub returns-then-not-has_unit : goal.returns-then-not-has_unit
 returns-then-not-has_unit c =
-    let some : c.args.position < length c.args.units.now = omega arith in
-    omega (arith, prefix_len-drop_no (has c.args.set.now) c.args.units.now c.args.position 0 some (sym c.has_unit.ensures ∙ c.if-not-has_unit.true))
+    let low = prefix-below (has c.args.set.now) c.first_missing-limit.result c.first_missing-limit.ensures.below c.args.units.now c.args.position _ c.requires c.end_of_below-end.ensures in
+    let some : c.end_of_below-end.result < length c.args.units.now = omega (arith, low.0) in
+    omega (arith, low.1, prefix_len-drop_no (has c.args.set.now) c.args.units.now c.end_of_below-end.result 0 some (sym c.has_unit.ensures ∙ c.if-not-has_unit.true))
 
 pub returns-then-next-units : goal.returns-then-next-units
 returns-then-next-units c =
-    let some : c.args.position < length c.args.units.now = omega arith in
-    let one = prefix_len-drop_yes (has c.args.set.now) c.args.units.now c.args.position 0 some (sym c.has_unit.ensures ∙ c.if-not-has_unit.false) in
-    omega (arith, one, prefix_len-drop_all (has c.args.set.now) c.args.units.now (c.args.position + 1) (omega arith))
+    let low = prefix-below (has c.args.set.now) c.first_missing-limit.result c.first_missing-limit.ensures.below c.args.units.now c.args.position _ c.requires c.end_of_below-end.ensures in
+    let some : c.end_of_below-end.result < length c.args.units.now = omega (arith, low.0) in
+    let one = prefix_len-drop_yes (has c.args.set.now) c.args.units.now c.end_of_below-end.result 0 some (sym c.has_unit.ensures ∙ c.if-not-has_unit.false) in
+    omega (arith, low.1, one, prefix_len-drop_all (has c.args.set.now) c.args.units.now (c.end_of_below-end.result + 1) (omega arith))
 
 pub returns-then-not-has_unit-2 : goal.returns-then-not-has_unit-2
 returns-then-not-has_unit-2 c =
-    let some : c.args.position + 1 < length c.args.units.now = omega arith in
-    let one = prefix_len-drop_yes (has c.args.set.now) c.args.units.now c.args.position 0 (omega arith) (sym c.has_unit.ensures ∙ c.if-not-has_unit.false) in
-    omega (arith, one, prefix_len-drop_no (has c.args.set.now) c.args.units.now (c.args.position + 1) 0 some (sym c.has_unit-2.ensures ∙ c.if-not-has_unit-2.true))
+    let low = prefix-below (has c.args.set.now) c.first_missing-limit.result c.first_missing-limit.ensures.below c.args.units.now c.args.position _ c.requires c.end_of_below-end.ensures in
+    let first : c.end_of_below-end.result < length c.args.units.now = omega (arith, low.0) in
+    let some : c.end_of_below-end.result + 1 < length c.args.units.now = omega (arith, low.0) in
+    let one = prefix_len-drop_yes (has c.args.set.now) c.args.units.now c.end_of_below-end.result 0 first (sym c.has_unit.ensures ∙ c.if-not-has_unit.false) in
+    omega (arith, low.1, one, prefix_len-drop_no (has c.args.set.now) c.args.units.now (c.end_of_below-end.result + 1) 0 some (sym c.has_unit-2.ensures ∙ c.if-not-has_unit-2.true))
+
+pub returns : goal.returns
+returns c =
+    let low = prefix-below (has c.args.set.now) c.first_missing-limit.result c.first_missing-limit.ensures.below c.args.units.now c.args.position _ c.requires c.end_of_below-end.ensures in
+    c.end_of_single_run.ensures ∙ low.1
