@@ -65,7 +65,11 @@ pub(crate) fn end_of_below<L: Lanes, const IN_CALL: bool>(
     if below != LANES {
         return position + below;
     }
-    end_of_long_run::<L, IN_CALL>(units, position + LANES, bound)
+    let next = position + LANES;
+    if next == len {
+        return next;
+    }
+    end_of_long_run::<L, IN_CALL>(units, next, bound)
 }
 
 /// Returns the end of the units from a position on that are all below the bound, in a call or not.
