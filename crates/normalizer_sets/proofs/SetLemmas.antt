@@ -1,15 +1,14 @@
 -- The bits of sets of characters.
-use Rattle.std.proofs.Common.{◌≡◌, ◌≢◌, ℕ, ◌+◌, zero, suc, ◌*◌, ◌/◌, ◌%◌, ◌^◌, ◌<◌, ◌≤◌, ◌⊎◌, ◌&&◌, ◌==◌, Bool, ◌-◌, true, false, inl, inr, length, List, [], ◌∷◌, ◌++◌, take, drop, get_or, bit_and, arith, refl, ap, sym, ◌∙◌, zero-add}
+use Rattle.std.proofs.Common.{◌≡◌, ◌≢◌, ℕ, ◌+◌, ◌*◌, ◌/◌, ◌%◌, ◌<◌, ◌≤◌, ◌⊎◌, ◌&&◌, ◌==◌, Bool, ◌-◌, true, false, inl, inr, length, List, [], ◌∷◌, ◌++◌, take, drop, get_or, arith, refl, ap, sym, ◌∙◌, zero-add}
 use Rattle.std.specs.Int.{bit_at}
 use Rattle.std.proofs.Math.ListN.{get_or-eq_default}
-use Rattle.std.proofs.lemmas.Nat.Bits.{bit_at-zero, bit_at-lt, bit_at_and, bit_at_lowest}
-use Rattle.std.specs.Prelude.{min}
+use Rattle.std.proofs.lemmas.Nat.Bits.{bit_at-zero}
 use Rattle.std.proofs.lemmas.List.{get_or-take, get_or-drop, ext_get_or, get_or_push, get_or_append_left, length_push}
 use Rattle.std.proofs.lemmas.List.FromFn.{get_or-map-range_with_len, length-map-range_with_len}
 use Rattle.std.proofs.lemmas.Bool.{cond-false, le-ltb, cases_Bool, cases_lt, and_left, and_right, true≢false}
 use Rattle.std.proofs.lemmas.Bool.Decides.{nat_tests}
 use Rattle.normalizer_sets.specs.CharacterSets.{has, has_bit, may_have}
-use Rattle.normalizer_sets.specs.inner.Bits.{all_words, place_of, ArePages, CharactersOnly, HasPageAt, IsKept, IsSet}
+use Rattle.normalizer_sets.specs.inner.Bits.{all_words, place_of, ArePages, CharactersOnly, IsKept, IsSet}
 
 -- which numbers a set may have
 pub may_have-character : (n : ℕ) → n < 0x110000 → (n < 0xD800) ⊎ (0xDFFF < n) → n ≢ 0xFFFD → may_have n ≡ true
@@ -38,29 +37,6 @@ has_bit-at words block place word below is =
     let d : (64 * block + place) / 64 ≡ block = omega arith in
     let m : (64 * block + place) % 64 ≡ place = omega arith in
     rw (d, m, is) refl
-
--- the lowest bit after a shift
-pub bit_at-from : (word k : ℕ) → bit_at (word / 2 ^ k) 0 ≡ bit_at word k
-bit_at-from word k = bit_at_lowest (word / 2 ^ k)
-
-least_one : (x y : ℕ) → x < 2 → y < 2 → (min x y == 1) ≡ ((x == 1) && (y == 1))
-least_one zero zero _ _ = refl
-least_one zero (suc zero) _ _ = refl
-least_one (suc zero) zero _ _ = refl
-least_one (suc zero) (suc zero) _ _ = refl
-least_one (suc (suc x)) y h _ = absurd (omega arith)
-least_one zero (suc (suc y)) _ h = absurd (omega arith)
-least_one (suc zero) (suc (suc y)) _ h = absurd (omega arith)
-
--- the lowest bits of words together
-lowest_of_two : (a b : ℕ) → (bit_at (bit_and a b) 0 == 1) ≡ ((bit_at a 0 == 1) && (bit_at b 0 == 1))
-lowest_of_two a b = ap (λ n. n == 1) (bit_at_and a b 0) ∙ least_one (bit_at a 0) (bit_at b 0) (bit_at-lt a 0) (bit_at-lt b 0)
-
-pub lowest_of_four : (a b c d : ℕ) → (bit_and (bit_and (bit_and a b) c) d % 2 == 1) ≡ ((((bit_at a 0 == 1) && (bit_at b 0 == 1)) && (bit_at c 0 == 1)) && (bit_at d 0 == 1))
-lowest_of_four a b c d =
-    ap (λ n. n == 1) (sym (bit_at_lowest (bit_and (bit_and (bit_and a b) c) d)))
-    ∙ lowest_of_two (bit_and (bit_and a b) c) d
-    ∙ ap (λ x. x && (bit_at d 0 == 1)) (lowest_of_two (bit_and a b) c ∙ ap (λ x. x && (bit_at c 0 == 1)) (lowest_of_two a b))
 
 -- the bit at a place of a word of the set
 pub has_bit-at_place : (words pages : List ℕ) (block place word : ℕ) → block < 17408 → place < 64 → get_or words (place_of pages block) 0 ≡ word

@@ -102,27 +102,6 @@ impl CharacterSet {
         self.has_at((unit / 64) as usize, (unit % 64) as u32)
     }
 
-    /// Returns whether the set has each of four 16-bit units as a character. There is one branch for all four.
-    #[inline(always)]
-    pub fn has_four(&self, first: u16, second: u16, third: u16, fourth: u16) -> bool
-        ensures { result ≡ (has self.now first && has self.now second && has self.now third
-            && has self.now fourth) }
-    {
-        let bits = self.bits_from(first)
-            & self.bits_from(second)
-            & self.bits_from(third)
-            & self.bits_from(fourth);
-        bits % 2 == 1
-    }
-
-    /// The bits of a block from that of a unit on.
-    #[inline(always)]
-    fn bits_from(&self, unit: u16) -> u64
-        ensures { (bit_at result 0 == 1) ≡ has self.now unit }
-    {
-        self.words[(unit / 64) as usize] >> (unit % 64) as u32
-    }
-
     /// Returns whether the set has the character at a place of a block of 64.
     #[inline(always)]
     pub fn has_at(&self, block: usize, place: u32) -> bool

@@ -1,5 +1,5 @@
 //! Passing over characters that are all in a set.
-ghost use Rattle.std.specs.Prelude.{◌≡◌, ◌+◌, ◌<◌, ◌≤◌, ℕ, List, length, take, drop, slice_index, min, nat_lt};
+ghost use Rattle.std.specs.Prelude.{◌≡◌, ◌+◌, ◌<◌, ◌≤◌, ℕ, List, length, take, drop, slice_index, min, nat_lt, IsTrue};
 ghost use Rattle.std.specs.List.{prefix_len};
 ghost use Rattle.normalizer_sets.specs.CharacterSets.{has};
 ghost use Rattle.normalizer_text.specs.DecodingSteps.{steps, IsBoundary};
@@ -68,28 +68,30 @@ pub(crate) fn end_of_members<M: Members>(units: M, position: usize, set: &Charac
 {
     units.low_units_are_of_low_characters();
     let limit = units.low_unit(set.first_missing());
-    let mut end = units.end_of_below(position, limit);
+    let mut end = position;
     while end < units.len() {
-        let width = units.member_at(end, set);
-        if width == 0 {
-            return end;
-        }
-        end += width;
         // A single low unit, as a space between words, is looked up faster than a vector is read.
         if begins_low_run(units, end, limit) {
             end = units.end_of_below(end, limit);
+        } else {
+            let width = units.member_at(end, set);
+            if width == 0 {
+                return end;
+            }
+            end += width;
         }
     }
     end
 }
 
-/// Whether there are two units at a position that are both below a limit.
+/// Whether the unit at a position and the one after it are below a limit.
 #[inline(always)]
-fn begins_low_run<M: Members>(units: M, position: usize, limit: u32) -> bool {
-    let len = units.len();
-    position < len
-        && len - position > 1
-        && units.is_below_at(position, limit)
+fn begins_low_run<M: Members>(units: M, position: usize, limit: u32) -> bool
+    requires { position < length (M.units units) }
+    ensures { IsTrue result → slice_index (M.units units) position < limit }
+{
+    units.is_below_at(position, limit)
+        && units.len() - position > 1
         && units.is_below_at(position + 1, limit)
 }
 
@@ -192,26 +194,51 @@ fn end_of_pair_members(units: &[u16], position: usize, set: &CharacterSet) -> us
     end
 }
 
-/// Returns the end of the units from a position on that are members by themselves.
+/// Returns the end of the units from a position on that are members by themselves. Low ones, and then none or one, as a
+/// space between others, are passed over without a call.
 #[inline(always)]
 fn end_of_single_members(units: &[u16], position: usize, set: &CharacterSet) -> usize
     requires { position ≤ length units.now }
     ensures { result ≡ position + prefix_len (has set.now) (drop position units.now) }
 {
     let limit = set.first_missing();
-    let mut end = scan::end_of_below::<&[u16], false>(units, position, limit);
-    if end < units.len() && !set.has_unit(units[end]) {
+    let end = scan::end_of_below::<&[u16], true>(units, position, limit);
+    if end == units.len() {
         return end;
     }
+    if !set.has_unit(units[end]) {
+        return end;
+    }
+    let next = end + 1;
+    if next == units.len() {
+        return next;
+    }
+    if !set.has_unit(units[next]) {
+        return next;
+    }
+    end_of_single_run(units, end, set)
+}
+
+/// Returns the same end of more units. It isn't inlined, so that its loops have the registers for themselves.
+#[inline(never)]
+fn end_of_single_run(units: &[u16], position: usize, set: &CharacterSet) -> usize
+    requires { position ≤ length units.now }
+    ensures { result ≡ position + prefix_len (has set.now) (drop position units.now) }
+{
+    let limit = set.first_missing();
+    let mut end = position;
     while units.len() - end >= GROUP {
-        let members = members_in_group(units, end, set);
-        if members != GROUP {
-            return end + members;
-        }
-        let is_low = is_low_group(units, end, limit);
-        end += GROUP;
-        if is_low {
-            end = scan::end_of_below::<&[u16], true>(units, end, limit);
+        if is_before_low_run(units, end, limit) {
+            if !set.has_unit(units[end]) {
+                return end;
+            }
+            end = scan::end_of_below::<&[u16], true>(units, end + 1, limit);
+        } else {
+            let members = members_in_group(units, end, set);
+            if members != GROUP {
+                return end + members;
+            }
+            end += GROUP;
         }
     }
     while end < units.len() && set.has_unit(units[end]) {
@@ -230,26 +257,23 @@ fn members_in_group(units: &[u16], position: usize, set: &CharacterSet) -> usize
     let second = units[position + 1];
     let third = units[position + 2];
     let fourth = units[position + 3];
-    if set.has_four(first, second, third, fourth) {
-        4
-    } else if !set.has_unit(first) {
+    if !set.has_unit(first) {
         0
     } else if !set.has_unit(second) {
         1
     } else if !set.has_unit(third) {
         2
-    } else {
+    } else if !set.has_unit(fourth) {
         3
+    } else {
+        4
     }
 }
 
-/// Whether the four units at a position are all below a limit.
+/// Whether the second and the third of the four units at a position are below a limit.
 #[inline(always)]
-fn is_low_group(units: &[u16], position: usize, limit: u32) -> bool
+fn is_before_low_run(units: &[u16], position: usize, limit: u32) -> bool
     requires { position + GROUP ≤ length units.now }
 {
-    u32::from(units[position + 3]) < limit
-        && u32::from(units[position]) < limit
-        && u32::from(units[position + 1]) < limit
-        && u32::from(units[position + 2]) < limit
+    u32::from(units[position + 1]) < limit && u32::from(units[position + 2]) < limit
 }

@@ -10,6 +10,8 @@ use std::simd::prelude::*;
 const LANES: usize = 16;
 /// How many units each vector after it holds.
 const MORE_LANES: usize = 32;
+/// How many units the vector holds for which fewer than those of the first are left.
+const FEWER_LANES: usize = 8;
 
 /// Units that are compared with a bound by a vector, or one alone.
 pub(crate) trait Lanes: Copy {
@@ -28,7 +30,12 @@ pub(crate) trait Lanes: Copy {
         requires { position + LANES ≤ length (units self) }
         ensures { result ≡ leading_below bound (take LANES (drop position (units self))) };
 
-    /// Returns the same of a vector after it.
+    /// Returns the same of the vector for which fewer are left.
+    fn fewer_lanes_below(self, position: usize, bound: u32) -> usize
+        requires { position + FEWER_LANES ≤ length (units self) }
+        ensures { result ≡ leading_below bound (take FEWER_LANES (drop position (units self))) };
+
+    /// Returns the same of a vector after the first.
     fn more_lanes_below(self, position: usize, bound: u32) -> usize
         requires { position + MORE_LANES ≤ length (units self) }
         ensures { result ≡ leading_below bound (take MORE_LANES (drop position (units self))) };
@@ -48,18 +55,21 @@ pub(crate) fn end_of_below<L: Lanes, const IN_CALL: bool>(
     ensures { result ≡ position + leading_below bound (drop position (L.units units)) }
 {
     let len = units.len();
-    let mut end = position;
-    if end < len && !units.is_below(end, bound) {
-        return end;
+    if position < len && !units.is_below(position, bound) {
+        return position;
     }
-    if len - end >= LANES {
-        let below = units.lanes_below(end, bound);
-        if below != LANES {
-            return end + below;
-        }
-        end += LANES;
+    if len - position < LANES {
+        return end_of_fewer(units, position, bound);
     }
-    end_of_long_run::<L, IN_CALL>(units, end, bound)
+    let below = units.lanes_below(position, bound);
+    if below != LANES {
+        return position + below;
+    }
+    let next = position + LANES;
+    if next == len {
+        return next;
+    }
+    end_of_long_run::<L, IN_CALL>(units, next, bound)
 }
 
 /// Returns the end of the units from a position on that are all below the bound, in a call or not.
@@ -84,7 +94,7 @@ fn end_in_call<L: Lanes>(units: L, position: usize, bound: u32) -> usize
     end_by_vectors(units, position, bound)
 }
 
-/// Returns the same end, by vectors and then unit by unit.
+/// Returns the same end, by vectors.
 #[inline(always)]
 fn end_by_vectors<L: Lanes>(units: L, position: usize, bound: u32) -> usize
     requires { position ≤ length (L.units units) }
@@ -100,7 +110,49 @@ fn end_by_vectors<L: Lanes>(units: L, position: usize, bound: u32) -> usize
         // By a constant, so that the processor can load the next vector before it has compared this one.
         end += MORE_LANES;
     }
-    while end < len && units.is_below(end, bound) {
+    end_of_few(units, end, bound)
+}
+
+/// Returns the same end, if fewer units are left than a vector after the first holds.
+#[inline(always)]
+fn end_of_few<L: Lanes>(units: L, position: usize, bound: u32) -> usize
+    requires { position ≤ length (L.units units) }
+    ensures { result ≡ position + leading_below bound (drop position (L.units units)) }
+{
+    if units.len() - position < LANES {
+        return end_of_fewer(units, position, bound);
+    }
+    let below = units.lanes_below(position, bound);
+    if below != LANES {
+        return position + below;
+    }
+    end_of_fewer(units, position + LANES, bound)
+}
+
+/// Returns the same end, if fewer units are left than the first vector holds.
+#[inline(always)]
+fn end_of_fewer<L: Lanes>(units: L, position: usize, bound: u32) -> usize
+    requires { position ≤ length (L.units units) }
+    ensures { result ≡ position + leading_below bound (drop position (L.units units)) }
+{
+    if units.len() - position < FEWER_LANES {
+        return end_by_units(units, position, bound);
+    }
+    let below = units.fewer_lanes_below(position, bound);
+    if below != FEWER_LANES {
+        return position + below;
+    }
+    end_by_units(units, position + FEWER_LANES, bound)
+}
+
+/// Returns the same end, unit by unit.
+#[inline(always)]
+fn end_by_units<L: Lanes>(units: L, position: usize, bound: u32) -> usize
+    requires { position ≤ length (L.units units) }
+    ensures { result ≡ position + leading_below bound (drop position (L.units units)) }
+{
+    let mut end = position;
+    while end < units.len() && units.is_below(end, bound) {
         end += 1;
     }
     end
@@ -151,6 +203,11 @@ impl<'a> Lanes for &'a [u8] {
     }
 
     #[inline(always)]
+    fn fewer_lanes_below(self, position: usize, bound: u32) -> usize {
+        byte_lanes_below::<FEWER_LANES>(self, position, bound)
+    }
+
+    #[inline(always)]
     fn more_lanes_below(self, position: usize, bound: u32) -> usize {
         byte_lanes_below::<MORE_LANES>(self, position, bound)
     }
@@ -186,6 +243,11 @@ impl<'a> Lanes for &'a [u16] {
     #[inline(always)]
     fn lanes_below(self, position: usize, bound: u32) -> usize {
         unit_lanes_below::<LANES>(self, position, bound)
+    }
+
+    #[inline(always)]
+    fn fewer_lanes_below(self, position: usize, bound: u32) -> usize {
+        unit_lanes_below::<FEWER_LANES>(self, position, bound)
     }
 
     #[inline(always)]

@@ -1,4 +1,4 @@
-use Rattle.std.proofs.Common.{◌≡◌, ◌+◌, ◌*◌, ◌<◌, length, length-take-le, get_or, arith, sym, ap, subst, ◌∙◌}
+use Rattle.std.proofs.Common.{◌≡◌, ◌+◌, ◌*◌, length, length-take-le, get_or, arith, sym, ap, subst, ◌∙◌}
 use Rattle.std.proofs.lemmas.List.{get_or-take}
 use Rattle.normalizer_sets.proofs.SetLemmas.{all_words-packed, get_or-range, ArePages-packed, IsPackedTo, IsPackedTo-more}
 use Rattle.normalizer_sets.proofs.packed.Goals as goal

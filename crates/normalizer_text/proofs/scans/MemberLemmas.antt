@@ -13,7 +13,7 @@ use Rattle.normalizer_text.specs.declared.decoding_step.Step.{Step}
 use Rattle.normalizer_text.specs.DecodingSteps.{read, replacement_step, steps, width_of, IsBoundary}
 use Rattle.normalizer_text.specs.Encodings.{Encoding, first_in}
 use Rattle.normalizer_text.specs.Scans.{leading_below, width_in, width_within, EndsLowCharacters}
-use Rattle.normalizer_text.specs.Utf16.{first_of_utf16, is_high, is_low, is_single, pair_value, unpaired_step}
+use Rattle.normalizer_text.specs.Utf16.{first_of_utf16, is_high, is_low, pair_value, unpaired_step}
 use Rattle.normalizer_text.specs.inner.PairMembers.{width_of_pairs_in}
 use Rattle.normalizer_text.specs.Utf8.{allows, continuation, first_of_utf8, matched_count, scalar_value}
 use Rattle.normalizer_text.proofs.scans.LowLemmas.{first-ascii_byte}

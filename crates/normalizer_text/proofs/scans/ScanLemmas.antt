@@ -75,6 +75,24 @@ module _ (bound : ℕ) (units : List ℕ) (at n below : ℕ) (room : at + n ≤ 
       let rest = apart ∙ cond-true _ _ _ (eq-eqb below n whole) in
       (omega arith, omega (arith, rest))
 
+-- if not all units of a vector are below the bound, fewer than it holds are
+pub leading_below-few : (bound : ℕ) (units : List ℕ) (at n below : ℕ) → at + n ≤ length units → below ≡ leading_below bound (take n (drop at units)) → (below ≡ n → ⊥) → below < n
+leading_below-few bound units at n below room counted some =
+    let long : length (take n (drop at units)) ≡ n = length-chunk at n units room in
+    let most = leading_below-le bound (take n (drop at units)) in
+    omega arith
+
+-- so its end is found
+pub end-within : (bound : ℕ) (units : List ℕ) (at n below : ℕ) → at + n ≤ length units → below ≡ leading_below bound (take n (drop at units)) → (below ≡ n → ⊥)
+    → at + below ≡ at + leading_below bound (drop at units)
+end-within bound units at n below room counted some =
+    omega (arith, leading_below-within bound units at n below room counted (leading_below-few bound units at n below room counted some))
+
+-- or it is further on
+pub end-past : (bound : ℕ) (units : List ℕ) (at n below end : ℕ) → at + n ≤ length units → below ≡ leading_below bound (take n (drop at units)) → below ≡ n
+    → end ≡ at + n + leading_below bound (drop (at + n) units) → end ≡ at + leading_below bound (drop at units)
+end-past bound units at n below end room counted all is = omega (arith, is, (leading_below-past bound units at n below room counted (omega arith)).1)
+
 prefix_len-same : (p q : ℕ → Bool) → ((x : ℕ) → p x ≡ q x) → (xs : List ℕ) → prefix_len p xs ≡ prefix_len q xs
 prefix_len-same p q same [] = refl
 prefix_len-same p q same (x ∷ xs) = ap (λ n. cond (p x) (1 + n) 0) (prefix_len-same p q same xs) ∙ ap (λ b. cond b (1 + prefix_len q xs) 0) (same x)

@@ -1,4 +1,4 @@
-use Rattle.std.proofs.Common.{◌≡◌, ◌+◌, ◌<◌, ◌≤◌, length, arith, sym, ◌∙◌}
+use Rattle.std.proofs.Common.{◌+◌, ◌<◌, ◌≤◌, length, arith, sym, ◌∙◌}
 use Rattle.normalizer_text.proofs.scans.MemberLemmas.{pairs-none, pairs-short, pairs-some}
 use Rattle.normalizer_text.proofs.members.end_of_pair_members.Goals as goal
 

@@ -1,30 +1,56 @@
-use Rattle.std.proofs.Common.{◌+◌, ◌≤◌, length, arith, sym, ◌∙◌}
-use Rattle.std.proofs.lemmas.List.Sums.{prefix_len-drop_no}
+use Rattle.std.proofs.Common.{◌+◌, ◌<◌, length, arith, sym, ◌∙◌}
+use Rattle.std.proofs.lemmas.List.Sums.{prefix_len-drop_all, prefix_len-drop_no, prefix_len-drop_yes}
 use Rattle.normalizer_sets.specs.CharacterSets.{has}
-use Rattle.normalizer_text.proofs.scans.PrefixLemmas.{prefix-below, prefix-past}
+use Rattle.normalizer_text.proofs.scans.PrefixLemmas.{prefix-below}
 use Rattle.normalizer_text.proofs.members.end_of_single_members.Goals as goal
 
-pub loop-end-init : goal.loop-end-init
-loop-end-init c =
-    prefix-below (has c.args.set.now) c.first_missing-limit.result c.first_missing-limit.ensures.below c.args.units.now c.args.position _ c.requires c.end_of_below-end.ensures
+pub offset_bounds-units-end : goal.offset_bounds-units-end
+offset_bounds-units-end c =
+    let low = prefix-below (has c.args.set.now) c.first_missing-limit.result c.first_missing-limit.ensures.below c.args.units.now c.args.position _ c.requires c.end_of_below-end.ensures in
+    omega (arith, low.0)
+
+pub bounds-units-end : goal.bounds-units-end
+bounds-units-end c =
+    let low = prefix-below (has c.args.set.now) c.first_missing-limit.result c.first_missing-limit.ensures.below c.args.units.now c.args.position _ c.requires c.end_of_below-end.ensures in
+    omega (arith, low.0)
+
+pub overflow_add-next : goal.overflow_add-next
+overflow_add-next c =
+    let low = prefix-below (has c.args.set.now) c.first_missing-limit.result c.first_missing-limit.ensures.below c.args.units.now c.args.position _ c.requires c.end_of_below-end.ensures in
+    omega (arith, low.0)
+
+pub offset_bounds-units-next : goal.offset_bounds-units-next
+offset_bounds-units-next c =
+    let low = prefix-below (has c.args.set.now) c.first_missing-limit.result c.first_missing-limit.ensures.below c.args.units.now c.args.position _ c.requires c.end_of_below-end.ensures in
+    omega (arith, low.0)
+
+pub returns-then-end-units : goal.returns-then-end-units
+returns-then-end-units c =
+    let low = prefix-below (has c.args.set.now) c.first_missing-limit.result c.first_missing-limit.ensures.below c.args.units.now c.args.position _ c.requires c.end_of_below-end.ensures in
+    omega (arith, low.1, prefix_len-drop_all (has c.args.set.now) c.args.units.now c.end_of_below-end.result (omega arith))
 
 pub returns-then-not-has_unit : goal.returns-then-not-has_unit
 returns-then-not-has_unit c =
     let low = prefix-below (has c.args.set.now) c.first_missing-limit.result c.first_missing-limit.ensures.below c.args.units.now c.args.position _ c.requires c.end_of_below-end.ensures in
-    let none = prefix_len-drop_no (has c.args.set.now) c.args.units.now c.end_of_below-end.result 0 c.if-end-units.true (sym c.has_unit.ensures ∙ c.if-not-has_unit.true) in
-    omega (arith, low.1, none)
+    let some : c.end_of_below-end.result < length c.args.units.now = omega (arith, low.0) in
+    omega (arith, low.1, prefix_len-drop_no (has c.args.set.now) c.args.units.now c.end_of_below-end.result 0 some (sym c.has_unit.ensures ∙ c.if-not-has_unit.true))
 
-pub loop-end-preserved-then-is_low : goal.loop-end-preserved-then-is_low
-loop-end-preserved-then-is_low c =
-    let units = c.args.units.now in
-    let room : c.loop-end.end + 4 ≤ length units = omega arith in
-    let past = prefix-past (has c.args.set.now) units c.loop-end.end 4 c.members_in_group-members.result room c.members_in_group-members.ensures c.if-members-ne-GROUP.false in
-    let low = prefix-below (has c.args.set.now) c.first_missing-limit.result c.first_missing-limit.ensures.below units (c.loop-end.end + 4) _ room c.end_of_below-end-then-is_low.ensures in
-    (low.0, omega (arith, low.1, past))
+pub returns-then-next-units : goal.returns-then-next-units
+returns-then-next-units c =
+    let low = prefix-below (has c.args.set.now) c.first_missing-limit.result c.first_missing-limit.ensures.below c.args.units.now c.args.position _ c.requires c.end_of_below-end.ensures in
+    let some : c.end_of_below-end.result < length c.args.units.now = omega (arith, low.0) in
+    let one = prefix_len-drop_yes (has c.args.set.now) c.args.units.now c.end_of_below-end.result 0 some (sym c.has_unit.ensures ∙ c.if-not-has_unit.false) in
+    omega (arith, low.1, one, prefix_len-drop_all (has c.args.set.now) c.args.units.now (c.end_of_below-end.result + 1) (omega arith))
 
-pub loop-end-preserved : goal.loop-end-preserved
-loop-end-preserved c =
-    let units = c.args.units.now in
-    let room : c.loop-end.end + 4 ≤ length units = omega arith in
-    let past = prefix-past (has c.args.set.now) units c.loop-end.end 4 c.members_in_group-members.result room c.members_in_group-members.ensures c.if-members-ne-GROUP.false in
-    (room, omega (arith, past))
+pub returns-then-not-has_unit-2 : goal.returns-then-not-has_unit-2
+returns-then-not-has_unit-2 c =
+    let low = prefix-below (has c.args.set.now) c.first_missing-limit.result c.first_missing-limit.ensures.below c.args.units.now c.args.position _ c.requires c.end_of_below-end.ensures in
+    let first : c.end_of_below-end.result < length c.args.units.now = omega (arith, low.0) in
+    let some : c.end_of_below-end.result + 1 < length c.args.units.now = omega (arith, low.0) in
+    let one = prefix_len-drop_yes (has c.args.set.now) c.args.units.now c.end_of_below-end.result 0 first (sym c.has_unit.ensures ∙ c.if-not-has_unit.false) in
+    omega (arith, low.1, one, prefix_len-drop_no (has c.args.set.now) c.args.units.now (c.end_of_below-end.result + 1) 0 some (sym c.has_unit-2.ensures ∙ c.if-not-has_unit-2.true))
+
+pub returns : goal.returns
+returns c =
+    let low = prefix-below (has c.args.set.now) c.first_missing-limit.result c.first_missing-limit.ensures.below c.args.units.now c.args.position _ c.requires c.end_of_below-end.ensures in
+    c.end_of_single_run.ensures ∙ low.1

@@ -1,4 +1,4 @@
-use Rattle.std.proofs.Common.{◌≡◌, ℕ, ◌+◌, ◌<◌, get_or, arith, sym, ◌∙◌}
+use Rattle.std.proofs.Common.{ℕ, ◌<◌, get_or, arith, sym, ◌∙◌}
 use Rattle.normalizer_text.specs.Encodings.{Encoding}
 use Rattle.normalizer_text.proofs.scans.MemberLemmas.{alone-end, alone-passed, members-end, pairs-passed}
 use Rattle.normalizer_text.proofs.steps.StepBoundaries.{boundary-le}

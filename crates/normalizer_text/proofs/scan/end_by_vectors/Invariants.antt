@@ -10,11 +10,3 @@ invariant-loop-end g l =
 
 abbrev pub decreases-loop-end : goal.decreases-loop-end
 decreases-loop-end g l = length (g.L.Lanes.units l.units) - l.end
-
-abbrev pub invariant-loop-end-2 : goal.invariant-loop-end-2
-invariant-loop-end-2 g l =
-    let units = g.L.Lanes.units l.units in
-    (l.end ≤ length units) × (l.end + leading_below l.bound (drop l.end units) ≡ l.position + leading_below l.bound (drop l.position units))
-
-abbrev pub decreases-loop-end-2 : goal.decreases-loop-end-2
-decreases-loop-end-2 g l = length (g.L.Lanes.units l.units) - l.end

@@ -1,18 +1,30 @@
-use Rattle.std.proofs.Common.{◌≡◌, ◌+◌, ◌≤◌, ◌∙◌, length, drop, refl, arith}
-use Rattle.normalizer_text.specs.Scans.{leading_below}
-use Rattle.normalizer_text.proofs.scans.ScanLemmas.{leading_below-past}
+use Rattle.std.proofs.Common.{◌+◌, ◌≤◌, length, arith}
+use Rattle.normalizer_text.proofs.scans.ScanLemmas.{end-past, end-within, leading_below-drop_all, leading_below-few}
 use Rattle.normalizer_text.proofs.scan.end_of_below.Goals as goal
-use Rattle.normalizer_text.proofs.scan.end_of_below.Goals.{then-len-end-ge-LANES+else-below-ne-LANES, else-len-end-ge-LANES}
+
+pub overflow_add-result : goal.overflow_add-result
+overflow_add-result g c =
+    let units = g.L.Lanes.units c.args.units in
+    let room : c.args.position + 16 ≤ length units = omega arith in
+    let few = leading_below-few c.args.bound units c.args.position 16 _ room c.lanes_below-below.ensures c.if-below-ne-LANES.true in
+    omega arith
+
+pub returns-then-below-ne-LANES : goal.returns-then-below-ne-LANES
+returns-then-below-ne-LANES g c =
+    let units = g.L.Lanes.units c.args.units in
+    let room : c.args.position + 16 ≤ length units = omega arith in
+    end-within c.args.bound units c.args.position 16 _ room c.lanes_below-below.ensures c.if-below-ne-LANES.true
 
 pub returns : goal.returns
 returns g c =
     let units = g.L.Lanes.units c.args.units in
-    let end = c.if-len-end-ge-LANES.end in
-    let same : end + leading_below c.args.bound (drop end units) ≡ c.args.position + leading_below c.args.bound (drop c.args.position units) =
-    elim c.if-len-end-ge-LANES.branch [
-      | then-len-end-ge-LANES+else-below-ne-LANES w ↦
-          let room : c.args.position + 16 ≤ length units = omega arith in
-          rw w.end-is (leading_below-past c.args.bound units c.args.position 16 w.lanes_below-below.result room w.lanes_below-below.ensures (omega arith)).1
-      | else-len-end-ge-LANES w ↦ rw w.end-is refl
-    ] in
-    c.end_of_long_run.ensures ∙ same
+    let room : c.args.position + 16 ≤ length units = omega arith in
+    end-past c.args.bound units c.args.position 16 c.lanes_below-below.result _ room c.lanes_below-below.ensures c.if-below-ne-LANES.false c.end_of_long_run.ensures
+
+pub returns-then-next-len : goal.returns-then-next-len
+returns-then-next-len g c =
+    let units = g.L.Lanes.units c.args.units in
+    let room : c.args.position + 16 ≤ length units = omega arith in
+    let all : length units ≤ c.args.position + 16 = omega (arith, c.len-len.ensures, c.if-next-len.true) in
+    end-past c.args.bound units c.args.position 16 c.lanes_below-below.result (c.args.position + 16) room c.lanes_below-below.ensures c.if-below-ne-LANES.false
+    (omega (arith, leading_below-drop_all c.args.bound units (c.args.position + 16) all))

@@ -1,4 +1,4 @@
-use Rattle.std.proofs.Common.{◌<◌, length, get_or, arith, refl, sym, ◌∙◌}
+use Rattle.std.proofs.Common.{get_or, arith, refl, sym, ◌∙◌}
 use Rattle.std.proofs.lemmas.Bool.{cond-false, cond-true, true≢false}
 use Rattle.normalizer_text.proofs.scans.MemberLemmas.{member-no_three, member-short_three, member-three, three-high}
 use Rattle.normalizer_text.proofs.sequences.SequenceLemmas.{allows_from}

@@ -1,7 +1,7 @@
 use Rattle.std.proofs.Common.{◌≡◌, ◌+◌, ◌-◌, ◌≤◌, length, drop}
 use Rattle.std.specs.List.{prefix_len}
 use Rattle.normalizer_sets.specs.CharacterSets.{has}
-use Rattle.normalizer_text.proofs.members.end_of_single_members.Given as goal
+use Rattle.normalizer_text.proofs.members.end_of_single_run.Given as goal
 
 -- the units passed over are members
 abbrev pub invariant-loop-end : goal.invariant-loop-end
