@@ -3,7 +3,9 @@ ghost use Rattle.std.specs.Prelude.{◌≡◌, All, IfOk};
 ghost use Rattle.std.specs.Iterator.{IsFinite};
 ghost use Rattle.normal_forms.specs.Forms.{nfc};
 ghost use Rattle.normalizer_tables.specs.Ignored.{ignored_list};
-ghost use Rattle.normalizer_tables.specs.PairConditions.{is_composing_passthrough, HasOrderedLists};
+ghost use Rattle.normalizer_tables.specs.Characters.{word_of};
+ghost use Rattle.normalizer_tables.specs.PairConditions.{is_composing_passthrough, is_taken_as_boundary};
+ghost use Rattle.normalizer_tables.specs.PairConditions.{HasOrderedLists};
 ghost use Rattle.normalizer_tables.specs.declared.characters.IgnoredCharacters.TheVariants.{Dropped};
 ghost use Rattle.normalizer_iterators.specs.Iterating.{YieldsFormBy};
 ghost use Rattle.icu_normalizer.specs.Serving.{ServesComposing};
@@ -47,13 +49,31 @@ impl<'a> ComposingForm<'a> {
     }
 
     /// Whether a composing loop passes a character.
-    #[tactic(auto, unfolding(normalizer_tables::specs::PairConditions::is_composing_passthrough))]
     pub(crate) fn passes(&self, character: char) -> bool
         ensures { result ≡ is_composing_passthrough self.now.characters self.now.bounds character }
     {
-        let word = self.characters.word_of(character);
+        self.passes_by(character, self.characters.word_of(character))
+    }
+
+    /// The same, by its word.
+    #[tactic(auto, unfolding(normalizer_tables::specs::PairConditions::is_composing_passthrough))]
+    #[inline(always)]
+    pub(crate) fn passes_by(&self, character: char, word: u32) -> bool
+        requires { word ≡ word_of self.now.characters character }
+        ensures { result ≡ is_composing_passthrough self.now.characters self.now.bounds character }
+    {
         (!is_non_round_trip(word) && !is_backward_combining(word))
             || (character as u32) < self.bounds.composition
+    }
+
+    /// Whether a character is taken to begin a new part, by its word.
+    #[tactic(auto, unfolding(normalizer_tables::specs::PairConditions::is_taken_as_boundary))]
+    #[inline(always)]
+    pub(crate) fn begins_by(&self, character: char, word: u32) -> bool
+        requires { word ≡ word_of self.now.characters character }
+        ensures { result ≡ is_taken_as_boundary self.now.characters self.now.bounds character }
+    {
+        !is_backward_combining(word) || (character as u32) < self.bounds.composition
     }
 }
 

@@ -1,6 +1,6 @@
 //! What the decomposing and the composing form differ in, as one trait: every call on text is written once over it.
 ghost use Rattle.std.specs.Prelude.{◌≡◌, ◌<◌, ◌||◌, ◌∷◌, [], nat_lt, not, ℕ, Bool, true, false, IfOk, IfSome};
-ghost use Rattle.std.specs.Prelude.{◌≤◌, drop, length, IsTrue, IsOk, IsOkUnless, IsErrOf, Option, Some, None};
+ghost use Rattle.std.specs.Prelude.{◌≤◌, length, IsTrue, IsOk, IsOkUnless, IsErrOf, Option, Some, None};
 ghost use Rattle.std.specs.Prelude.{if◌then◌else◌};
 ghost use Rattle.std.specs.Char.{IsScalar};
 ghost use Rattle.normalizer_sets.specs.CharacterSets.{has};
@@ -15,14 +15,14 @@ ghost use Rattle.normalizer_iterators.specs.Segment.{text};
 ghost use Rattle.icu_normalizer.specs.BoundaryBefore.{HasBoundaryBefore};
 ghost use Rattle.icu_normalizer.specs.Forms.{composing_by, decomposing_by, form_in, form_of, HasShortUnits, MadeForm};
 ghost use Rattle.icu_normalizer.specs.inner.Offences.{IsFirstOrNone};
-ghost use Rattle.icu_normalizer.specs.inner.PassthroughRuns.{IsKeptSegment, CanFollowMark, CanPassThrough};
+ghost use Rattle.icu_normalizer.specs.inner.PassthroughRuns.{IsSeenSegment, CanFollowMark, CanPassThrough};
 ghost use Rattle.icu_normalizer.specs.inner.PassthroughRuns.{composing_class, IsOwnListOfClass};
 ghost use Rattle.icu_normalizer.specs.inner.WrittenParts.{NothingOffered, WritesText};
 
 use crate::boundaries::is_taken_as_boundary;
 use crate::composing_form::ComposingForm;
 use crate::decomposing_form::DecomposingForm;
-use crate::kept::{KeptSegment, composite_of, kept_segment};
+use crate::kept::{SeenSegment, seen_segment};
 use crate::writing::{first_item, write_items};
 use normalizer_iterators::{MarkRun, NormalizeError, SegmentBuffers};
 use normalizer_sets::CharacterSet;
@@ -76,23 +76,16 @@ pub trait Forming {
     fn begins(&self, character: char) -> bool
         ensures { result ≡ beginning self.now character };
 
-    /// Returns the segment that begins with the first step, if it is seen to be well-formed and normalized while it is
-    /// read.
-    fn kept_segment<U: Units>(&self, units: U, first: Step) -> Option<KeptSegment>
-        requires some { 0 < length (U.units units) }
-        requires first { first ≡ first_in U.encoding (U.units units) }
-        ensures kept { let m = made_form self.now in IfSome result (λ kept. IsKeptSegment (beginning self.now)
-            U.encoding m.reading m.form (U.units units) kept.end) }
-        ensures next { IfSome result (λ kept.
-            IfSome kept.next (λ next. next ≡ first_in U.encoding (drop kept.end (U.units units)))) };
+    /// Returns the segment in front of the units, if it is seen to be well-formed and normalized, or to become one
+    /// character, while it is read.
+    fn seen_segment<U: Units>(&self, units: U) -> Option<SeenSegment>
+        requires { 0 < length (U.units units) }
+        ensures { let m = made_form self.now in IfSome result (λ seen. IsSeenSegment (beginning self.now)
+            U.encoding m.reading m.form (U.units units) seen.end seen.becomes) };
 
     /// The form of a character alone, if its list is that.
     fn form_of_one(&self, character: char) -> Option<Members<'_>>
         ensures { IfSome result (λ members. members ≡ form_of (made_form self.now) (character ∷ [])) };
-
-    /// Returns the form of two characters, if that is seen to be one character.
-    fn form_of_two(&self, first: char, second: char) -> Option<char>
-        ensures { IfSome result (λ c. form_of (made_form self.now) (first ∷ second ∷ []) ≡ c ∷ []) };
 
     /// Makes empty buffers for the forms of short texts.
     fn segment_buffers(&self) -> SegmentBuffers
@@ -190,7 +183,8 @@ impl<'a> Forming for DecomposingForm<'a> {
         (character as u32) < self.bounds.decomposition || !self.characters.has_class_form(character)
     }
 
-    fn kept_segment<U: Units>(&self, _units: U, _first: Step) -> Option<KeptSegment> {
+    #[inline(always)]
+    fn seen_segment<U: Units>(&self, _units: U) -> Option<SeenSegment> {
         None
     }
 
@@ -200,10 +194,6 @@ impl<'a> Forming for DecomposingForm<'a> {
             self.characters
                 .members(character, IgnoredCharacters::Dropped),
         )
-    }
-
-    fn form_of_two(&self, _first: char, _second: char) -> Option<char> {
-        None
     }
 
     fn segment_buffers(&self) -> SegmentBuffers {
@@ -252,10 +242,10 @@ impl<'a> Forming for ComposingForm<'a> {
 
     #[tactic(auto, unfolding(crate::specs::inner::PassthroughRuns::class_if_alone, crate::specs::inner::PassthroughRuns::composing_class))]
     fn passthrough_class(&self, character: char) -> Option<u8> {
-        if self.passes(character) {
+        let word = self.characters.word_of(character);
+        if self.passes_by(character, word) {
             return Some(0);
         }
-        let word = self.characters.word_of(character);
         let class = self.characters.class_of_itself(character, word)?;
         if class > 0 && !may_be_second(self.pairs, character) {
             Some(class)
@@ -287,8 +277,8 @@ impl<'a> Forming for ComposingForm<'a> {
     }
 
     #[inline(always)]
-    fn kept_segment<U: Units>(&self, units: U, first: Step) -> Option<KeptSegment> {
-        kept_segment(self, units, first)
+    fn seen_segment<U: Units>(&self, units: U) -> Option<SeenSegment> {
+        seen_segment(self, units)
     }
 
     fn form_of_one(&self, character: char) -> Option<Members<'_>> {
@@ -300,10 +290,6 @@ impl<'a> Forming for ComposingForm<'a> {
         } else {
             None
         }
-    }
-
-    fn form_of_two(&self, first: char, second: char) -> Option<char> {
-        composite_of(self, first, second)
     }
 
     fn segment_buffers(&self) -> SegmentBuffers {

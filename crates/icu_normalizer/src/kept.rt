@@ -1,12 +1,14 @@
-//! Segments of the composing form that stay as they are.
-ghost use Rattle.std.specs.Prelude.{◌≡◌, ◌<◌, ◌≤◌, drop, length, IfSome, IsTrue, Some};
+//! Segments of the composing form that stay as they are, or become one character.
+ghost use Rattle.std.specs.Prelude.{◌≡◌, ◌≢◌, ◌<◌, ◌≤◌, drop, length, IfSome, None, Some};
 ghost use Rattle.normalizer_text.specs.Encodings.{first_in};
 ghost use Rattle.normal_forms.specs.declared.Form.TheVariants.{Composing};
+ghost use Rattle.normalizer_tables.specs.Characters.{word_of};
 ghost use Rattle.normalizer_tables.specs.PairConditions.{is_taken_as_boundary};
 ghost use Rattle.normalizer_tables.specs.Readings.{reading_by};
 ghost use Rattle.normalizer_tables.specs.declared.characters.IgnoredCharacters.TheVariants.{Dropped};
-ghost use Rattle.icu_normalizer.specs.inner.Kept.{IsFirstOfTwo, IsKeptCharacter, IsKeptStarter, StaysMark};
-ghost use Rattle.icu_normalizer.specs.inner.PassthroughRuns.{ComposesTo, IsKeptSegment};
+ghost use Rattle.icu_normalizer.specs.inner.Kept.{IsFirstOfTwo, IsKeptCharacter, IsKeptStarter};
+ghost use Rattle.icu_normalizer.specs.inner.Kept.{IsMarkAfter, JoinsStarter};
+ghost use Rattle.icu_normalizer.specs.inner.PassthroughRuns.{IsSeenSegment};
 
 use crate::composing_form::ComposingForm;
 use crate::forming::Forming;
@@ -15,27 +17,19 @@ use normalizer_tables::compose;
 use normalizer_tables::members::Members;
 use normalizer_text::{Step, Units};
 
-/// A segment that stays as it is: its end, and the step that follows, unless a run may begin there.
+/// A segment that stays as it is, or becomes one character: its end, whether a run may begin there, and that character.
 #[derive(Clone, Copy)]
-pub struct KeptSegment {
+pub struct SeenSegment {
     pub(crate) end: usize,
-    pub(crate) next: Option<Step>,
+    pub(crate) is_before_run: bool,
+    pub(crate) becomes: Option<char>,
 }
 
-impl KeptSegment {
-    /// A segment before a step. A run of characters below the bound may be long.
-    #[inline(always)]
-    fn before(end: usize, bound: u32, step: Step) -> Self
-        ensures end { result.end ≡ end }
-        ensures next { IfSome result.next (λ next. next ≡ step) }
-    {
-        let next = if (step.character as u32) < bound {
-            None
-        } else {
-            Some(step)
-        };
-        KeptSegment { end, next }
-    }
+/// What a character is after a starter and marks: a mark of this class that stays, or what the starter becomes with it.
+#[derive(Clone, Copy)]
+pub(crate) struct Mark {
+    class: u8,
+    joined: Option<char>,
 }
 
 /// A starter that composes to itself, and what its list says of the marks after it.
@@ -63,49 +57,81 @@ impl KeptStarter {
     }
 }
 
-/// Returns the segment that begins with the first step, if it is a starter that composes to itself, and marks after it,
-/// each its own list, in canonical order, each blocked from what it may compose with, or not composing with it.
+/// Returns the segment in front of the units, if it is a starter that composes to itself, and marks after it, each its own
+/// list, in canonical order, each blocked from what it may compose with, or not composing with it. Or if it is such a
+/// starter and a character that composes with it.
 #[inline(always)]
-pub(crate) fn kept_segment<U: Units>(
-    form: &ComposingForm<'_>,
-    units: U,
-    first: Step,
-) -> Option<KeptSegment>
-    requires some { 0 < length (U.units units) }
-    requires first { first ≡ first_in U.encoding (U.units units) }
-    ensures kept { let f = form.now in IfSome result (λ kept.
-        IsKeptSegment (is_taken_as_boundary f.characters f.bounds) U.encoding
-        (reading_by f.characters Dropped f.pairs.now) Composing (U.units units) kept.end) }
-    ensures next { IfSome result (λ kept.
-        IfSome kept.next (λ next. next ≡ first_in U.encoding (drop kept.end (U.units units)))) }
+pub(crate) fn seen_segment<U: Units>(form: &ComposingForm<'_>, units: U) -> Option<SeenSegment>
+    requires { 0 < length (U.units units) }
+    ensures { let f = form.now in IfSome result (λ seen.
+        IsSeenSegment (is_taken_as_boundary f.characters f.bounds) U.encoding
+        (reading_by f.characters Dropped f.pairs.now) Composing (U.units units) seen.end seen.becomes) }
 {
+    let first = units.step_at(0);
     let starter = kept_starter(form, first)?;
     let mut last = 0;
     let mut end = first.width;
     while end < units.len() {
         let step = units.step_at(end);
-        if form.begins(step.character) {
-            return Some(KeptSegment::before(end, form.bounds.composition, step));
+        let word = form.characters.word_of(step.character);
+        if form.begins_by(step.character, word) {
+            return Some(SeenSegment {
+                end,
+                is_before_run: form.passing().contains(step.character),
+                becomes: None,
+            });
         }
-        last = class_that_stays(form, starter, last, step)?;
+        let mark = mark_after(form, starter, last, step, word)?;
+        if mark.joined.is_some() {
+            return joined_segment(form, units, starter, first, end, step, mark);
+        }
+        last = mark.class;
         end += step.width;
     }
-    Some(KeptSegment { end, next: None })
+    Some(SeenSegment {
+        end,
+        is_before_run: false,
+        becomes: None,
+    })
 }
 
-/// Returns what a starter and a character compose to, if each is its own list and they do.
+/// Returns the segment of a starter and a character that joins it, if that comes right after the starter, and nothing
+/// after it.
 #[inline(always)]
-pub(crate) fn composite_of(form: &ComposingForm<'_>, first: char, second: char) -> Option<char>
-    ensures { IfSome result
-        (ComposesTo (reading_by form.now.characters Dropped form.now.pairs.now) first second) }
+fn joined_segment<U: Units>(
+    form: &ComposingForm<'_>,
+    units: U,
+    starter: KeptStarter,
+    first: Step,
+    end: usize,
+    step: Step,
+    mark: Mark,
+) -> Option<SeenSegment>
+    requires some { 0 < length (U.units units) }
+    requires first { first ≡ first_in U.encoding (U.units units) }
+    requires starter { IsKeptStarter (reading_by form.now.characters Dropped form.now.pairs.now) first starter }
+    requires more { end < length (U.units units) }
+    requires step { step ≡ first_in U.encoding (drop end (U.units units)) }
+    requires joined { IfSome mark.joined
+        (JoinsStarter (reading_by form.now.characters Dropped form.now.pairs.now) starter step) }
+    requires joins { mark.joined ≢ None }
+    ensures { let f = form.now in IfSome result (λ seen.
+        IsSeenSegment (is_taken_as_boundary f.characters f.bounds) U.encoding
+        (reading_by f.characters Dropped f.pairs.now) Composing (U.units units) seen.end seen.becomes) }
 {
-    let word = form.characters.word_of(first);
-    if form.characters.class_of_itself(first, word)? != 0 {
+    let len = units.len();
+    if end != first.width {
         return None;
     }
-    let word = form.characters.word_of(second);
-    form.characters.class_of_itself(second, word)?;
-    compose(form.pairs, first, second)
+    let past = end + step.width;
+    if past < len && !form.begins(units.step_at(past).character) {
+        return None;
+    }
+    Some(SeenSegment {
+        end: past,
+        is_before_run: true,
+        becomes: mark.joined,
+    })
 }
 
 /// Returns the starter of a step, if that is no error and the starter composes to itself.
@@ -162,28 +188,64 @@ fn first_of_two(members: &Members<'_>) -> Option<char>
     Some(members.at(0))
 }
 
-/// Returns the class of a mark, if it stays after a starter and marks of which the last has the class `last`.
+/// Returns what a character is after a starter and marks of which the last has the class `last`: a mark that stays, or
+/// one that joins the starter.
 #[inline(always)]
-fn class_that_stays(
+fn mark_after(
     form: &ComposingForm<'_>,
     starter: KeptStarter,
     last: u8,
     step: Step,
-) -> Option<u8>
+    word: u32,
+) -> Option<Mark>
+    requires { word ≡ word_of form.now.characters step.character }
     ensures { IfSome result
-        (StaysMark (reading_by form.now.characters Dropped form.now.pairs.now) starter last step) }
+        (IsMarkAfter (reading_by form.now.characters Dropped form.now.pairs.now) starter last step) }
 {
     if step.is_error {
         return None;
     }
-    let word = form.characters.word_of(step.character);
     let class = form.characters.class_of_itself(step.character, word)?;
-    if class == 0 || class < last {
+    if class < last {
         return None;
     }
     let before = starter.before(class)?;
-    if class > last && compose(form.pairs, before, step.character).is_some() {
+    if 0 < class && class == last {
+        return Some(Mark {
+            class,
+            joined: None,
+        });
+    }
+    match compose(form.pairs, before, step.character) {
+        Some(composite) => joining_mark(starter, class, composite),
+        None => staying_mark(class),
+    }
+}
+
+/// Returns a character that composes with a starter, unless it does so with the first member of the starter's list.
+#[inline(always)]
+fn joining_mark(starter: KeptStarter, class: u8, composite: char) -> Option<Mark>
+    ensures { IfSome result (λ mark. (mark.joined ≡ Some composite) × (starter.last ≤ class)) }
+{
+    if class < starter.last {
         return None;
     }
-    Some(class)
+    Some(Mark {
+        class,
+        joined: Some(composite),
+    })
+}
+
+/// Returns a mark that composes with nothing. A starter doesn't stay.
+#[inline(always)]
+fn staying_mark(class: u8) -> Option<Mark>
+    ensures { IfSome result (λ mark. (mark.joined ≡ None) × (mark.class ≡ class) × (0 < class)) }
+{
+    if class == 0 {
+        return None;
+    }
+    Some(Mark {
+        class,
+        joined: None,
+    })
 }

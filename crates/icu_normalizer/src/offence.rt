@@ -30,7 +30,7 @@ pub(crate) fn cut_after<U: Expected, N: Forming>(
     }
     let rest = units.after(kept);
     let mut expected = IsNormalizedSink::new(rest);
-    match write_changed(normalizer, rest, &mut expected) {
+    match write_changed(normalizer, rest, None, &mut expected) {
         Ok(()) => Ok(None),
         Err(NormalizeError::Sink) => Ok(Some(kept + (rest.len() - expected.remaining_len()))),
         Err(NormalizeError::Memory) => Err(NormalizeError::Memory),
@@ -38,6 +38,7 @@ pub(crate) fn cut_after<U: Expected, N: Forming>(
 }
 
 /// The cut of the units, or nothing if they are well-formed and normalized.
+#[inline(always)]
 pub(crate) fn cut_of<U: Expected, N: Forming>(
     normalizer: &N,
     units: U,
@@ -48,7 +49,10 @@ pub(crate) fn cut_of<U: Expected, N: Forming>(
     ensures refused { IsOkUnless result NormalizeError.Memory }
 {
     let kept = kept_end(normalizer, units);
-    cut_after(normalizer, units, kept)
+    if kept.end == units.len() {
+        return Ok(None);
+    }
+    cut_after(normalizer, units, kept.end)
 }
 
 /// The first mismatch of the units, which lasts whatever is appended to them, or none if they are well-formed and

@@ -96,7 +96,7 @@ fn place_of_change<U: Expected, N: Forming>(
     ensures room { HasShortUnits (N.made_form normalizer.now) U.encoding (U.units units) → IsOk result }
     ensures refused { IsOkUnless result NormalizeError.Memory }
 {
-    let kept = kept_end(normalizer, units);
+    let kept = kept_end(normalizer, units).end;
     if has_unordered_marks(normalizer, units.after(kept)) {
         return Ok(Some(kept));
     }
@@ -118,7 +118,7 @@ fn write_from_place<U: Units, N: Forming, O: Growing<U>>(
 {
     output.make_room(units.len())?;
     output.write_piece(units.before(place))?;
-    write_changed(normalizer, units.after(place), output)
+    write_changed(normalizer, units.after(place), None, output)
 }
 
 /// Writes the form of the units, unless they are well-formed and normalized. A refused write is reported as `Memory`.

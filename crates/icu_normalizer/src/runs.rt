@@ -1,18 +1,35 @@
 //! The ends of runs of characters that are passed on as they are, and of the segments between them.
-ghost use Rattle.std.specs.Prelude.{◌≡◌, ◌<◌, ◌≤◌, ◌⊎◌, drop, false, length, take, true, IfSome, IsFalse, IsTrue};
+ghost use Rattle.std.specs.Prelude.{◌≡◌, ◌<◌, drop, length, take, IfSome, MatchOption};
 ghost use Rattle.normalizer_text.specs.Encodings.{first_in};
 ghost use Rattle.normalizer_text.specs.InputCut.{IsInputNormalized};
-ghost use Rattle.icu_normalizer.specs.inner.PassthroughRuns.{next_class, IsKeptTo, IsPart, IsPassthroughEnd};
+ghost use Rattle.normalizer_text.specs.DecodingSteps.{IsBoundary};
+ghost use Rattle.icu_normalizer.specs.inner.PassthroughRuns.{next_class, IsBeforeLast, IsComposite, IsKeptTo, IsPart};
 ghost use Rattle.icu_normalizer.specs.inner.PassthroughRuns.{IsRunEnd, IsSegmentEnd};
 
 use crate::forming::Forming;
 use normalizer_text::{Chars, Step, Units};
 
-/// A run of characters that are passed on as they are: where the marks at its end begin, and where it ends.
+/// A run of characters that are passed on as they are: where the marks at its end begin, where it ends, and the step
+/// that ends it, unless the units end.
 #[derive(Clone, Copy)]
 struct Run {
     marks: usize,
     end: usize,
+    next: Option<Step>,
+}
+
+/// A segment that is seen to become one character: its end, and that character.
+#[derive(Clone, Copy)]
+pub(crate) struct Composite {
+    pub(crate) end: usize,
+    pub(crate) character: char,
+}
+
+/// The end of what is kept, and the segment after it, if that is seen to become one character.
+#[derive(Clone, Copy)]
+pub(crate) struct Kept {
+    pub(crate) end: usize,
+    pub(crate) composite: Option<Composite>,
 }
 
 /// The end of a segment, the step that follows, and whether that is passed on as it is.
@@ -41,8 +58,11 @@ fn next_class<N: Forming>(normalizer: &N, last: u8, step: Step) -> Option<u8>
 }
 
 /// Returns the run of characters that are passed on as they are: marks as long as their classes don't fall.
+#[inline(always)]
 fn run_end<U: Units, N: Forming>(normalizer: &N, units: U) -> Run
-    ensures { IsRunEnd (N.passthrough_class normalizer.now) U.encoding (U.units units) result.marks result.end }
+    ensures run { IsRunEnd (N.passthrough_class normalizer.now) U.encoding (U.units units) result.marks result.end }
+    ensures next { MatchOption result.next (result.end ≡ length (U.units units))
+        (λ next. next ≡ first_in U.encoding (drop result.end (U.units units))) }
 {
     let passing = normalizer.passing();
     let mut end = units.end_of_members(0, passing);
@@ -51,7 +71,11 @@ fn run_end<U: Units, N: Forming>(normalizer: &N, units: U) -> Run
     while end < units.len() {
         let step = units.step_at(end);
         let Some(class) = next_class(normalizer, last, step) else {
-            return Run { marks, end };
+            return Run {
+                marks,
+                end,
+                next: Some(step),
+            };
         };
         if class == 0 {
             end = units.end_of_members(end + step.width, passing);
@@ -61,7 +85,11 @@ fn run_end<U: Units, N: Forming>(normalizer: &N, units: U) -> Run
         }
         last = class;
     }
-    Run { marks, end }
+    Run {
+        marks,
+        end,
+        next: None,
+    }
 }
 
 /// Returns the first step of the units, which may have been read before.
@@ -104,64 +132,95 @@ pub(crate) fn front_segment<U: Units, N: Forming>(normalizer: &N, units: U, firs
     }
 }
 
-/// Returns whether something at the end of a run may be held back, and the next character begins a new part.
+/// Returns the place before the last step up to an end.
 #[inline(always)]
-fn ends_apart<U: Units, N: Forming>(normalizer: &N, units: U, run: Run) -> bool
-    requires { run.end < length (U.units units) }
-    ensures yes { IsTrue result →
-        N.beginning normalizer.now (first_in U.encoding (drop run.end (U.units units))).character ≡ true }
-    ensures no { IsFalse result → ((N.held_back ≡ false) × (run.marks ≡ run.end)) ⊎
-        (N.beginning normalizer.now (first_in U.encoding (drop run.end (U.units units))).character ≡ false) }
+fn before_last<U: Units>(units: U, end: usize) -> usize
+    requires { IsBoundary (first_in U.encoding) (U.units units) end }
+    ensures { IsBeforeLast U.encoding (U.units units) end result }
 {
-    if !normalizer.holds_back() && run.marks == run.end {
-        return false;
+    match units.before(end).last_step() {
+        Some(step) => end - step.width,
+        None => 0,
     }
-    normalizer.begins(units.step_at(run.end).character)
 }
 
 /// Returns the end of the front of the units that is passed on as it is: of a run, unless what follows begins a new part,
 /// without the last starter and the marks after it if it may compose with what follows, and else without these marks.
 pub(crate) fn passthrough_end<U: Units, N: Forming>(normalizer: &N, units: U) -> usize
-    ensures handed { IsPassthroughEnd (N.passthrough_class normalizer.now) (N.beginning normalizer.now) N.held_back
-        U.encoding (U.units units) result }
-    ensures part { let m = N.made_form normalizer.now in 0 < result → IsPart U.encoding m.reading m.form (U.units units)
+    ensures { let m = N.made_form normalizer.now in 0 < result → IsPart U.encoding m.reading m.form (U.units units)
         result × IsInputNormalized U.encoding m.reading m.form (take result (U.units units)) }
 {
     normalizer.passthrough_is_normalized_apart();
     let run = run_end(normalizer, units);
-    if run.end == units.len() {
+    let Some(next) = run.next else {
         return run.end;
-    }
-    if ends_apart(normalizer, units, run) {
-        return run.end;
-    }
+    };
     if normalizer.holds_back() {
-        return match units.before(run.marks).last_step() {
-            Some(step) => run.marks - step.width,
-            None => 0,
-        };
+        if normalizer.begins(next.character) {
+            return run.end;
+        }
+        return before_last(units, run.marks);
+    }
+    if run.marks < run.end && normalizer.begins(next.character) {
+        return run.end;
     }
     run.marks
 }
 
 /// Returns the end of the front of the units that is kept as it is: runs, and segments between them that are seen to
 /// stay.
-pub(crate) fn kept_end<U: Units, N: Forming>(normalizer: &N, units: U) -> usize
-    ensures { let m = N.made_form normalizer.now in IsKeptTo U.encoding m.reading m.form (U.units units) result }
+#[inline(always)]
+pub(crate) fn kept_end<U: Units, N: Forming>(normalizer: &N, units: U) -> Kept
+    ensures kept { let m = N.made_form normalizer.now in
+        IsKeptTo U.encoding m.reading m.form (U.units units) result.end }
+    ensures composite { let m = N.made_form normalizer.now in IfSome result.composite (IsComposite
+        (N.beginning normalizer.now) U.encoding m.reading m.form (drop result.end (U.units units))) }
+{
+    let end = passthrough_end(normalizer, units);
+    if end < units.len() && normalizer.holds_back() {
+        return kept_after(normalizer, units, end);
+    }
+    Kept {
+        end,
+        composite: None,
+    }
+}
+
+/// Returns the same end, which comes after a run.
+fn kept_after<U: Units, N: Forming>(normalizer: &N, units: U, run: usize) -> Kept
+    requires { let m = N.made_form normalizer.now in IsKeptTo U.encoding m.reading m.form (U.units units) run }
+    ensures kept { let m = N.made_form normalizer.now in
+        IsKeptTo U.encoding m.reading m.form (U.units units) result.end }
+    ensures composite { let m = N.made_form normalizer.now in IfSome result.composite (IsComposite
+        (N.beginning normalizer.now) U.encoding m.reading m.form (drop result.end (U.units units))) }
 {
     normalizer.passthrough_is_normalized_apart();
-    let mut end = passthrough_end(normalizer, units);
-    let mut first = None;
+    let mut end = run;
     while end < units.len() {
         let rest = units.after(end);
-        let Some(kept) = normalizer.kept_segment(rest, first_step(rest, first)) else {
-            return end;
+        let Some(seen) = normalizer.seen_segment(rest) else {
+            return Kept {
+                end,
+                composite: None,
+            };
         };
-        end += kept.end;
-        first = kept.next;
-        if first.is_none() {
+        if let Some(character) = seen.becomes {
+            let composite = Composite {
+                end: seen.end,
+                character,
+            };
+            return Kept {
+                end,
+                composite: Some(composite),
+            };
+        }
+        end += seen.end;
+        if seen.is_before_run {
             end += passthrough_end(normalizer, units.after(end));
         }
     }
-    end
+    Kept {
+        end,
+        composite: None,
+    }
 }

@@ -7,12 +7,12 @@ ghost use Rattle.normalizer_iterators.specs.Items.{SpellsOk, SpellsUnless};
 ghost use Rattle.normalizer_iterators.specs.CharactersLeft.{characters_left};
 ghost use Rattle.icu_normalizer.specs.Forms.{form_in, HasShortUnits};
 ghost use Rattle.icu_normalizer.specs.inner.Offences.{IsFirstOrNone};
-ghost use Rattle.icu_normalizer.specs.inner.PassthroughRuns.{IsSegmentEnd};
+ghost use Rattle.icu_normalizer.specs.inner.PassthroughRuns.{IsComposite, IsSegmentEnd};
 ghost use Rattle.icu_normalizer.specs.Writing.{TellsLengthFirst};
 ghost use Rattle.icu_normalizer.specs.inner.WrittenParts.{NothingOffered, WritesPart, WritesText, WritesUnits};
 
 use crate::forming::Forming;
-use crate::runs::{Segment, first_step, front_segment, kept_end};
+use crate::runs::{Composite, Kept, Segment, first_step, front_segment, kept_end};
 use normalizer_iterators::{MarkRun, NormalizeError, SegmentBuffers};
 use normalizer_tables::members::Members;
 use normalizer_text::output::Output;
@@ -90,24 +90,6 @@ fn write_text<U: Units, O: Output<U>>(text: &[char], output: &mut O) -> Result<(
     Ok(())
 }
 
-/// Returns the form of what the units decode to, if these are two characters and it is seen to be one. The first step
-/// was read before.
-#[inline(always)]
-fn form_of_pair<U: Units, N: Forming>(normalizer: &N, units: U, first: Step) -> Option<char>
-    requires some { 0 < length (U.units units) }
-    requires first { first ≡ first_in U.encoding (U.units units) }
-    ensures { IfSome result (λ c. form_in (N.made_form normalizer.now) U.encoding (U.units units) ≡ c ∷ []) }
-{
-    if first.width >= units.len() {
-        return None;
-    }
-    let second = units.step_at(first.width);
-    if second.width != units.len() - first.width {
-        return None;
-    }
-    normalizer.form_of_two(first.character, second.character)
-}
-
 /// Writes what is left of a run of marks, character by character.
 fn write_marks<U: Units, O: Output<U>>(
     mut run: MarkRun,
@@ -144,29 +126,34 @@ fn write_long<U: Units, N: Forming, O: Output<U>>(
     normalizer.write_items(units, output)
 }
 
-/// Writes the form of what the units decode to, character by character: from the list of a single character, from what
-/// two compose to, from the buffers if it fits, or from what fits any length. The first step was read before.
+/// Writes the form of what the units decode to, character by character: what they were seen to become, or from the list
+/// of a single character, from the buffers if it fits, or from what fits any length. The first step was read before.
+#[inline(always)]
 fn write_segment<U: Units, N: Forming, O: Output<U>>(
     normalizer: &N,
     units: U,
     first: Step,
+    composite: Option<Composite>,
     buffers: &mut SegmentBuffers,
     output: &mut O,
 ) -> Result<(), NormalizeError>
     requires some { 0 < length (U.units units) }
     requires first { first ≡ first_in U.encoding (U.units units) }
+    requires composite { IfSome composite
+        (λ c. form_in (N.made_form normalizer.now) U.encoding (U.units units) ≡ c.character ∷ []) }
     ensures text { WritesText U.encoding O.Output NothingOffered
         (form_in (N.made_form normalizer.now) U.encoding (U.units units)) output.old result output.new }
     ensures room { HasShortUnits (N.made_form normalizer.now) U.encoding (U.units units) →
         ¬ IsErrOf result NormalizeError.Memory }
 {
+    if let Some(composite) = composite {
+        let character = composite.character;
+        return write_text::<U, O>(&[character], output);
+    }
     if first.width == units.len() {
         if let Some(members) = normalizer.form_of_one(first.character) {
             return write_members::<U, O>(&members, output);
         }
-    }
-    if let Some(composite) = form_of_pair(normalizer, units, first) {
-        return write_text::<U, O>(&[composite], output);
     }
     if normalizer.short_form(units, buffers) {
         return write_text::<U, O>(buffers.text(), output);
@@ -174,38 +161,70 @@ fn write_segment<U: Units, N: Forming, O: Output<U>>(
     write_long(normalizer, units, first, output)
 }
 
-/// Writes the front of the units that is kept as it is, in one piece, and returns its end: 0 if there is none.
+/// Writes the front of the units that is kept as it is, in one piece, and returns its end, 0 if there is none, and the
+/// segment after it, if that is seen to become one character.
+#[inline(always)]
 fn write_run<U: Units, N: Forming, O: Output<U>>(
     normalizer: &N,
     units: U,
     output: &mut O,
-) -> Result<usize, NormalizeError>
-    ensures none { IfOk result (λ end. end ≡ 0 → output.new ≡ output.old) }
-    ensures part { IfOk result (λ end. 0 < end → WritesPart U.encoding O.Output (N.made_form normalizer.now)
-        (U.units units) output.old end output.new) }
+) -> Result<Kept, NormalizeError>
+    ensures none { IfOk result (λ kept. kept.end ≡ 0 → output.new ≡ output.old) }
+    ensures part { IfOk result (λ kept. 0 < kept.end → WritesPart U.encoding O.Output (N.made_form normalizer.now)
+        (U.units units) output.old kept.end output.new) }
+    ensures composite { let m = N.made_form normalizer.now in IfOk result (λ kept. IfSome kept.composite (IsComposite
+        (N.beginning normalizer.now) U.encoding m.reading m.form (drop kept.end (U.units units)))) }
     ensures refused { IfErr result (λ fault. WritesUnits U.encoding O.Output (N.made_form normalizer.now)
         (U.units units) output.old (Err fault) output.new) }
     ensures room { ¬ IsErrOf result NormalizeError.Memory }
 {
-    let end = kept_end(normalizer, units);
-    if end > 0 {
-        output.write_piece(units.before(end))?;
+    let kept = kept_end(normalizer, units);
+    if kept.end > 0 {
+        output.write_piece(units.before(kept.end))?;
     }
-    Ok(end)
+    Ok(kept)
 }
 
-/// Writes the form of the segment at the front of the units, and returns that. The first step may have been read
-/// before.
+/// Returns the segment in front of the units: the one that was seen, or else up to its end.
+#[inline(always)]
+fn segment_ahead<U: Units, N: Forming>(
+    normalizer: &N,
+    units: U,
+    first: Step,
+    composite: Option<Composite>,
+) -> Segment
+    requires some { 0 < length (U.units units) }
+    requires first { first ≡ first_in U.encoding (U.units units) }
+    requires composite { IfSome composite
+        (λ c. IsSegmentEnd (N.beginning normalizer.now) U.encoding (U.units units) c.end) }
+    ensures end { IsSegmentEnd (N.beginning normalizer.now) U.encoding (U.units units) result.end }
+    ensures next { IfSome result.next (λ next. next ≡ first_in U.encoding (drop result.end (U.units units))) }
+    ensures composite { IfSome composite (λ c. result.end ≡ c.end) }
+{
+    match composite {
+        Some(composite) => Segment {
+            end: composite.end,
+            next: None,
+            is_before_run: true,
+        },
+        None => front_segment(normalizer, units, first),
+    }
+}
+
+/// Writes the form of the segment at the front of the units, and returns that.
 #[inline(always)]
 fn write_front_segment<U: Units, N: Forming, O: Output<U>>(
     normalizer: &N,
     units: U,
     first: Option<Step>,
+    composite: Option<Composite>,
     buffers: &mut SegmentBuffers,
     output: &mut O,
 ) -> Result<Segment, NormalizeError>
     requires some { 0 < length (U.units units) }
     requires first { IfSome first (λ first. first ≡ first_in U.encoding (U.units units)) }
+    requires composite { let m = N.made_form normalizer.now in IfSome composite
+        (IsComposite (N.beginning normalizer.now) U.encoding m.reading m.form (U.units units)) }
     ensures segment { IfOk result (λ segment. IsSegmentEnd (N.beginning normalizer.now)
         U.encoding (U.units units) segment.end) }
     ensures next { IfOk result (λ segment. IfSome segment.next
@@ -219,11 +238,12 @@ fn write_front_segment<U: Units, N: Forming, O: Output<U>>(
 {
     normalizer.passthrough_is_normalized_apart();
     let first = first_step(units, first);
-    let segment = front_segment(normalizer, units, first);
+    let segment = segment_ahead(normalizer, units, first, composite);
     write_segment(
         normalizer,
         units.before(segment.end),
         first,
+        composite,
         buffers,
         output,
     )?;
@@ -235,9 +255,12 @@ fn write_front_segment<U: Units, N: Forming, O: Output<U>>(
 fn write_segments<U: Units, N: Forming, O: Output<U>>(
     normalizer: &N,
     units: U,
+    composite: Option<Composite>,
     buffers: &mut SegmentBuffers,
     output: &mut O,
 ) -> Result<(), NormalizeError>
+    requires { let m = N.made_form normalizer.now in IfSome composite
+        (IsComposite (N.beginning normalizer.now) U.encoding m.reading m.form (U.units units)) }
     ensures text { WritesUnits U.encoding O.Output (N.made_form normalizer.now) (U.units units)
         output.old result output.new }
     ensures room { HasShortUnits (N.made_form normalizer.now) U.encoding (U.units units) →
@@ -245,14 +268,18 @@ fn write_segments<U: Units, N: Forming, O: Output<U>>(
 {
     let mut position = 0;
     let mut first = None;
+    let mut seen = composite;
     while position < units.len() {
         let rest = units.after(position);
-        let segment = write_front_segment(normalizer, rest, first, buffers, output)?;
+        let segment = write_front_segment(normalizer, rest, first, seen, buffers, output)?;
         position += segment.end;
         first = segment.next;
+        seen = None;
         if segment.is_before_run {
-            position += write_run(normalizer, units.after(position), output)?;
+            let kept = write_run(normalizer, units.after(position), output)?;
+            position += kept.end;
             first = None;
+            seen = kept.composite;
         }
     }
     Ok(())
@@ -262,15 +289,18 @@ fn write_segments<U: Units, N: Forming, O: Output<U>>(
 pub(crate) fn write_changed<U: Units, N: Forming, O: Output<U>>(
     normalizer: &N,
     units: U,
+    composite: Option<Composite>,
     output: &mut O,
 ) -> Result<(), NormalizeError>
+    requires { let m = N.made_form normalizer.now in IfSome composite
+        (IsComposite (N.beginning normalizer.now) U.encoding m.reading m.form (U.units units)) }
     ensures text { WritesUnits U.encoding O.Output (N.made_form normalizer.now) (U.units units)
         output.old result output.new }
     ensures room { HasShortUnits (N.made_form normalizer.now) U.encoding (U.units units) →
         ¬ IsErrOf result NormalizeError.Memory }
 {
     let mut buffers = normalizer.segment_buffers();
-    write_segments(normalizer, units, &mut buffers, output)
+    write_segments(normalizer, units, composite, &mut buffers, output)
 }
 
 /// Writes the form of what the units decode to: runs, and the segments between them.
@@ -284,11 +314,11 @@ fn write_parts<U: Units, N: Forming, O: Output<U>>(
     ensures room { HasShortUnits (N.made_form normalizer.now) U.encoding (U.units units) →
         ¬ IsErrOf result NormalizeError.Memory }
 {
-    let position = write_run(normalizer, units, output)?;
-    if position == units.len() {
+    let kept = write_run(normalizer, units, output)?;
+    if kept.end == units.len() {
         return Ok(());
     }
-    write_changed(normalizer, units.after(position), output)
+    write_changed(normalizer, units.after(kept.end), kept.composite, output)
 }
 
 /// Writes the form of what the units decode to. The output first receives the number of units.

@@ -1,8 +1,8 @@
 -- Runs and segments are normalized apart from what comes after them, and runs are normalized.
 use Rattle.std.proofs.Common.{◌≡◌, ℕ, zero, suc, ◌-◌, ◌<◌, ◌≤◌, Bool, true, false, List, [], ◌∷◌, ◌++◌, length, take, drop, map, refl, sym, ap, subst, ◌∙◌}
-use Rattle.std.proofs.Common.{append_assoc, append-nil, arith, length-drop, length-take-le, inl, inr}
+use Rattle.std.proofs.Common.{append_assoc, append-nil, arith, length-drop, inl, inr}
 use Rattle.std.specs.Char.{IsScalar}
-use Rattle.std.specs.Prelude.{All, ◌⊎◌, ◌≢◌, ◌&&◌, Option, Some}
+use Rattle.std.specs.Prelude.{All, ◌⊎◌, ◌&&◌, Option, Some}
 use Rattle.std.proofs.lemmas.Bool.{cases_lt, cases_Bool, true≢false, cond-true, cond-false, eq-eqb}
 use Rattle.std.proofs.lemmas.Option.{option_and_then_some}
 use Rattle.std.proofs.lemmas.List.{drop_at, map-append}
@@ -14,7 +14,7 @@ use Rattle.normal_forms.specs.Forms.{IsNormalized}
 use Rattle.normal_forms.specs.Order.{EndsUpTo}
 use Rattle.normalizer_text.specs.declared.decoding_step.Step.{Step}
 use Rattle.normalizer_text.specs.Encodings.{Encoding, first_in, decoded_in}
-use Rattle.normalizer_text.specs.DecodingSteps.{read, replacement_step, steps, width_of, IsLastStep}
+use Rattle.normalizer_text.specs.DecodingSteps.{read, replacement_step, steps, width_of}
 use Rattle.normalizer_text.specs.Utf16.{is_single, is_high, is_low, pair_value, unpaired_step, first_of_utf16}
 use Rattle.normalizer_text.specs.Utf8.{first_of_utf8}
 use Rattle.normalizer_text.proofs.steps.StepBoundaries.{steps-parts}
@@ -23,10 +23,10 @@ use Rattle.normalizer_text.proofs.steps.StepLemmas.{decoded-IsText, decoded-some
 use Rattle.normalizer_text.proofs.rules.Utf8Lemmas.{by_cases}
 use Rattle.normalizer_text.specs.InputCut.{IsInputNormalized}
 use Rattle.icu_normalizer.specs.BoundaryBefore.{HasBoundaryBefore}
-use Rattle.icu_normalizer.specs.inner.PassthroughRuns.{Divides, HasHeldBack, IsPassthroughEnd, IsPart, IsRunEnd, IsSegmentEnd, CanFollowMark, CanPassThrough, IsPassthroughTo, replacement}
+use Rattle.icu_normalizer.specs.inner.PassthroughRuns.{Divides, IsBeforeLast, IsPart, IsRunEnd, IsSegmentEnd, CanFollowMark, CanPassThrough, IsPassthroughTo, replacement}
 use Rattle.icu_normalizer.specs.inner.PassthroughRuns.{class_after, class_of_step, next_class}
 use Rattle.icu_normalizer.proofs.passthrough.PassthroughLemmas.{Divides-after, Divides-end, Divides-next, EndsUpTo-more, EndsUpTo-none, IsNormalized-mark, IsNormalized-starter, normal_form-nil}
-use Rattle.icu_normalizer.proofs.passthrough.RunSteps.{IsRun-le, IsPassthroughTo-held, class_after-ends, class_of_step-passed, next_class-passed, next_held}
+use Rattle.icu_normalizer.proofs.passthrough.RunSteps.{IsPassthroughTo-held, class_after-ends, class_of_step-passed, next_class-passed, next_held}
 
 -- ---- an error is read as U+FFFD
 
@@ -204,20 +204,21 @@ module _ (passed : ℕ → Option ℕ) (e : Encoding) where
       IsOwnPart end = IsPart e d form units end × IsInputNormalized e d form (take end units)
 
       -- all of it, if the units end there
-      pub passed_to_end : (marks end len : ℕ) → len ≡ length units → IsRunEnd passed e units marks end → end ≡ len → 0 < end → IsOwnPart end
-      passed_to_end marks end len length_is h all some =
-          let to = h.run.to_end in (IsPart-run end h.last to some (λ more. absurd (omega (arith, length_is))), own_run end h.last to)
+      pub passed_to_end : (marks end : ℕ) → IsRunEnd passed e units marks end → end ≡ length units → 0 < end → IsOwnPart end
+      passed_to_end marks end h all some =
+          let to = h.run.to_end in (IsPart-run end h.last to some (λ more. absurd (omega (arith, all))), own_run end h.last to)
 
       -- what comes before the last starter, if that is held back
-      pub passed_held : (marks end : ℕ) → IsRunEnd passed e units marks end → (front : List ℕ) → front ≡ take marks units → (s : Step) → IsLastStep (first_in e) front s
-          → 0 < marks - s.width → IsOwnPart (marks - s.width)
-      passed_held marks end h front is s last some =
+      pub passed_held : (marks end place : ℕ) → IsRunEnd passed e units marks end → IsBeforeLast e units marks place → 0 < place → IsOwnPart place
+      passed_held marks end place h before some =
           let to = h.run.to_marks in
-          let last' = subst (λ us. IsLastStep (first_in e) us s) is last in
-          let held = IsPassthroughTo-held passed e units marks to s last' in (
-            IsPart-run (marks - s.width) held.0 held.1 some
-                (λ more scalar. (can_pass_through (first_in e (drop (marks - s.width) units)) scalar (next_held passed e units marks to s last' more)).begins),
-            own_run (marks - s.width) held.0 held.1,
+          let last = before some in
+          let held = IsPassthroughTo-held passed e units marks to last.0 last.1 in
+          let some' : 0 < marks - last.0.width = omega (arith, last.2) in
+          subst IsOwnPart (sym last.2) (
+            IsPart-run (marks - last.0.width) held.0 held.1 some'
+                (λ more scalar. (can_pass_through (first_in e (drop (marks - last.0.width) units)) scalar (next_held passed e units marks to last.0 last.1 more)).begins),
+            own_run (marks - last.0.width) held.0 held.1,
           )
 
       -- all of it, if the next character begins a new part
@@ -229,66 +230,3 @@ module _ (passed : ℕ → Option ℕ) (e : Encoding) where
       -- else all but the marks at its end
       pub passed_before_marks : held_back ≡ false → (marks end : ℕ) → IsRunEnd passed e units marks end → 0 < marks → IsOwnPart marks
       passed_before_marks free marks end h some = let to = h.run.to_marks in (IsPart-starters marks to free some, own_run marks 0 to)
-
--- ---- the part of a run that is passed on
-
-module _ (passed : ℕ → Option ℕ) (e : Encoding) (units : List ℕ) (marks run : ℕ) (is_run : IsRunEnd passed e units marks run) where
-  marks_within : length (take marks units) ≡ marks
-  marks_within = let bounds = IsRun-le passed e units marks run is_run.last is_run.run in length-take-le marks units (omega (arith, bounds.0, bounds.1))
-
-  pub HasHeldBack-last : (front : List ℕ) → front ≡ take marks units → (s : Step) → IsLastStep (first_in e) front s → HasHeldBack e units marks (marks - s.width)
-  HasHeldBack-last front is s last =
-      let here : IsLastStep (first_in e) (take marks units) s = subst (λ us. IsLastStep (first_in e) us s) is last in
-      let fits = here.fits in
-      inr (s, here, omega (arith, marks_within))
-
-  pub HasHeldBack-none : (front : List ℕ) → front ≡ take marks units → front ≡ [] → HasHeldBack e units marks 0
-  HasHeldBack-none front is none =
-      let empty : length (take marks units) ≡ 0 = ap length (sym is ∙ none) in
-      inl (omega (arith, empty, marks_within), refl)
-
-module _ (passed : ℕ → Option ℕ) (beginning : ℕ → Bool) (held_back : Bool) (e : Encoding) (units : List ℕ) (marks run : ℕ) (is_run : IsRunEnd passed e units marks run) where
-  pub IsPassthroughEnd-to_end : (len : ℕ) → len ≡ length units → run ≡ len → IsPassthroughEnd passed beginning held_back e units run
-  IsPassthroughEnd-to_end len length_is end = record {
-    marks = marks;
-    run = run;
-    is_run = is_run;
-    all = λ _. refl;
-    apart = λ more _. refl;
-    held = λ more _ _. absurd (omega (arith, length_is));
-    with_marks = λ more _ _. absurd (omega (arith, length_is));
-  }
-
-  module _ (len : ℕ) (length_is : len ≡ length units) (goes_on : run ≢ len) where
-    pub IsPassthroughEnd-held : held_back ≡ true → beginning (first_in e (drop run units)).character ≡ false → (end : ℕ) → HasHeldBack e units marks end → IsPassthroughEnd passed beginning held_back e units end
-    IsPassthroughEnd-held held other end back = record {
-      marks = marks;
-      run = run;
-      is_run = is_run;
-      all = λ all. absurd (goes_on (all ∙ sym length_is));
-      apart = λ _ begins. absurd (true≢false (sym begins ∙ other));
-      held = λ _ _ _. back;
-      with_marks = λ _ free _. absurd (true≢false (sym held ∙ free));
-    }
-
-    pub IsPassthroughEnd-apart : beginning (first_in e (drop run units)).character ≡ true → IsPassthroughEnd passed beginning held_back e units run
-    IsPassthroughEnd-apart begins = record {
-      marks = marks;
-      run = run;
-      is_run = is_run;
-      all = λ _. refl;
-      apart = λ _ _. refl;
-      held = λ _ _ other. absurd (true≢false (sym begins ∙ other));
-      with_marks = λ _ _ other. absurd (true≢false (sym begins ∙ other));
-    }
-
-    pub IsPassthroughEnd-before_marks : held_back ≡ false → (marks ≡ run) ⊎ (beginning (first_in e (drop run units)).character ≡ false) → IsPassthroughEnd passed beginning held_back e units marks
-    IsPassthroughEnd-before_marks free why = record {
-      marks = marks;
-      run = run;
-      is_run = is_run;
-      all = λ all. absurd (goes_on (all ∙ sym length_is));
-      held = λ _ held _. absurd (true≢false (sym held ∙ free));
-      apart = λ _ begins. elim why [ inl none ↦ none | inr other ↦ absurd (true≢false (sym begins ∙ other)) ];
-      with_marks = λ _ _ _. refl;
-    }

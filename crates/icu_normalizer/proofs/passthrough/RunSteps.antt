@@ -1,18 +1,17 @@
 -- Runs of characters that are passed on as they are, step by step.
 use Rattle.std.proofs.Common.{◌≡◌, ℕ, ◌+◌, ◌-◌, ◌<◌, ◌≤◌, Bool, true, false, List, [], ◌∷◌, ◌++◌, length, take, drop, refl, sym, ap, subst, ◌∙◌}
-use Rattle.std.proofs.Common.{append_assoc, append-nil, arith, length-drop, length-take-le, inl, inr}
+use Rattle.std.proofs.Common.{append_assoc, append-nil, arith, length-take-le, inl, inr}
 use Rattle.std.specs.Prelude.{All, ◌⊎◌, ◌≢◌, ◌==◌, ◌||◌, nat_le, Option, Some, None, option_and_then}
 use Rattle.std.proofs.lemmas.Bool.{cases_Bool, cond-true, cond-false, eqb-true, leb-true, ne_eqb, or_cases}
 use Rattle.std.proofs.lemmas.Option.{option_and_then_some}
-use Rattle.std.proofs.lemmas.List.{append_cancel_left, drop_at, take_at}
-use Rattle.std.proofs.lemmas.List.Elements.{All-nil, All-cons, All-append, All-head, All-tail, All-same, All-drop, All-take}
+use Rattle.std.proofs.lemmas.List.Elements.{All-nil, All-cons, All-append, All-head, All-tail}
 use Rattle.normalizer_text.specs.declared.decoding_step.Step.{Step}
 use Rattle.normalizer_text.specs.Encodings.{Encoding, first_in}
-use Rattle.normalizer_text.specs.DecodingSteps.{steps, width_of, IsLastStep}
+use Rattle.normalizer_text.specs.DecodingSteps.{steps, width_of, IsBoundary, IsLastStep}
 use Rattle.normalizer_text.specs.Scans.{width_within}
 use Rattle.normalizer_text.proofs.scans.MemberLemmas.{members_in_front}
 use Rattle.normalizer_text.proofs.steps.StepBoundaries.{boundary-after, boundary-first, boundary-le, boundary-more, steps-parts, steps-take-drop, width_of-append, width_of-steps}
-use Rattle.normalizer_text.proofs.steps.StepLemmas.{steps-some}
+use Rattle.normalizer_text.proofs.steps.StepLemmas.{steps-nil, steps-some}
 use Rattle.icu_normalizer.specs.inner.PassthroughRuns.{IsRun, IsPassthroughTo, replacement}
 use Rattle.icu_normalizer.specs.inner.PassthroughRuns.{class_after, class_in_order, class_of_step, next_class}
 
@@ -81,6 +80,29 @@ module _ (passed : ℕ → Option ℕ) where
   class_after-ends (t ∷ ss) s last is = option_and_then_some (λ i. class_after passed i (t ∷ ss)) (next_class passed last s) 0 is
       (λ j next rest. let behind = class_after-ends ss t j rest in
       record { front = s ∷ behind.front; step = behind.step; parts = ap (λ l. s ∷ l) behind.parts; starter = behind.starter })
+
+-- the last of the steps up to an end is the first one from where it begins
+pub last_is_next : (e : Encoding) (units : List ℕ) (end : ℕ) → IsBoundary (first_in e) units end → (s : Step) → IsLastStep (first_in e) (take end units) s
+    → s ≡ first_in e (drop (end - s.width) units)
+last_is_next e units end b s last =
+    let front = take (length (take end units) - s.width) (take end units) in
+    let after = steps (first_in e) (drop end units) in
+    let place : IsBoundary (first_in e) units (end - s.width) = record {
+      before = steps (first_in e) front;
+      after = s ∷ after;
+      apart = steps-take-drop e units end b ∙ ap (λ l. l ++ after) last.last ∙ append_assoc (steps (first_in e) front) (s ∷ []) after;
+      taken = width_of-steps e front
+          ∙ length-take-le (length (take end units) - s.width) (take end units) (omega arith)
+          ∙ ap (λ n. n - s.width) (length-take-le end units (boundary-le e units end b));
+    } in
+    head_of (drop (end - s.width) units) after (steps-parts e units (end - s.width) place).1
+  where
+    head_of : (rest : List ℕ) (ss : List Step) → steps (first_in e) rest ≡ s ∷ ss → s ≡ first_in e rest
+    head_of [] ss is = let none : [] ≡ s ∷ ss = sym (steps-nil e) ∙ is in absurd (cc)
+    head_of (u ∷ us) ss is =
+        let both : first_in e (u ∷ us) ∷ steps (first_in e) (drop (first_in e (u ∷ us)).width (u ∷ us)) ≡ s ∷ ss = sym (steps-some e (u ∷ us) (omega arith)) ∙ is in
+        let same : first_in e (u ∷ us) ≡ s = cc in
+        sym same
 
 -- ---- runs
 
@@ -191,17 +213,4 @@ module _ (passed : ℕ → Option ℕ) (e : Encoding) (units : List ℕ) where
 
     -- it passes, and comes next
     pub next_held : end - s.width < length units → class_of_step passed (first_in e (drop (end - s.width) units)) ≡ Some 0
-    unfolding IsPassthroughTo-held
-    next_held more =
-        let place = IsPassthroughTo-held.1.boundary in
-        let rest = drop (end - s.width) units in
-        let behind : steps (first_in e) rest ≡ s ∷ steps (first_in e) (drop end units) =
-        append_cancel_left before _ _
-        (ap (λ l. l ++ steps (first_in e) rest) (sym (steps-parts e units (end - s.width) place).0)
-        ∙ sym (steps-take-drop e units (end - s.width) place)
-        ∙ place.apart) in
-        let first : steps (first_in e) rest ≡ first_in e rest ∷ steps (first_in e) (drop (first_in e rest).width rest) =
-        steps-some e rest (omega (arith, length-drop (end - s.width) units)) in
-        let same : first_in e rest ∷ steps (first_in e) (drop (first_in e rest).width rest) ≡ s ∷ steps (first_in e) (drop end units) = sym first ∙ behind in
-        let is : first_in e rest ≡ s = cc in
-        ap (class_of_step passed) is ∙ held.2
+    next_held more = ap (class_of_step passed) (sym (last_is_next e units end to.boundary s last)) ∙ held.2

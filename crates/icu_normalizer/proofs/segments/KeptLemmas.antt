@@ -1,15 +1,16 @@
 -- Fronts of kept parts, and segments that stay as they are.
 use Rattle.std.proofs.Common.{◌≡◌, ℕ, ◌+◌, ◌<◌, ◌≤◌, false, List, [], ◌∷◌, ◌++◌, length, take, drop, map, refl, sym, ap, subst, ◌∙◌}
 use Rattle.std.proofs.Common.{append_assoc, append-nil, arith, inl, inr}
-use Rattle.std.specs.Prelude.{All, IfSome, None, Some, Option, ◌⊎◌, nat_lt, ◌&&◌, true}
+use Rattle.std.specs.Prelude.{All, Bool, IfSome, None, Some, Option, ◌≢◌, ◌⊎◌, nat_lt, ◌&&◌, true}
 use Rattle.std.specs.List.{list_all}
+use Rattle.std.specs.Option.{is_some}
 use Rattle.std.proofs.lemmas.Bool.{and_right, cases_lt, lt-ltb}
 use Rattle.std.proofs.lemmas.Bool.Decides.{nat_tests}
 use Rattle.std.proofs.Math.Nat.{eq-zero-or-pos}
 use Rattle.std.proofs.Math.Seq.{take-add}
 use Rattle.std.proofs.lemmas.List.{drop-drop, map-append}
 use Rattle.std.proofs.lemmas.List.Elements.{All-nil, All-cons, All-append, All-same}
-use Rattle.normal_forms.specs.Reading.{Reading, IsStarter}
+use Rattle.normal_forms.specs.Reading.{Reading, IsStarter, ReadsAsItself}
 use Rattle.normal_forms.specs.Composition.{compose}
 use Rattle.normal_forms.specs.CompositionByStarters.{compose_after, compose_by_starters, is_above, join}
 use Rattle.normal_forms.specs.Decomposition.{expand}
@@ -26,15 +27,15 @@ use Rattle.normal_forms.proofs.composing.VisitLemmas.{compose_is_by_starters}
 use Rattle.normalizer_text.specs.declared.decoding_step.Step.{Step}
 use Rattle.normalizer_text.specs.Encodings.{Encoding, first_in, decoded_in}
 use Rattle.normalizer_text.specs.DecodingSteps.{steps, IsBoundary}
-use Rattle.normalizer_text.proofs.steps.StepBoundaries.{boundary-after, boundary-first, boundary-le, boundary-more, boundary-start, decoded-take-drop, steps-parts}
+use Rattle.normalizer_text.proofs.steps.StepBoundaries.{boundary-after, boundary-first, boundary-le, boundary-more, boundary-start, decoded-take-drop, step-some, steps-parts}
 use Rattle.normalizer_text.proofs.steps.StepLemmas.{decoded-append}
 use Rattle.normalizer_text.specs.InputCut.{IsInputNormalized}
 use Rattle.normalizer_text.proofs.inputs.InputBoundaryLemmas.{IsWellFormed-append}
 use Rattle.normalizer_iterators.proofs.segments.InOrderLemmas.{EndsWith, NeighboursFit, fit-more, order-fit}
 use Rattle.normalizer_iterators.proofs.composing.MarkLemmas.{join-above}
 use Rattle.icu_normalizer.specs.declared.kept.KeptStarter.{KeptStarter}
-use Rattle.icu_normalizer.specs.inner.Kept.{HasBase, IsKeptCharacter, IsKeptStarter, StaysMark}
-use Rattle.icu_normalizer.specs.inner.PassthroughRuns.{Divides, IsKeptTo, IsPart, IsStableStarter}
+use Rattle.icu_normalizer.specs.inner.Kept.{HasBase, IsKeptCharacter, IsKeptStarter, IsMarkAfter, JoinsStarter, StaysMark}
+use Rattle.icu_normalizer.specs.inner.PassthroughRuns.{Divides, IsKeptTo, IsPart, IsSeenSegment, IsStableStarter}
 use Rattle.icu_normalizer.proofs.segments.StableLemmas.{NeighboursFit-ordered, stable-composed, stable-ordered, stable-pair}
 
 -- ---- one kept part after another
@@ -200,6 +201,17 @@ module _ (d : Reading) where
             (join-after_mark d c marks m last mark blocks (subst (λ n. (n ≤ last) ⊎ (d.pair c m ≡ None)) (sym class) alone)) mark;
       }
 
+  -- a character joins the starter
+  Settled-joined : HasStarterResults d → (c top m r : ℕ) → ReadsAsItself d m → top ≤ d.class m → d.pair c m ≡ Some r → Settled d c [] top → normal_form d Composing (c ∷ m ∷ []) ≡ r ∷ []
+  unfolding normal_form nfc nfd expand join is_above
+  Settled-joined results c top m r itself late pair so_far =
+      ap (λ l. compose d (order d (d.list c ++ (l ++ [])))) itself
+      ∙ ap (compose d) (so_far.in_order (m ∷ []) ∙ order-fit d (so_far.sorted ++ m ∷ []) (fit-more d so_far.sorted top m so_far.fit so_far.ends (λ mark falls. omega arith)))
+      ∙ compose_is_by_starters d results (so_far.sorted ++ m ∷ [])
+      ∙ so_far.composed (m ∷ [])
+      ∙ compose_after-join d c [] m r [] pair
+      ∙ compose_after-nil d r []
+
   -- the starter and the marks are already normalized
   Settled-own : HasStarterResults d → (c : ℕ) (marks : List ℕ) (top : ℕ) → expand d marks ≡ marks → Settled d c marks top → normal_form d Composing (c ∷ marks) ≡ c ∷ marks
   unfolding normal_form nfc nfd expand
@@ -273,6 +285,20 @@ module _ (d : Reading) (results : HasStarterResults d) (faithful : HasFaithfulRe
         )
   ]
 
+-- a mark that doesn't join the starter stays
+module _ (d : Reading) (r : KeptStarter) (last : ℕ) (s : Step) (k : ℕ) where
+  pub mark_stays : (joined : Option ℕ) → is_some joined ≡ false → IsMarkAfter d r last s (record { class = k; joined = joined }) → StaysMark d r last s k
+  mark_stays None none after = after
+  mark_stays (Some c) none after = absurd (cc)
+
+  pub mark_joins : (joined : Option ℕ) → IsMarkAfter d r last s (record { class = k; joined = joined }) → IfSome joined (JoinsStarter d r s)
+  mark_joins None after = tt
+  mark_joins (Some c) after = after
+
+pub not_none : (o : Option ℕ) → is_some o ≡ true → o ≢ None
+not_none None some none = absurd (cc)
+not_none (Some c) some none = absurd (cc)
+
 -- what is said of a step's character is said of the starter's
 pub kept_itself : (d : Reading) (s : Step) (r : KeptStarter) → IsKeptStarter d s r → IsKeptCharacter d r.character r
 kept_itself d s r first = subst (λ c. IsKeptCharacter d c r) (sym first.kept.character) first.kept
@@ -316,3 +342,35 @@ module _ (d : Reading) (results : HasStarterResults d) (faithful : HasFaithfulRe
         well_formed = All-same (λ s. s.is_error ≡ false) _ _ same k.right;
         own = subst (λ l. normal_form d Composing l ≡ l) (sym text) (Settled-own d results r.character k.marks done.0 k.own done.1);
       }
+
+  -- a starter, and a character that joins it
+  module _ (s t : Step) (some : 0 < length units) (is : s ≡ first_in e (drop 0 units)) (more : s.width < length units) (next : t ≡ first_in e (drop s.width units)) where
+    pub joined-boundary : IsBoundary (first_in e) units (s.width + t.width)
+    joined-boundary = boundary-more e units s.width t (boundary-first e units s (record { some = some; is = is })) more next
+
+    joined-text : decoded_in e (take (s.width + t.width) units) ≡ s.character ∷ t.character ∷ []
+    unfolding joined-boundary boundary-more boundary-after boundary-first
+    joined-text = ap (map (λ u. u.character)) (steps-parts e units (s.width + t.width) joined-boundary).0
+
+    joined-form : (r : KeptStarter) (c : ℕ) → IsKeptStarter d s r → JoinsStarter d r t c → normal_form d Composing (decoded_in e (take (s.width + t.width) units)) ≡ c ∷ []
+    joined-form r c kept joins =
+        let pair : d.pair s.character t.character ≡ Some c = ap (λ a. d.pair a t.character) (sym kept.kept.character) ∙ joins.pair in
+        ap (normal_form d Composing) joined-text
+        ∙ Settled-joined d results s.character r.last t.character c joins.itself joins.late pair (Settled-first d results faithful s.character r.last kept.kept.stable)
+
+    -- make a segment that becomes one character, if nothing comes after them that isn't normalized apart
+    pub IsSeenSegment-joined : (beginning : ℕ → Bool) (past : ℕ) → past ≡ s.width + t.width → (past < length units → beginning (first_in e (drop past units)).character ≡ true)
+        → (r : KeptStarter) → IsKeptStarter d s r → (o : Option ℕ) → o ≢ None → IfSome o (JoinsStarter d r t) → IsSeenSegment beginning e d Composing units past o
+    IsSeenSegment-joined beginning past same begins r kept o some_o joins = record {
+      segment = record {
+        some = (let width = step-some e units 0 s some is in omega (arith, same, width.0));
+        boundary = subst (IsBoundary (first_in e) units) (sym same) joined-boundary;
+        next = begins;
+      };
+      own = λ none. absurd (some_o none);
+      one = subst (λ n. IfSome o (λ c. normal_form d Composing (decoded_in e (take n units)) ≡ c ∷ [])) (sym same) (of_joined o joins);
+    }
+      where
+        of_joined : (o : Option ℕ) → IfSome o (JoinsStarter d r t) → IfSome o (λ c. normal_form d Composing (decoded_in e (take (s.width + t.width) units)) ≡ c ∷ [])
+        of_joined None joins = tt
+        of_joined (Some c) joins = joined-form r c kept joins

@@ -20,7 +20,7 @@ use Rattle.normal_forms.proofs.composing.VisitLemmas.{compose_is_by_starters}
 use Rattle.normalizer_iterators.proofs.segments.InOrderLemmas.{NeighboursFit}
 use Rattle.normalizer_iterators.proofs.reads.ReadingLemmas.{drop_member}
 use Rattle.icu_normalizer.specs.inner.Kept.{HasBase, IsFirstOfTwo}
-use Rattle.icu_normalizer.specs.inner.PassthroughRuns.{ComposesTo, IsStableStarter}
+use Rattle.icu_normalizer.specs.inner.PassthroughRuns.{IsStableStarter}
 
 -- ---- order
 
@@ -185,21 +185,3 @@ form_of_single d results c one = of_list (d.list c) one
           | inr mark ↦ compose_by_starters-mark d e [] mark ∙ ap (λ l. e ∷ l) (compose_by_starters-nil d)
         ]
     of_list (e ∷ f ∷ x) one = absurd (omega (arith, one))
-
--- ---- two characters
-
--- two characters that are their own lists, the first one a starter, become what their pair composes to
-pub pair_form : (d : Reading) → HasStarterResults d → (a b r : ℕ) → ReadsAsItself d a → IsStarter d a → ReadsAsItself d b → d.pair a b ≡ Some r → normal_form d Composing (a ∷ b ∷ []) ≡ r ∷ []
-unfolding normal_form nfc nfd expand join is_above
-pair_form d results a b r a_itself starter b_itself pair =
-    ap (λ l. compose d (order d (l ++ (d.list b ++ [])))) a_itself
-    ∙ ap (λ l. compose d (order d (a ∷ (l ++ [])))) b_itself
-    ∙ ap (compose d) (order-cons d a (b ∷ []) ∙ insert-starter d a (order d (b ∷ [])) starter ∙ ap (λ l. a ∷ l) (order-cons d b [] ∙ ap (insert d b) (order-nil d) ∙ insert-nil d b))
-    ∙ compose_is_by_starters d results (a ∷ b ∷ [])
-    ∙ compose_by_starters-starter d a (b ∷ []) starter
-    ∙ compose_after-join d a [] b r [] pair
-    ∙ compose_after-nil d r []
-
-pub if_pair : (d : Reading) → HasStarterResults d → (a b : ℕ) → ReadsAsItself d a → IsStarter d a → ReadsAsItself d b → (o : Option ℕ) → d.pair a b ≡ o → IfSome o (ComposesTo d a b)
-if_pair d results a b a_itself starter b_itself None is = tt
-if_pair d results a b a_itself starter b_itself (Some r) is = pair_form d results a b r a_itself starter b_itself is

@@ -1,5 +1,5 @@
 -- Writing the members of a list, as if from an iterator.
-use Rattle.std.proofs.Common.{◌≡◌, ℕ, zero, suc, ◌+◌, ◌-◌, ◌<◌, ◌≤◌, List, [], ◌∷◌, ◌++◌, length, length-drop, length-take, drop, take, Option, Some, None, Result, Ok, arith, refl, ap, sym, subst, ◌∙◌}
+use Rattle.std.proofs.Common.{◌≡◌, ℕ, zero, suc, ◌+◌, ◌<◌, ◌≤◌, List, [], ◌∷◌, ◌++◌, length, length-take, drop, take, Option, Some, None, Result, Ok, arith, refl, ap, sym, subst, ◌∙◌}
 use Rattle.std.specs.Prelude.{All, IfSome, false, slice_get}
 use Rattle.std.specs.Option.{is_some}
 use Rattle.std.proofs.lemmas.List.{drop_all, drop-drop}
@@ -54,14 +54,6 @@ decoded-one e units s some is whole =
     ∙ ap (λ t. t.character ∷ decoded_in e (drop t.width units)) (sym is)
     ∙ ap (λ rest. s.character ∷ decoded_in e rest) (drop_all s.width units (omega arith))
     ∙ ap (λ x. s.character ∷ x) (decoded-nil e)
-
--- two steps alone
-pub decoded-two : (e : Encoding) (units : List ℕ) (s t : Step) → 0 < length units → s ≡ first_in e units → t ≡ first_in e (drop s.width units) → s.width < length units
-    → t.width ≡ length units - s.width → decoded_in e units ≡ s.character ∷ t.character ∷ []
-decoded-two e units s t some is next more whole =
-    decoded-some e units some
-    ∙ ap (λ r. r.character ∷ decoded_in e (drop r.width units)) (sym is)
-    ∙ ap (λ x. s.character ∷ x) (decoded-one e (drop s.width units) t (omega (arith, length-drop s.width units)) next (whole ∙ sym (length-drop s.width units)))
 
 -- units that end where a step does begin with the same step
 pub first-take : (e : Encoding) (units : List ℕ) (n : ℕ) → 0 < n → IsBoundary (first_in e) units n → first_in e (take n units) ≡ first_in e units

@@ -1,8 +1,9 @@
 -- Starters and marks that stay as they are.
-use Rattle.std.specs.Prelude.{◌≡◌, ℕ, List, ◌<◌, ◌≤◌, ◌⊎◌, false, [], ◌∷◌, IfSome, Some, None}
+use Rattle.std.specs.Prelude.{◌≡◌, ℕ, List, ◌<◌, ◌≤◌, ◌⊎◌, false, [], ◌∷◌, IfSome, MatchOption, Some, None}
 use Rattle.normal_forms.specs.Reading.{Reading, ReadsAsItself}
 use Rattle.normalizer_text.specs.declared.decoding_step.Step.{Step}
 use Rattle.icu_normalizer.specs.declared.kept.KeptStarter.{KeptStarter}
+use Rattle.icu_normalizer.specs.declared.kept.Mark.{Mark}
 use Rattle.icu_normalizer.specs.inner.PassthroughRuns.{IsStableStarter}
 
 -- x has two members, and begins with a
@@ -37,3 +38,14 @@ pub record StaysMark (d : Reading) (r : KeptStarter) (last : ℕ) (s : Step) (k 
   pub low : k < r.last → r.base ≡ Some before
   pub high : r.last ≤ k → before ≡ r.character
   pub alone : (k ≤ last) ⊎ (d.pair before s.character ≡ None)
+
+-- the character of the step is its own list, doesn't come before the last member of the starter's list, and composes to
+-- c with the starter
+pub record JoinsStarter (d : Reading) (r : KeptStarter) (s : Step) (c : ℕ) : Type 0 where
+  pub itself : ReadsAsItself d s.character
+  pub late : r.last ≤ d.class s.character
+  pub pair : d.pair r.character s.character ≡ Some c
+
+-- it is a mark that stays, or joins the starter
+abbrev pub IsMarkAfter : Reading → KeptStarter → ℕ → Step → Mark → Type 0
+IsMarkAfter d r last s mark = MatchOption mark.joined (StaysMark d r last s mark.class) (JoinsStarter d r s)

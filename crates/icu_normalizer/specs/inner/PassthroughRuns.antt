@@ -1,7 +1,7 @@
 -- Text whose form is made in parts: runs of characters that are passed on as they are, and what is between them.
-use Rattle.std.specs.Prelude.{◌≡◌, ◌≢◌, ℕ, ◌+◌, ◌<◌, ◌⊎◌, Bool, true, false, not, ◌||◌, ◌&&◌, ◌==◌, nat_le, nat_lt}
+use Rattle.std.specs.Prelude.{◌≡◌, ◌≢◌, ℕ, ◌-◌, ◌<◌, Bool, true, false, not, ◌||◌, ◌&&◌, ◌==◌, nat_le, nat_lt}
 use Rattle.std.specs.Prelude.{if◌then◌else◌}
-use Rattle.std.specs.Prelude.{List, [], ◌∷◌, ◌++◌, length, take, drop, All, Option, Some, None, option_and_then}
+use Rattle.std.specs.Prelude.{List, [], ◌∷◌, ◌++◌, length, take, drop, All, IfSome, Option, Some, None, option_and_then}
 use Rattle.normal_forms.specs.Reading.{Reading, IsStarter, ReadsAsItself}
 use Rattle.normal_forms.specs.declared.Form.{Form}
 use Rattle.normal_forms.specs.declared.Form.TheVariants.{Composing}
@@ -18,6 +18,7 @@ use Rattle.normalizer_text.specs.Encodings.{Encoding, first_in, encoded_in, deco
 use Rattle.normalizer_text.specs.DecodingSteps.{IsBoundary, IsLastStep}
 use Rattle.normalizer_text.specs.InputCut.{IsInputNormalized}
 use Rattle.icu_normalizer.specs.BoundaryBefore.{HasBoundaryBefore}
+use Rattle.icu_normalizer.specs.declared.runs.Composite.{Composite}
 
 -- however much of the rest is read after the front, both are normalized apart
 abbrev pub Divides : Reading → Form → List ℕ → List ℕ → Type 0
@@ -95,24 +96,9 @@ pub record IsRunEnd (passed : ℕ → Option ℕ) (e : Encoding) (units : List �
   pub run : IsRun passed e units marks end last
   pub stops : end < length units → next_class passed last (first_in e (drop end units)) ≡ None
 
--- what ends with the last starter of a run is empty, or only that starter comes after the place
-abbrev pub HasHeldBack : Encoding → List ℕ → ℕ → ℕ → Type 0
-HasHeldBack e units marks end =
-    ((marks ≡ 0) × (end ≡ 0)) ⊎ ((s : Step) × IsLastStep (first_in e) (take marks units) s × (end + s.width ≡ marks))
-
--- the part of a run that is passed on: all of it if the units end, or the next character begins a new part; else what
--- comes before the last starter if that is held back, and all but the marks at its end if it isn't
-pub record IsPassthroughEnd (passed : ℕ → Option ℕ) (beginning : ℕ → Bool) (held_back : Bool) (e : Encoding)
-    (units : List ℕ) (end : ℕ) : Type 0 where
-  pub marks : ℕ
-  pub run : ℕ
-  pub is_run : IsRunEnd passed e units marks run
-  pub all : run ≡ length units → end ≡ run
-  pub apart : run < length units → beginning (first_in e (drop run units)).character ≡ true → end ≡ run
-  pub held : run < length units → held_back ≡ true → beginning (first_in e (drop run units)).character ≡ false
-      → HasHeldBack e units marks end
-  pub with_marks : run < length units → held_back ≡ false
-      → beginning (first_in e (drop run units)).character ≡ false → end ≡ marks
+-- the place before the last of the steps up to an end, or 0 if there is none
+abbrev pub IsBeforeLast : Encoding → List ℕ → ℕ → ℕ → Type 0
+IsBeforeLast e units end place = 0 < place → (s : Step) × IsLastStep (first_in e) (take end units) s × (place ≡ end - s.width)
 
 -- a character ends at the place, and the next one begins a segment of its own, or the units end
 pub record IsSegmentEnd (beginning : ℕ → Bool) (e : Encoding) (units : List ℕ) (end : ℕ) : Type 0 where
@@ -132,11 +118,18 @@ pub record IsKeptTo (e : Encoding) (d : Reading) (form : Form) (units : List ℕ
   pub boundary : IsBoundary (first_in e) units end
   pub part : 0 < end → IsPart e d form units end × IsInputNormalized e d form (take end units)
 
--- a segment ends at the place, and is well-formed and normalized
-pub record IsKeptSegment (beginning : ℕ → Bool) (e : Encoding) (d : Reading) (form : Form) (units : List ℕ) (end : ℕ)
-    : Type 0 where
+-- a segment ends at the place, and it is well-formed and normalized, or its form is one character
+pub record IsSeenSegment (beginning : ℕ → Bool) (e : Encoding) (d : Reading) (form : Form) (units : List ℕ) (end : ℕ)
+    (becomes : Option ℕ) : Type 0 where
   pub segment : IsSegmentEnd beginning e units end
-  pub own : IsInputNormalized e d form (take end units)
+  pub own : becomes ≡ None → IsInputNormalized e d form (take end units)
+  pub one : IfSome becomes (λ c. normal_form d form (decoded_in e (take end units)) ≡ c ∷ [])
+
+-- a segment ends there, and its form is that character
+pub record IsComposite (beginning : ℕ → Bool) (e : Encoding) (d : Reading) (form : Form) (units : List ℕ)
+    (c : Composite) : Type 0 where
+  pub segment : IsSegmentEnd beginning e units c.end
+  pub form_is : normal_form d form (decoded_in e (take c.end units)) ≡ c.character ∷ []
 
 -- c composes to itself, and its list begins with a starter and ends with a character of class `last`
 pub record IsStableStarter (d : Reading) (c last : ℕ) : Type 0 where
@@ -146,10 +139,6 @@ pub record IsStableStarter (d : Reading) (c last : ℕ) : Type 0 where
   pub end : ℕ
   pub list : d.list c ≡ front ++ end ∷ []
   pub class : d.class end ≡ last
-
--- the composed form of a and c is the one character r
-abbrev pub ComposesTo : Reading → ℕ → ℕ → ℕ → Type 0
-ComposesTo d a c r = normal_form d Composing (a ∷ c ∷ []) ≡ r ∷ []
 
 -- a piece of the units, after units whose form is the front
 pub record StandsInInput (e : Encoding) (d : Reading) (form : Form) (units front piece : List ℕ) : Type 0 where

@@ -35,3 +35,6 @@ returns-in-Err-Memory-clause-room g c short =
     let rest = HasShortRuns-of_rest _ _ _ _ _ c.requires _ c.after-rest.ensures _ short in
     let none = rw c.in-Err-Memory.field-0-is at c.in-Err-Memory.ensures.room in
     absurd (none rest refl)
+
+pub write_changed-requires : goal.write_changed-requires
+write_changed-requires g c = tt

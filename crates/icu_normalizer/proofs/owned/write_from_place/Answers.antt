@@ -15,3 +15,6 @@ returns g c =
     let took = rw c.in_ok-write_piece.was at c.write_piece.ensures in
     written_from_cut g.O.Output.text_taken c.requires _ _ _ _ c.before-2.ensures c.after.ensures
     (took.written.appends ∙ ap (λ l. l ++ g.U.Units.units c.before-2.result) room) c.write_changed.ensures.text.written
+
+pub write_changed-requires : goal.write_changed-requires
+write_changed-requires g c = tt

@@ -3,7 +3,7 @@ use Rattle.normalizer_sets.specs.CharacterSets.{has}
 use Rattle.normalizer_sets.proofs.SetLemmas.{has-IsCandidate}
 use Rattle.normalizer_text.proofs.steps.StepBoundaries.{boundary-more, boundary-start, step-some}
 use Rattle.icu_normalizer.specs.inner.PassthroughRuns.{IsRun}
-use Rattle.icu_normalizer.proofs.passthrough.RunSteps.{IsRun-mark, IsRun-starters, IsPassthroughTo-members, IsPassthroughTo-none, IsPassthroughTo-more}
+use Rattle.icu_normalizer.proofs.passthrough.RunSteps.{IsRun-le, IsRun-mark, IsRun-starters, IsPassthroughTo-members, IsPassthroughTo-none, IsPassthroughTo-more}
 use Rattle.icu_normalizer.proofs.runs.run_end.Goals as goal
 
 pub end_of_members-end-requires : goal.end_of_members-end-requires
@@ -47,3 +47,8 @@ loop-end-smaller-then-class-eq0 g c =
 pub loop-end-smaller : goal.loop-end-smaller
 loop-end-smaller g c =
     omega (arith, c.len.ensures, step-some g.U.Units.encoding (g.U.Units.units c.args.units) c.loop-end.end c.step_at-step.result (omega (arith, c.len.ensures)) c.step_at-step.ensures)
+
+pub returns-clause-next : goal.returns-clause-next
+returns-clause-next g c =
+    let most = (IsRun-le _ _ _ _ _ _ c.loop-end.invariant).1 in
+    omega (arith, c.len.ensures)

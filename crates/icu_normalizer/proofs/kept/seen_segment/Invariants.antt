@@ -2,7 +2,7 @@ use Rattle.std.proofs.Common.{◌-◌, ◌<◌, length}
 use Rattle.normalizer_tables.specs.Readings.{reading_by}
 use Rattle.normalizer_tables.specs.declared.characters.IgnoredCharacters.TheVariants.{Dropped}
 use Rattle.icu_normalizer.proofs.segments.KeptLemmas.{KeptMarks}
-use Rattle.icu_normalizer.proofs.kept.kept_segment.Given as goal
+use Rattle.icu_normalizer.proofs.kept.seen_segment.Given as goal
 
 abbrev pub invariant-loop-end : goal.invariant-loop-end
 invariant-loop-end g l =
