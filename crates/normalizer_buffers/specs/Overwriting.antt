@@ -1,4 +1,4 @@
--- What a buffer has after units were written to its front.
+-- What a buffer has after units were written to its beginning.
 use Rattle.std.specs.Prelude.{List, ◌++◌, length, take, drop}
 
 -- the buffer with its front overwritten by the units, as far as there is room for them

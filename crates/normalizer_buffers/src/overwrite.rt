@@ -2,7 +2,7 @@
 ghost use Rattle.std.specs.Prelude.{◌≡◌, ◌≤◌, ◌^◌, ◌-◌, ◌++◌, length, drop, take};
 ghost use Rattle.normalizer_buffers.specs.Overwriting.{overwritten};
 
-/// Writes units to the front of a buffer, as many as it has room for.
+/// Writes units to the beginning of a buffer, as many as it has room for.
 fn overwrite<T: Copy>(buffer: &mut [T], units: &[T])
     ensures { buffer.new ≡ overwritten buffer.old units.now }
 {

@@ -35,7 +35,7 @@ module _ {S E : Type 0} (gives : S → Option (Result ℕ E) → S → Type 0) w
       → MatchOption r ⊥ (λ item. MatchResult item (λ d. (d ≡ c) × SpellsUnless fault t x)
       (λ e. (e ≡ fault) × HasEnded t))
 
--- An iterator was made over a source: of each text that this spells it yields the form, unless memory is refused. If
+-- An iterator was made over a source: of each text that this spells it yields the form, unless memory ran out. If
 -- the text has short runs nothing is refused, when the iterator is made or later. Whatever the source yields, a run of
 -- the iterator yields the form of that.
 module _ {I S : Type 0} (source_gives : I → Option ℕ → I → Type 0)
@@ -52,7 +52,7 @@ module _ {I S : Type 0} (source_gives : I → Option ℕ → I → Type 0)
     pub fault : (out : List ℕ) (e : NormalizeError) (now : S) → YieldsThen gives it (map Ok out) (Some (Err e)) now
         → (e ≡ Memory) × HasEnded gives now × HasYieldedLong source_gives has_class_form d source
 
-  -- The form of each text that the source spells, unless memory is refused, which it never is over short runs. If it is
+  -- The form of each text that the source spells, unless memory ran out, which it never is over short runs. If it is
   -- refused when the iterator is made, what the source yielded then has no short runs.
   pub record YieldsForm (has_class_form : ℕ → Bool) (d : Reading) (form : Reading → List ℕ → List ℕ) (source : I)
       (made : Result S NormalizeError) : Type 0 where

@@ -13,6 +13,6 @@ staying_marks b = drop b.next b.marks.items
 unfoldable pub mark_count : StayingMarks → ℕ
 mark_count b = small_vec_len b.marks
 
--- D115: one of them blocks a character exactly if its class is below `unblocked`
+-- D115: one of them blocks a character if and only if its class is below `unblocked`
 unfoldable pub BlocksBelow : Reading → StayingMarks → Type 0
 BlocksBelow d b = (c : ℕ) → is_above d (staying_marks b) c ≡ nat_le b.unblocked (d.class c)

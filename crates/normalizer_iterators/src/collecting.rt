@@ -10,7 +10,7 @@ use std::alloc::Global;
 /// Returns the remaining characters of an iterator.
 ///
 /// # Errors
-/// The first error of the iterator, or `Memory` if an allocation was refused.
+/// The first error of the iterator, or `Memory` if an allocation failed.
 pub fn collected<I: Iterator<Item = Result<char, NormalizeError>> + Drop>(
     alloc: Global,
     items: I,

@@ -64,11 +64,11 @@ impl<'data, I: Iterator<Item = char> + Drop> Decomposition<'data, I> {
 
     /// Returns an iterator over the NFD of what `delegate` yields, using canonical data that the caller has checked.
     ///
-    /// The caller owes that `check_nfd_data` of `normalizer_conditions` returned `Ok` for exactly these
+    /// The caller must have checked that `check_nfd_data` of `normalizer_conditions` returned `Ok` for exactly these
     /// values.
     ///
     /// # Errors
-    /// `Memory` if an allocation was refused, now or from an item. None is made unless more than 17 characters are
+    /// `Memory` if an allocation failed, now or from an item. None is made unless more than 17 characters are
     /// buffered at a time.
     pub fn new(
         delegate: I,
@@ -205,7 +205,7 @@ impl<'data, I: Iterator<Item = char> + Drop> Decomposition<'data, I> {
 /// Returns an iterator over the decomposed form of what a delegate yields, using data that may be read lazily.
 ///
 /// # Errors
-/// `Memory` if an allocation was refused.
+/// `Memory` if an allocation failed.
 pub fn decomposed<'data, I: Iterator<Item = char> + Drop>(
     characters: CharacterData<'data>,
     ignored: IgnoredCharacters,

@@ -8,10 +8,10 @@ use thiserror::Error;
 /// Why text could not be normalized. The same call may be made again.
 #[derive(Debug, PartialEq, Eq, Drop, Error)]
 pub enum NormalizeError {
-    /// An allocation was refused.
+    /// An allocation failed.
     #[error("out of memory")]
     Memory,
-    /// The sink refused a call. A string or vector does so if a growth was refused.
+    /// The sink refused a call. A string or vector does so if a growth failed.
     #[error("the sink refused a write")]
     Sink,
 }

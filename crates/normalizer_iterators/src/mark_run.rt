@@ -45,7 +45,7 @@ impl MarkRun {
     /// if what follows that isn't marks that are their own lists.
     ///
     /// # Errors
-    /// `AllocError` if an allocation was refused. Over short runs none is made.
+    /// `AllocError` if an allocation failed. Over short runs none is made.
     pub fn decomposed<U: Units>(
         characters: &CharacterData<'_>,
         ignored: IgnoredCharacters,
@@ -64,7 +64,7 @@ impl MarkRun {
     /// Makes the composed form. Returns nothing also if a starter follows the first character.
     ///
     /// # Errors
-    /// `AllocError` if an allocation was refused. Over short runs none is made.
+    /// `AllocError` if an allocation failed. Over short runs none is made.
     pub fn composed<U: Units>(
         characters: &CharacterData<'_>,
         ignored: IgnoredCharacters,

@@ -26,7 +26,7 @@ steps_past first n [] = []
 steps_past first zero (u ∷ us) = first (u ∷ us) ∷ steps_past first ((first (u ∷ us)).width - 1) us
 steps_past first (suc n) (u ∷ us) = steps_past first n us
 
--- the steps of the units, from the front
+-- the steps of the units, from the beginning
 abbrev pub steps : (List ℕ → Step) → List ℕ → List Step
 steps first units = steps_past first 0 units
 
@@ -52,7 +52,7 @@ pub record IsBoundary (first : List ℕ → Step) (units : List ℕ) (n : ℕ) :
 
 -- ---- a call on the remaining units, its result, and the units that it left
 
--- the character of the step in front, without its units
+-- the character of the step at the beginning, without its units
 abbrev pub TakesFirst : (List ℕ → Step) → List ℕ → Option ℕ → List ℕ → Type 0
 TakesFirst first units r rest = MatchOption r ((units ≡ []) × (rest ≡ []))
     (λ c. (0 < length units) × (c ≡ (first units).character) × (rest ≡ drop (first units).width units))
@@ -72,7 +72,7 @@ abbrev pub TakesLast : (List ℕ → Step) → List ℕ → Option ℕ → List 
 TakesLast first units r rest = MatchOption r ((units ≡ []) × (rest ≡ []))
     (λ c. (s : Step) × IsLastStep first units s × (c ≡ s.character) × (rest ≡ take (length units - s.width) units))
 
--- calls in any mixture took the characters x from the front of the units and y from the back, and left the rest
+-- calls in any mixture took the characters x from the beginning of the units and y from the end, and left the rest
 pub data TakenFrom (first : List ℕ → Step) (units : List ℕ) : List ℕ → List ℕ → List ℕ → Type 0 where
   none : TakenFrom first units [] units []
   front : (x rest y : List ℕ) (c : ℕ) (left : List ℕ) → TakenFrom first units x rest y

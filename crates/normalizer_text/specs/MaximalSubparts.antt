@@ -26,7 +26,7 @@ pub record IsWellFormedSequence (bytes : List ℕ) : Type 0 where
 abbrev pub BeginsSequence : List ℕ → Type 0
 BeginsSequence bytes = (more : List ℕ) × IsWellFormedSequence (bytes ++ more)
 
--- the longest front that a well-formed sequence begins with, or else the first byte
+-- the longest prefix that a well-formed sequence begins with, or else the first byte
 pub record IsMaximalSubpart (bytes : List ℕ) (n : ℕ) : Type 0 where
   pub some : 0 < n
   pub within : n ≤ length bytes

@@ -7,7 +7,7 @@ ghost use Rattle.normalizer_text.specs.Encodings.{first_in};
 use crate::units::Units;
 use std::marker::Model;
 
-/// An iterator over the characters that units decode to, from the front and from the back. Each maximal ill-formed
+/// An iterator over the characters that units decode to, from the beginning and from the end. Each maximal ill-formed
 /// subpart reads as U+FFFD: the longest beginning of a character that is cut short, or else one unit. It takes no
 /// memory.
 #[derive(Drop)]

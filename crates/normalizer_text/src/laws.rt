@@ -105,7 +105,7 @@ pub fn step_ends_with_low_units()
 {}
 
 /// Calls of `next` and `next_back` in any mixture take the text apart from both ends: if they took the characters x
-/// from the front and y from the back, the remaining units decode to the characters between them.
+/// from the beginning and y from the end, the remaining units decode to the characters between them.
 pub fn decodes_from_both_ends()
     ensures { (e : Encoding) (units x rest y : List ℕ) → TakenFrom (first_in e) units x rest y →
         decoded_in e units ≡ x ++ decoded_in e rest ++ y }

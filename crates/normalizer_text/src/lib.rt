@@ -1,5 +1,5 @@
 //! Text in three encodings: decoding bytes that may not be UTF-8 and 16-bit units that may not be UTF-16, from the
-//! front and from the back (The Unicode Standard, section 3.9), and sinks that text is written to.
+//! front and from the end (The Unicode Standard, section 3.9), and sinks that text is written to.
 #![tactic(auto)]
 
 mod chars;

@@ -101,7 +101,7 @@ pub trait Write16 {
         ensures { AnswersWrite text_taken refusal refusal_effect self.old (encode_utf16 c) result self.new };
 }
 
-/// A string refuses only if a growth was refused, and is then unchanged.
+/// A string refuses only if a growth failed, and is then unchanged.
 impl<A: Allocator> Write for String<A> {
     ghost text_taken = { string_bytes };
 
@@ -124,7 +124,7 @@ impl<A: Allocator> Write for String<A> {
     }
 }
 
-/// A vector refuses only if a growth was refused, and is then unchanged. A hint reserves room.
+/// A vector refuses only if a growth failed, and is then unchanged. A hint reserves room.
 impl<A: Allocator> Write16 for Vec<u16, A> {
     ghost text_taken = { λ v. v.items };
 

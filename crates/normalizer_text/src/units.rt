@@ -16,7 +16,7 @@ use normalizer_sets::CharacterSet;
 const LONGEST_STEP: usize = 4;
 
 /// Text in an encoding: a `str`, bytes that may not be UTF-8, or 16-bit units that may not be UTF-16. A position counts
-/// units from the front.
+/// units from the beginning.
 pub trait Units: Copy {
     /// The units.
     ghost units: { Self → List ℕ };
@@ -61,7 +61,7 @@ pub trait Units: Copy {
         self.len() == 0
     }
 
-    /// The step in front, if there are units.
+    /// The step at the beginning, if there are units.
     #[inline(always)]
     final fn first_step(self) -> Option<Step>
         ensures { MatchOption result (units self ≡ []) (IsFirstStep (first_in encoding) (units self)) }

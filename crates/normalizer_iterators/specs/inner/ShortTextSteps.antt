@@ -13,7 +13,7 @@ composed_with d x None rest = x ++ compose_by_starters d rest
 composed_with d x (Some place) rest =
     take place x ++ compose_after d (get_or x place 0) (drop (place + 1) x) rest
 
--- D115: a mark after the last starter, if there is one, blocks a character exactly if its class is below `unblocked`
+-- D115: a mark after the last starter, if there is one, blocks a character if its class is below `unblocked`
 abbrev pub BlocksAfter : Reading → List ℕ → Option ℕ → ℕ → Type 0
 BlocksAfter d x None unblocked = Unit {0}
 BlocksAfter d x (Some place) unblocked =

@@ -1,4 +1,4 @@
--- The place at which decoding from the back begins.
+-- The place at which decoding from the end begins.
 use Rattle.std.specs.Prelude.{◌≡◌, ℕ, ◌-◌, ◌<◌, ◌≤◌, Bool, true, false, List, length, slice_index}
 use Rattle.normalizer_text.specs.Encodings.{longest_step}
 

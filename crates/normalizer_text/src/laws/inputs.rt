@@ -19,14 +19,14 @@ ghost use Rattle.normalizer_text.specs.InputOffence.{IsInputOffence, IsInputOffe
 ghost use Rattle.normalizer_text.specs.EncodedForm.{encoded_form, IsEncodedFront};
 ghost use Rattle.normalizer_text.specs.declared.offence.Offence.{Offence};
 
-/// The first n units are well-formed exactly if n is a boundary at or before the first error.
+/// The first n units are well-formed if and only if n is a boundary at or before the first error.
 pub fn well_formed_front_ends_at_boundary()
     ensures { (e : Encoding) (units : List ℕ) (n : ℕ) →
         ((n ≤ length units) × IsWellFormed (first_in e) (take n units)) ↔ IsErrorFreeBoundary e units n }
 {}
 
-/// A number qualifies for the cut exactly if it is a boundary at or before the first error and what comes before it
-/// decodes to a common front of the decoded text and its form. So 0 qualifies, and every boundary before one that
+/// A number qualifies for the cut if and only if it is a boundary at or before the first error and what comes before it
+/// decodes to a common prefix of the decoded text and its form. So 0 qualifies, and every boundary before one that
 /// does.
 pub fn input_cut_is_common_front()
     ensures exactly { (e : Encoding) (d : Reading) (form : Form) → SuitsForm d form → (units : List ℕ) (n : ℕ) →
@@ -41,7 +41,7 @@ pub fn input_cut_is_common_front()
         QualifiesForInputCut e d form units m }
 {}
 
-/// Every input has exactly one cut: the end of the longest common front before the first error. As many characters
+/// Every input has exactly one cut: the end of the longest common prefix before the first error. As many characters
 /// come before it as before the cut of the decoded text, or fewer, and then an error follows it.
 pub fn one_input_cut()
     ensures exists { (e : Encoding) (d : Reading) (form : Form) (units : List ℕ) →
@@ -65,13 +65,13 @@ pub fn parts_at_input_cut()
         IsInputCut e d form units n → IsInputNormalized e d form (drop n units) → drop n units ≡ [] }
 {}
 
-/// An input is well-formed and normalized exactly if its cut is its length.
+/// An input is well-formed and normalized if and only if its cut is its length.
 pub fn normalized_input_is_cut_at_its_end()
     ensures { (e : Encoding) (d : Reading) (form : Form) (units : List ℕ) →
         IsInputNormalized e d form units ↔ IsInputCut e d form units (length units) }
 {}
 
-/// If an input is well-formed and normalized, so is each well-formed front of it, and so is the rest after one.
+/// If an input is well-formed and normalized, so is each well-formed beginning of it, and so is the rest after one.
 pub fn parts_of_normalized_input()
     ensures front { (e : Encoding) (d : Reading) (form : Form) → SuitsForm d form → (front rest : List ℕ) →
         IsWellFormed (first_in e) front → IsInputNormalized e d form (front ++ rest) →
@@ -127,7 +127,7 @@ pub fn input_offence_under_continuation()
         (m : ℕ) × (found' : ℕ) × (wanted' : ℕ) × IsInputOffence e d form (units ++ more) m found' wanted' × (m ≤ n) }
 {}
 
-/// A well-formed input is normalized exactly if its text is. Its cut and its first mismatch are those of its text:
+/// A well-formed input is normalized if and only if its text is. Its cut and its first mismatch are those of its text:
 /// after the units of as many characters.
 pub fn well_formed_input_goes_by_its_text()
     ensures normalized { (e : Encoding) (d : Reading) (form : Form) (units : List ℕ) → IsWellFormed (first_in e) units →
@@ -160,14 +160,14 @@ pub fn str_goes_by_its_characters(text: &str)
         (place ≡ length (encode_utf8_all (take k (chars text.now))))) }
 {}
 
-/// An input is well-formed and normalized exactly if it is the encoding of the form of what it decodes to.
+/// An input is well-formed and normalized if and only if it is the encoding of the form of what it decodes to.
 pub fn normalized_input_is_its_encoded_form()
     ensures { (e : Encoding) (d : Reading) (form : Form) → HasTextLists d → HasScalarResults d → (units : List ℕ) →
         IsInputNormalized e d form units ↔ (encoded_form e d form units ≡ units) }
 {}
 
-/// The first characters of the form, encoded, are at the front of an input exactly if an error-free boundary with as
-/// many characters before it ends a common front of the decoded text and its form. The longest such front ends at the
+/// The first characters of the form, encoded, are at the beginning of an input if an error-free boundary with as
+/// many characters before it ends a common prefix of the decoded text and its form. The longest such prefix ends at the
 /// cut.
 pub fn encoded_front_ends_at_boundary()
     ensures exactly { (e : Encoding) (d : Reading) (form : Form) → HasTextLists d → HasScalarResults d →
@@ -187,7 +187,7 @@ pub fn encoded_front_ends_at_boundary()
         IsInputCut e d form units n → IsEncodedFront e d form units n (characters_before e units n) }
 {}
 
-/// If the encoded form of a front up to a boundary is at the front of the input, that front is well-formed and
+/// If the encoded form of a front up to a boundary is at the beginning of the input, that prefix is well-formed and
 /// normalized. So no input is a proper extension of its encoded form.
 pub fn offered_input()
     ensures front { (e : Encoding) (d : Reading) (form : Form) → SuitsForm d form → HasNonemptyLists d →
