@@ -38,6 +38,7 @@ pub extern "C" fn normalizer_benchmark_repeat(
 }
 
 /// The numbers of a form and of a call, the text, and how often the call is made.
+#[derive(Clone, Copy)]
 struct Task<'a> {
     form: u32,
     call: u32,
