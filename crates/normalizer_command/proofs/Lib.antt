@@ -1,3 +1,4 @@
 pub mod FileLemmas
 pub mod ArgumentLemmas
 pub mod WriteLemmas
+pub mod InMemoryLemmas

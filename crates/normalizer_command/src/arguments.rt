@@ -34,7 +34,7 @@ ghost use Rattle.normalizer_command.specs.CommandLine.{
   with_options,
   word_rule,
 };
-ghost use Rattle.normalizer_built.specs.declared.NormalForm.{NormalForm};
+ghost use Rattle.icu_normalizer.specs.declared.any_normalizer.NormalForm.{NormalForm};
 ghost use Rattle.normalizer_streams.specs.declared.ill_formed.ErrorMode.{ErrorMode};
 ghost use Rattle.normalizer_streams.specs.declared.scheme.EncodingScheme.{EncodingScheme};
 ghost use Rattle.normalizer_replies.specs.declared.mapping.MapperTask.{MapperTask};
@@ -54,7 +54,7 @@ ghost use Rattle.normalizer_command.specs.Arguments.{
 };
 
 use clap::{Arg, ArgAction, ArgMatches, Command, Error};
-use normalizer_built::NormalForm;
+use icu_normalizer::NormalForm;
 use normalizer_replies::{Command as FileCommand, MapperTask, Task};
 use normalizer_streams::{ByteOrder, EncodingScheme, ErrorMode};
 use std::alloc::{AllocError, Global};
@@ -217,13 +217,13 @@ fn command_of<'n, 'a>(
         return Ok((FileCommand::OfMapper(task, scheme), after));
     }
     if let Some(form) = form_named(word) {
-        return Ok((FileCommand::OfForm(Task::Write(mode), scheme, form), after));
+        return Ok((FileCommand::OfForm(Task::Write, scheme, mode, form), after));
     }
     let Some(task) = task_named(word) else {
         return Err(NO_COMMAND);
     };
     let (form, names) = form_first(after).ok_or(NO_FORM)?;
-    Ok((FileCommand::OfForm(task, scheme, form), names))
+    Ok((FileCommand::OfForm(task, scheme, mode, form), names))
 }
 
 /// The form that is named first, and what is after its name.

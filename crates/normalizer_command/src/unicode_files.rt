@@ -1,7 +1,7 @@
 //! The data of a directory of Unicode's files.
 ghost use Rattle.std.specs.Prelude.{◌≡◌, List, ⊤, IfOk, IfErr, IfSome, string_bytes};
 ghost use Rattle.std.specs.Option.{option_map};
-ghost use Rattle.normalizer_builder.specs.Built.{data_in};
+ghost use Rattle.icu_normalizer.specs.Built.{data_in};
 ghost use Rattle.normalizer_command.specs.UnicodeFiles.{
   AreBuiltOf,
   AreFiles,
@@ -14,13 +14,13 @@ ghost use Rattle.normalizer_command.specs.UnicodeFiles.{
   path_of,
 };
 ghost use Rattle.normalizer_command.specs.FileFaults.{fault_of_file, IsFileFault};
-ghost use Rattle.normalizer_records.specs.RecordValue.{RecordValue, Uts46RecordValue};
+ghost use Rattle.icu_normalizer.specs.RecordValue.{RecordValue, Uts46RecordValue};
 ghost use Rattle.normalizer_ucd.specs.declared.error.LineFault.{LineFault};
 ghost use Rattle.normalizer_ucd.specs.FallibleReads.{Gives};
 
 use crate::devices::Inputs;
 use crate::fault::Fault;
-use normalizer_builder::{Built, Records};
+use icu_normalizer::{Built, Records};
 use normalizer_io::read_all;
 use normalizer_records::{Record, Uts46Record};
 use normalizer_replies::Command;
@@ -70,7 +70,7 @@ pub(crate) fn read_files<I: Inputs>(
     directory: &str,
     command: Command,
 ) -> Result<DataFiles, DataFault>
-    ensures files { IfOk result (λ r. AreFiles (I.bytes_of inputs.now) directory.now command
+    ensures files { IfOk result (λ r. AreFiles (I.bytes_of inputs.now) (I.can_open inputs.now) directory.now command
         r.unicode_data.items r.exclusions.items (option_map (λ v. v.items) r.table)) }
     ensures fault { IfErr result (λ e. IsFileFault (I.cannot_open inputs.now (path_of directory.now e.file))
         (I.read_refused inputs.now (path_of directory.now e.file)) ⊥ ⊤ e.fault) }
@@ -92,7 +92,7 @@ fn read_table<I: Inputs>(
     directory: &str,
     command: Command,
 ) -> Result<Option<Vec<u8>>, DataFault>
-    ensures table { IfOk result (λ t. IsTable (I.bytes_of inputs.now) directory.now command
+    ensures table { IfOk result (λ t. IsTable (I.bytes_of inputs.now) (I.can_open inputs.now) directory.now command
         (option_map (λ v. v.items) t)) }
     ensures fault { IfErr result (λ e. IsFileFault (I.cannot_open inputs.now (path_of directory.now e.file))
         (I.read_refused inputs.now (path_of directory.now e.file)) ⊥ ⊤ e.fault) }
@@ -113,7 +113,7 @@ pub(crate) fn read_file<I: Inputs>(
     directory: &str,
     file: UcdFile,
 ) -> Result<Vec<u8>, DataFault>
-    ensures bytes { IfOk result (λ v. IsFile (I.bytes_of inputs.now) directory.now file v.items) }
+    ensures bytes { IfOk result (λ v. IsFile (I.bytes_of inputs.now) (I.can_open inputs.now) directory.now file v.items) }
     ensures fault { IfErr result (λ e. IsFileFault (I.cannot_open inputs.now (path_of directory.now e.file))
         (I.read_refused inputs.now (path_of directory.now e.file)) ⊥ ⊤ e.fault) }
 {

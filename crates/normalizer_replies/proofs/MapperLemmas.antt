@@ -6,7 +6,7 @@ use Rattle.normalizer_replies.specs.declared.reply.Answer.{Answer}
 use Rattle.normalizer_replies.specs.declared.reply.Answer.TheVariants.{Done}
 use Rattle.normalizer_streams.specs.declared.scheme.EncodingScheme.{EncodingScheme}
 use Rattle.normalizer_streams.specs.Schemes.{encoded_by}
-use Rattle.normalizer_iterators.specs.declared.error.NormalizeError.{NormalizeError}
+use Rattle.icu_normalizer.specs.NormalizeError.{NormalizeError}
 use Rattle.normalizer_replies.specs.declared.mapping.MapperTask.{MapperTask}
 use Rattle.normalizer_replies.specs.declared.mapping.MapperTask.TheVariants.{Map, Validate}
 use Rattle.normalizer_replies.specs.declared.reply.Reply.{Reply}

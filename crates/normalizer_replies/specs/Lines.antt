@@ -1,7 +1,7 @@
 -- The lines of a text: each mapped by itself, or validated.
 use Rattle.std.specs.Prelude.{◌≡◌, ◌↔◌, ℕ, ◌+◌, ◌==◌, Bool, List, [], ◌∷◌, ◌++◌, map, codes, decimal, if◌then◌else◌}
 use Rattle.std.specs.List.{join_with_byte, slice_split}
-use Rattle.normalizer_built.specs.Mapping.{is_valid_by}
+use Rattle.icu_normalizer.specs.Mapping.{is_valid_by}
 use Rattle.normalizer_replies.specs.declared.reply.Answer.{Answer}
 use Rattle.normalizer_replies.specs.declared.reply.Answer.TheVariants.{Done}
 use Rattle.normalizer_replies.specs.Making.{Mapping}

@@ -7,11 +7,10 @@ ghost use Rattle.normalizer_replies.specs.Replies.{IsReplyOfLines, IsReplyOfMapp
 ghost use Rattle.normalizer_replies.specs.inner.EachLine.{feed_unless, replies_to, reply_to};
 
 use crate::reply::{Answer, Reply};
+use icu_normalizer::IgnoredCharacters::Dropped;
 use icu_normalizer::uts46::{Uts46Mapper, Uts46MapperBorrowed};
-use normalizer_built::{is_valid, mapped};
-use normalizer_iterators::NormalizeError;
+use icu_normalizer::{NormalizeError, is_valid, mapped};
 use normalizer_streams::EncodingScheme;
-use normalizer_tables::characters::IgnoredCharacters::Dropped;
 use std::alloc::{AllocError, Global};
 
 /// What is done with a file by the mapper.

@@ -69,11 +69,11 @@ impl Watch {
     {
         match first_ill_formed(alloc, scheme, piece)? {
             None => {
-                self.cursor.advance(&scheme.units(alloc, piece)?);
+                self.cursor.advance_over(alloc, scheme, piece)?;
                 Ok(None)
             }
             Some(place) => {
-                self.cursor.advance(&scheme.units(alloc, &piece[..place])?);
+                self.cursor.advance_over(alloc, scheme, &piece[..place])?;
                 let position = self.cursor.position(scheme);
                 Ok(Some(Stop { place, position }))
             }

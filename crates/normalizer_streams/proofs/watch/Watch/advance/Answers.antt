@@ -26,7 +26,7 @@ returns-in_ok-units-in-Some-clause-noted c = λ passed j was.
       record {
         within = found.0;
         first = found.1;
-        position = c.position-position.ensures (passed ++ front)
+        position = c.position-position.ensures (units_of scheme (passed ++ front))
             (subst (λ units. IsCursorAfter units c.advance-in-Some.new.self) (sym (units-append scheme passed front j.aligned)) cursor);
       },
     )

@@ -1,0 +1,5 @@
+use Rattle.normalizer_replies.proofs.MakingLemmas.{makes-ok}
+use Rattle.normalizer_replies.proofs.normalizers.normalizer_over.Goals as goal
+
+pub returns-clause-makes : goal.returns-clause-makes
+returns-clause-makes c = λ records uts46 builds. makes-ok c.normalizer_to.result records _ c.args.form c.normalizer_to.ensures.data (c.normalizer_to.ensures.form records uts46 builds)
