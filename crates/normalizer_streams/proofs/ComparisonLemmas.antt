@@ -1,6 +1,6 @@
 -- A piece that is compared with its form, after what agrees, and before what comes next.
-use Rattle.std.proofs.Common.{◌≡◌, ℕ, ◌+◌, ◌<◌, ◌⊎◌, inl, inr, Bool, true, IfSome, unwrap_or, List, [], ◌∷◌, ◌++◌, length, take, drop, Option, Some, None, MatchOption, refl, sym, ap, subst, ◌∙◌, arith, append_assoc, append-nil, length-append, length-drop, length-take, take-append-drop}
-use Rattle.std.proofs.Math.Seq.{take-append-add}
+use Rattle.std.proofs.Common.{◌≡◌, ℕ, ◌+◌, ◌<◌, ◌≤◌, ◌⊎◌, inl, inr, Bool, true, IfNone, IfOk, IfSome, Result, Ok, Err, unwrap_or, List, [], ◌∷◌, ◌++◌, length, take, drop, Option, Some, None, MatchOption, refl, sym, ap, subst, ◌∙◌, arith, append_assoc, append-nil, length-append, length-drop, length-take, take-append-drop}
+use Rattle.std.proofs.Math.Seq.{take-append-add, take-length}
 use Rattle.std.proofs.lemmas.List.{drop_all, take-append-le}
 use Rattle.std.specs.Io.KnownBytes.{Consumes, IsAtEnd}
 use Rattle.std.proofs.KnownBytes.{Consumes-nil, Consumes-trans}
@@ -13,6 +13,7 @@ use Rattle.icu_normalizer.specs.Forms.{MadeForm}
 use Rattle.icu_normalizer.specs.InputCut.{IsInputNormalized}
 use Rattle.icu_normalizer.specs.InputOffence.{IsInputOffence}
 use Rattle.icu_normalizer.specs.NormalForms.{normal_form}
+use Rattle.normalizer_io.specs.declared.outcome.TransferError.{TransferError}
 use Rattle.normalizer_streams.specs.declared.ill_formed.Ending.{Ending}
 use Rattle.normalizer_streams.specs.declared.ill_formed.Ending.TheVariants.{Stopped, Whole}
 use Rattle.normalizer_streams.specs.declared.ill_formed.ErrorMode.{ErrorMode}
@@ -56,6 +57,14 @@ Ends-replaced scheme all = (Whole (counted (ill_formed scheme all)), (refl, refl
 pub Ends-well_formed : (scheme : EncodingScheme) (all : List ℕ) → IsWellFormedBy scheme all → IsTextOf scheme Fatal all all
 Ends-well_formed scheme all right = (Whole 0, (refl, refl, right))
 
+pub Ends-found : {E : Type 0} (scheme : EncodingScheme) (mode : ErrorMode) (piece : List ℕ) (r : Result (Option ℕ) E) → mode ≡ Fatal
+    → IfOk r (λ place. IfSome place (λ place. (place ≤ length piece) × IsFirstIllFormed scheme piece (take place piece))) → IfOk r (λ place. IfNone place (IsWellFormedBy scheme piece))
+    → IfOk r (λ end. IsTextOf scheme mode piece (take (unwrap_or end (length piece)) piece))
+Ends-found scheme mode piece (Ok (Some place)) fatal first none = subst (λ mode. IsTextOf scheme mode piece (take place piece)) (sym fatal) (Ends-stopped scheme piece (take place piece) first.1)
+Ends-found scheme mode piece (Ok None) fatal first none =
+    subst (λ mode. IsTextOf scheme mode piece (take (length piece) piece)) (sym fatal) (subst (IsTextOf scheme Fatal piece) (sym (take-length piece)) (Ends-well_formed scheme piece none))
+Ends-found scheme mode piece (Err e) fatal first none = tt
+
 module _ (scheme : EncodingScheme) (m : MadeForm) where
   abbrev normalized : List ℕ → Type 0
   normalized bytes = IsNormalizedBy scheme m.reading m.form bytes
@@ -98,6 +107,15 @@ module _ (scheme : EncodingScheme) (m : MadeForm) where
     | inr part ↦
         ap (steps (first_in (encoding_of scheme))) (units-append scheme bytes next part.0)
         ∙ steps-divided (encoding_of scheme) (units_of scheme bytes) (units_of scheme next) part.1.some part.1.whole
+  ]
+
+  -- a well-formed piece and what comes next are well-formed, or the first ill-formed sequence comes next
+  well_formed-next : (piece next : List ℕ) → IsApart piece next → IsWellFormedBy scheme piece → IsWellFormedBy scheme (piece ++ next)
+      ⊎ ((front : List ℕ) × (is_aligned scheme (length piece) ≡ true) × BeginsPartBy scheme m next × IsFirstIllFormed scheme next front)
+  well_formed-next piece next (inl none) fine = inl (subst (IsWellFormedBy scheme) (sym (ap (λ x. piece ++ x) none ∙ append-nil piece)) fine)
+  well_formed-next piece next (inr part) fine = elim (find_ill_formed scheme next) [
+    | inl right ↦ inl (well_formed-joined scheme piece next (steps-apart piece next (inr part)) fine right)
+    | inr found ↦ inr (found.0, part.0, part.1, found.1)
   ]
 
   -- ---- the text of a piece, and of all
@@ -153,13 +171,9 @@ module _ (scheme : EncodingScheme) (m : MadeForm) where
     }
     extended Replacement text (Stopped p) ends = absurd ends
     extended Fatal text (Stopped p) ends = extended-here text ends.0
-    extended Fatal text (Whole n) ends = elim a [
-      | inl none ↦ extended-whole text ends.0 (subst (IsWellFormedBy scheme) (sym (ap (λ x. piece ++ x) none ∙ append-nil piece)) ends.2)
-      | inr part ↦
-          elim (find_ill_formed scheme next) [
-            | inl fine ↦ extended-whole text ends.0 (well_formed-joined scheme piece next (steps-apart piece next a) ends.2 fine)
-            | inr found ↦ extended-next text found.0 ends.0 ends.2 part.0 part.1 found.1
-          ]
+    extended Fatal text (Whole n) ends = elim (well_formed-next piece next a ends.2) [
+      | inl fine ↦ extended-whole text ends.0 fine
+      | inr found ↦ extended-next text found.0 ends.0 ends.2 found.1 found.2 found.3
     ]
 
   -- ---- after normalized bytes
@@ -233,7 +247,7 @@ module _ (scheme : EncodingScheme) (m : MadeForm) where
         → IsPositionAfterUnits scheme (units_of scheme passed ++ units_of scheme text) p → Compares scheme mode m.reading m.form (passed ++ (piece ++ next)) (comparison.Stopped p)
     stops mode text p fatal f own position =
         let all = passed ++ (piece ++ next) in
-        let begins = λ (b : BeginsPartBy scheme m (piece ++ next)) some.
+        let begins : BeginsPartBy scheme m (piece ++ next) → 0 < length text → BeginsPartBy scheme m text = λ b some.
         BeginsPart-less text (f.rest ++ next) some f.well_formed (subst (BeginsPartBy scheme m) (ap (λ x. x ++ next) f.parts ∙ append_assoc text f.rest next) b) in
         let first = IsFirstIllFormed-after scheme passed (piece ++ next) text at.aligned at.normalized.well_formed (IsFirstIllFormed-more scheme piece text next f (steps-apart piece next a)) in (
           passed ++ text,
@@ -332,7 +346,7 @@ module _ (scheme : EncodingScheme) (m : MadeForm) where
     agrees = subst (λ x. Agrees scheme m [] x cursor) (sym none) (Agrees-none cursor at);
   }
 
-  pub IsReadTo-more : (l k n : Option (List ℕ)) (c d : List ℕ) (cursor : Cursor) (some : Bool) → IsReadTo scheme m l k c cursor → Carries k n c d some → IsReadTo scheme m l n d cursor
+  abbrev pub IsReadTo-more : (l k n : Option (List ℕ)) (c d : List ℕ) (cursor : Cursor) (some : Bool) → IsReadTo scheme m l k c cursor → Carries k n c d some → IsReadTo scheme m l n d cursor
   IsReadTo-more l k n c d cursor some p b = record {
     read = p.read ++ b.more;
     consumed = Consumes-trans l k n p.read b.more p.consumed b.consumed;
@@ -341,18 +355,21 @@ module _ (scheme : EncodingScheme) (m : MadeForm) where
     agrees = subst (λ x. Agrees scheme m p.passed x cursor) (sym b.appended) (Agrees-more p.passed c b.more cursor p.agrees);
   }
 
-  pub IsReadTo-further : (l n : Option (List ℕ)) (c d : List ℕ) (cursor cursor' : Cursor) (p : IsReadTo scheme m l n c cursor) → AgreesFurther scheme m p.passed c d cursor'
-      → (q : IsReadTo scheme m l n d cursor') × (q.read ≡ p.read)
-  IsReadTo-further l n c d cursor cursor' p f = (
-    record {
-      read = p.read;
-      consumed = p.consumed;
-      passed = p.passed ++ f.front;
-      parts = p.parts ∙ ap (λ x. p.passed ++ x) f.parts ∙ sym (append_assoc p.passed f.front d);
-      agrees = f.agrees;
-    },
-    refl,
-  )
+  -- a block is read, and a piece of it agrees
+  pub IsReadTo-block : (l k n : Option (List ℕ)) (c d rest : List ℕ) (some : Bool) (count : ℕ) (cursor cursor' : Cursor) (p : IsReadTo scheme m l k c cursor) → count ≤ length p.read → (b : Carries k n c d some)
+      → some ≡ true → ((passed : List ℕ) → Agrees scheme m passed d cursor → AgreesFurther scheme m passed d rest cursor') → (q : IsReadTo scheme m l n rest cursor') × (count + 1 ≤ length q.read)
+  IsReadTo-block l k n c d rest some count cursor cursor' p counted b came further =
+      let r = IsReadTo-more l k n c d cursor some p b in
+      let f = further r.passed r.agrees in (
+        record {
+          read = r.read;
+          consumed = r.consumed;
+          passed = r.passed ++ f.front;
+          parts = r.parts ∙ ap (λ x. r.passed ++ x) f.parts ∙ sym (append_assoc r.passed f.front rest);
+          agrees = f.agrees;
+        },
+        omega (arith, counted, b.some came, length-append p.read b.more),
+      )
 
   pub IsComparison-some : (mode : ErrorMode) (l n : Option (List ℕ)) (c : List ℕ) (cursor : Cursor) (p : IsReadTo scheme m l n c cursor) (found : Comparison)
       → ((next : List ℕ) → Compares scheme mode m.reading m.form (p.passed ++ (c ++ next)) found) → IsComparison scheme mode m.reading m.form l found
@@ -371,3 +388,8 @@ module _ (scheme : EncodingScheme) (m : MadeForm) where
     whole = subst (λ x. IfSome l (λ all. x ≡ all)) (append-nil p.read) (all_that_was_left l n p.read [] p.consumed (nothing_left n end));
     compares = subst (λ x. Compares scheme mode m.reading m.form x found) (sym p.parts) h;
   }
+
+  pub IsComparison-ended : (mode : ErrorMode) (l n : Option (List ℕ)) (c : List ℕ) (cursor : Cursor) → IsReadTo scheme m l n c cursor → IsAtEnd n → (r : Result Comparison TransferError)
+      → IfOk r (λ found. (passed : List ℕ) → Agrees scheme m passed c cursor → Compares scheme mode m.reading m.form (passed ++ c) found) → IfOk r (IsComparison scheme mode m.reading m.form l)
+  IsComparison-ended mode l n c cursor p end (Ok found) h = IsComparison-last mode l n c cursor p end found (h p.passed p.agrees)
+  IsComparison-ended mode l n c cursor p end (Err e) h = tt

@@ -49,25 +49,25 @@ module _ (front : List ℕ) (u : ℕ) where
 
 while-all : (p : ℕ → Bool) (xs ys : List ℕ) → length (take_while p xs) ≡ length xs → length (take_while p (xs ++ ys)) ≡ length xs + length (take_while p ys)
 while-all p [] ys all = omega arith
-while-all p (x ∷ xs) ys all = by (p x) refl
+while-all p (x ∷ xs) ys all = by (p x) refl (λ same. while-all p xs ys same)
   where
-    by : (b : Bool) → p x ≡ b → length (take_while p (x ∷ (xs ++ ys))) ≡ length (x ∷ xs) + length (take_while p ys)
-    by true is =
+    by : (b : Bool) → p x ≡ b → (length (take_while p xs) ≡ length xs → length (take_while p (xs ++ ys)) ≡ length xs + length (take_while p ys)) → length (take_while p (x ∷ (xs ++ ys))) ≡ length (x ∷ xs) + length (take_while p ys)
+    by true is ih =
         let one : take_while p (x ∷ xs) ≡ x ∷ take_while p xs = take_while-cons p x xs ∙ ap (λ b. cond b (x ∷ take_while p xs) []) is in
         let both : take_while p (x ∷ (xs ++ ys)) ≡ x ∷ take_while p (xs ++ ys) = take_while-cons p x (xs ++ ys) ∙ ap (λ b. cond b (x ∷ take_while p (xs ++ ys)) []) is in
-        omega (arith, ap length both, while-all p xs ys (omega (arith, all, ap length one)))
-    by false is = absurd (omega (arith, all, ap length (take_while-cons p x xs ∙ ap (λ b. cond b (x ∷ take_while p xs) []) is)))
+        omega (arith, ap length both, ih (omega (arith, all, ap length one)))
+    by false is ih = absurd (omega (arith, all, ap length (take_while-cons p x xs ∙ ap (λ b. cond b (x ∷ take_while p xs) []) is)))
 
 while-some : (p : ℕ → Bool) (xs ys : List ℕ) → length (take_while p xs) < length xs → length (take_while p (xs ++ ys)) ≡ length (take_while p xs)
 while-some p [] ys some = absurd (omega arith)
-while-some p (x ∷ xs) ys some = by (p x) refl
+while-some p (x ∷ xs) ys some = by (p x) refl (λ less. while-some p xs ys less)
   where
-    by : (b : Bool) → p x ≡ b → length (take_while p (x ∷ (xs ++ ys))) ≡ length (take_while p (x ∷ xs))
-    by true is =
+    by : (b : Bool) → p x ≡ b → (length (take_while p xs) < length xs → length (take_while p (xs ++ ys)) ≡ length (take_while p xs)) → length (take_while p (x ∷ (xs ++ ys))) ≡ length (take_while p (x ∷ xs))
+    by true is ih =
         let one : take_while p (x ∷ xs) ≡ x ∷ take_while p xs = take_while-cons p x xs ∙ ap (λ b. cond b (x ∷ take_while p xs) []) is in
         let both : take_while p (x ∷ (xs ++ ys)) ≡ x ∷ take_while p (xs ++ ys) = take_while-cons p x (xs ++ ys) ∙ ap (λ b. cond b (x ∷ take_while p (xs ++ ys)) []) is in
-        omega (arith, ap length both, ap length one, while-some p xs ys (omega (arith, some, ap length one)))
-    by false is =
+        omega (arith, ap length both, ap length one, ih (omega (arith, some, ap length one)))
+    by false is ih =
         ap length (take_while-cons p x (xs ++ ys) ∙ ap (λ b. cond b (x ∷ take_while p (xs ++ ys)) []) is)
         ∙ sym (ap length (take_while-cons p x xs ∙ ap (λ b. cond b (x ∷ take_while p xs) []) is))
 
