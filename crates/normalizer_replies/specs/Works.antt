@@ -15,23 +15,23 @@ use Rattle.normalizer_replies.specs.Making.{Making, Makes, Mapping, Maps, making
 -- something of a normal form, or something of the mapper
 pub data Work : Type 0 where
   OfForm : Task → EncodingScheme → ErrorMode → Making → Work
-  OfMapper : MapperTask → EncodingScheme → Mapping → Work
+  OfMapper : MapperTask → EncodingScheme → ErrorMode → Mapping → Work
 
 -- the work of a command, by what records mean
 abbrev pub work_by : List RecordValue → List Uts46RecordValue → Command → Work
 work_by records uts46 (command.OfForm task scheme mode form) = OfForm task scheme mode (making_by records form)
-work_by records uts46 (command.OfMapper task scheme) = OfMapper task scheme (mapping_by records uts46)
+work_by records uts46 (command.OfMapper task scheme mode) = OfMapper task scheme mode (mapping_by records uts46)
 
 -- the worker does this work
 abbrev pub Does : Worker → Work → Type 0
 Does (worker.OfForm task scheme mode n) (OfForm task' scheme' mode' m) =
     (task ≡ task') × (scheme ≡ scheme') × (mode ≡ mode') × Makes n m
-Does (worker.OfForm task scheme mode n) (OfMapper task' scheme' m) = ⊥
-Does (worker.OfMapper task scheme n) (OfForm task' scheme' mode' m) = ⊥
-Does (worker.OfMapper task scheme n) (OfMapper task' scheme' m) =
-    (task ≡ task') × (scheme ≡ scheme') × Maps (mapper_data_of n) m
+Does (worker.OfForm task scheme mode n) (OfMapper task' scheme' mode' m) = ⊥
+Does (worker.OfMapper task scheme mode n) (OfForm task' scheme' mode' m) = ⊥
+Does (worker.OfMapper task scheme mode n) (OfMapper task' scheme' mode' m) =
+    (task ≡ task') × (scheme ≡ scheme') × (mode ≡ mode') × Maps (mapper_data_of n) m
 
 -- it is something of the mapper
 abbrev pub IsOfMapper : Worker → Type 0
 IsOfMapper (worker.OfForm task scheme mode n) = ⊥
-IsOfMapper (worker.OfMapper task scheme n) = ⊤
+IsOfMapper (worker.OfMapper task scheme mode n) = ⊤

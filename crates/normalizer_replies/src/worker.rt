@@ -20,7 +20,7 @@ pub enum Command {
     /// Something of a normal form.
     OfForm(Task, EncodingScheme, ErrorMode, NormalForm),
     /// Something of the mapper.
-    OfMapper(MapperTask, EncodingScheme),
+    OfMapper(MapperTask, EncodingScheme, ErrorMode),
 }
 
 /// A command with what it needs.
@@ -29,7 +29,7 @@ pub enum Worker {
     /// Something of a normal form.
     OfForm(Task, EncodingScheme, ErrorMode, AnyNormalizer),
     /// Something of the mapper.
-    OfMapper(MapperTask, EncodingScheme, Uts46Mapper),
+    OfMapper(MapperTask, EncodingScheme, ErrorMode, Uts46Mapper),
 }
 
 /// Returns what works for a command, by what the records mean.
@@ -46,8 +46,8 @@ pub fn worker_for(built: &Built, command: Command) -> Result<Worker, NormalizeEr
         Command::OfForm(task, scheme, mode, form) => {
             Ok(Worker::OfForm(task, scheme, mode, normalizer_over(built, form)?))
         }
-        Command::OfMapper(task, scheme) => {
-            Ok(Worker::OfMapper(task, scheme, mapper_over(built)?))
+        Command::OfMapper(task, scheme, mode) => {
+            Ok(Worker::OfMapper(task, scheme, mode, mapper_over(built)?))
         }
     }
 }
@@ -65,8 +65,8 @@ impl Worker {
     {
         match self {
             Worker::OfForm(..) => unreachable!(),
-            Worker::OfMapper(task, scheme, mapper) => {
-                task.reply(alloc, *scheme, mapper, name, bytes)
+            Worker::OfMapper(task, scheme, mode, mapper) => {
+                task.reply(alloc, *scheme, *mode, mapper, name, bytes)
             }
         }
     }

@@ -17,3 +17,4 @@ pub use mismatch::{Comparison, Mismatch, first_mismatch};
 pub use position::Position;
 pub use scheme::{ByteOrder, EncodingScheme};
 pub use stream::write_form;
+pub use watch::text_of;

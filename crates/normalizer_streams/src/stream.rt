@@ -188,7 +188,7 @@ fn write_piece<W: Target>(
 }
 
 /// The part of a piece whose form is written.
-fn text_in(piece: &[u8], stop: Option<Stop>) -> &[u8]
+pub(crate) fn text_in(piece: &[u8], stop: Option<Stop>) -> &[u8]
     requires { IfSome stop (λ stop. stop.place ≤ length piece.now) }
     ensures { result.now ≡ text_in piece.now stop }
 {
