@@ -38,7 +38,7 @@ asks_after Locate word after names encoding mode scheme form named first in_sche
 pub asks_for_nothing : (word : List ℕ) (after : List (List ℕ)) (encoding : Option (List ℕ)) → ((task : MapperTask) → NamesMapperTask task word → ⊥)
     → ((form : NormalForm) → NamesForm form word → ⊥) → ((task : Task) → NamesTask task word → ⊥)
     → (mode : ErrorMode) (command : Command) (names : List (List ℕ)) → AsksFor word after encoding mode command names → ⊥
-asks_for_nothing word after encoding mapper form task mode (OfMapper t scheme) names asked = mapper t asked.0
+asks_for_nothing word after encoding mapper form task mode (OfMapper t scheme m) names asked = mapper t asked.0
 asks_for_nothing word after encoding mapper form task mode (OfForm Write scheme m f) names asked = form f asked.0
 asks_for_nothing word after encoding mapper form task mode (OfForm Check scheme m f) names asked = task Check asked.0
 asks_for_nothing word after encoding mapper form task mode (OfForm Locate scheme m f) names asked = task Locate asked.0
@@ -58,14 +58,14 @@ missed None = λ names no x named. let some : is_some (Some x) ≡ false = ap is
 known_word : (word : Option (List ℕ)) (after : List (List ℕ)) (encoding : Option (List ℕ)) (mode : ErrorMode) (command : Command) (names : List (List ℕ))
     → AsksFor (unwrap_or word []) after encoding mode command names → IfSome word IsCommandWord
 known_word None after encoding mode command names asked = tt
-known_word (Some word) after encoding mode (OfMapper t scheme) names asked = inl (t, asked.0)
+known_word (Some word) after encoding mode (OfMapper t scheme m) names asked = inl (t, asked.0)
 known_word (Some word) after encoding mode (OfForm Write scheme m f) names asked = inr (inr (f, asked.0))
 known_word (Some word) after encoding mode (OfForm Check scheme m f) names asked = inr (inl (Check, asked.0))
 known_word (Some word) after encoding mode (OfForm Locate scheme m f) names asked = inr (inl (Locate, asked.0))
 
 known_scheme : (word : List ℕ) (after : List (List ℕ)) (encoding : Option (List ℕ)) (mode : ErrorMode) (command : Command) (names : List (List ℕ))
     → AsksFor word after encoding mode command names → (scheme : EncodingScheme) × IsScheme encoding scheme
-known_scheme word after encoding mode (OfMapper t scheme) names asked = (scheme, asked.2)
+known_scheme word after encoding mode (OfMapper t scheme m) names asked = (scheme, asked.2)
 known_scheme word after encoding mode (OfForm Write scheme m f) names asked = (scheme, asked.2)
 known_scheme word after encoding mode (OfForm Check scheme m f) names asked = (scheme, asked.2)
 known_scheme word after encoding mode (OfForm Locate scheme m f) names asked = (scheme, asked.2)

@@ -4,7 +4,7 @@ use Rattle.std.specs.Prelude.{All, IsErrOf, IsSomeAnd, nat_lt, if◌then◌else�
 use Rattle.std.specs.Option.{option_map, option_to_list}
 use Rattle.std.specs.Io.KnownBytes.{Appends}
 use Rattle.std.proofs.Math.Seq.{drop-append_seam, take-append_seam}
-use Rattle.std.proofs.lemmas.Bool.{cases_Bool, true≢false}
+use Rattle.std.proofs.lemmas.Bool.{ltb-false, ltb-true, true≢false}
 use Rattle.std.proofs.lemmas.List.Elements.{All-drop, All-head, All-take}
 use Rattle.std.specs.declared.io.ErrorKind.{ErrorKind}
 use Rattle.std.specs.declared.io.ErrorKind.TheVariants.{NotFound}
@@ -27,15 +27,12 @@ use Rattle.normalizer_command.specs.declared.fault.Fault.TheVariants.{Open, Read
 
 -- ---- the greatest of statuses
 
-lesser : (a b : ℕ) → nat_lt a b ≡ true → a < b
-lesser a b yes = omega (arith, yes)
-
 greater-nil : (a : ℕ) → a ≡ greater a 0
 greater-nil a = by (nat_lt a 0) refl
   where
     by : (b : Bool) → nat_lt a 0 ≡ b → a ≡ greater a 0
     by false is = rw is refl
-    by true is = let less : a < 0 = lesser a 0 is in absurd (omega arith)
+    by true is = absurd (omega (arith, ltb-true a 0 is))
 
 -- ---- reports that are known
 
@@ -65,7 +62,7 @@ unwritten-open : (w : Work) (kind : ErrorKind) (Unwritten CutOff : Type 0) → L
 unwritten-open (OfForm task.Write s mode m) kind Unwritten CutOff h = h
 unwritten-open (OfForm task.Check s mode m) kind Unwritten CutOff h = h
 unwritten-open (OfForm task.Locate s mode m) kind Unwritten CutOff h = h
-unwritten-open (OfMapper t s m) kind Unwritten CutOff h = h
+unwritten-open (OfMapper t s mode m) kind Unwritten CutOff h = h
 
 module _ {W : Type 0} (taken : W → Option (List ℕ)) (items : W → List ℕ) (known : (x : W) → taken x ≡ Some (items x)) (write_refused : W → W → Type 0) (files : List NamedBytes) where
   abbrev pub d : Devices W
@@ -151,10 +148,11 @@ module _ {W : Type 0} (taken : W → Option (List ℕ)) (items : W → List ℕ)
     greater-after a b c = by (nat_lt a b) (nat_lt b c) (nat_lt a c) refl refl refl
       where
         by : (x y z : Bool) → nat_lt a b ≡ x → nat_lt b c ≡ y → nat_lt a c ≡ z → greater (greater a b) c ≡ greater a (greater b c)
-        by true true z p q r = let ac : nat_lt a c ≡ true = omega (arith, p, q) in rw (p, q, ac) refl
+        by true true true p q r = rw (p, q, r) refl
+        by true true false p q r = absurd (omega (arith, ltb-true a b p, ltb-true b c q, ltb-false a c r))
         by true false z p q r = rw (p, q, p) refl
         by false true z p q r = rw (p, q) refl
-        by false false true p q r = absurd (omega (arith, p, q, r))
+        by false false true p q r = absurd (omega (arith, ltb-false a b p, ltb-false b c q, ltb-true a c r))
         by false false false p q r = rw (p, q, r, p) refl
 
     joined : (name : List ℕ) (names : List (List ℕ)) (s next t : State W) (outcome : Result Answer Fault) (after : List Report) → (rest : Handled names next t after) → One name s next outcome rest.told
@@ -210,6 +208,10 @@ module _ {W : Type 0} (taken : W → Option (List ℕ)) (items : W → List ℕ)
   some-same : (a b : List Report) → Some a ≡ Some b → a ≡ b
   some-same a b e = cc
 
+  effect-same : (o o' : List ℕ) (r r' : List Report) (n n' : ℕ) → o ≡ o' → r ≡ r' → n ≡ n'
+      → (let e : Effect = record { output = o; reports = r; status = n } in e) ≡ (let e : Effect = record { output = o'; reports = r'; status = n' } in e)
+  effect-same o o' r r' n n' a b c = rw (a, b, c) refl
+
   runs : (command : Command) (directory : List ℕ) (names : List (List ℕ)) (s t : State W) (after : List Report) → s.told ≡ Some [] → items s.writer ≡ [] → s.status ≡ 0 → t.told ≡ Some after
       → All IsOfData after → RunsByFiles d command directory names s t → RunsInMemory files command directory names (record { output = items t.writer; reports = after; status = t.status })
   runs command directory names s t after none empty zero now of_data r =
@@ -226,7 +228,7 @@ module _ {W : Type 0} (taken : W → Option (List ℕ)) (items : W → List ℕ)
         records = r.records;
         uts46 = r.uts46;
         recorded = r.recorded;
-        handled = rw (output, reports, status) h.handled;
+        handled = subst (AreHandled files (work_by r.records r.uts46 command) names) (sym (effect-same (items t.writer) h.effect.output after h.effect.reports t.status h.effect.status output reports status)) h.handled;
       }
     where
       zero-greater : (n : ℕ) → greater 0 n ≡ n
@@ -234,7 +236,7 @@ module _ {W : Type 0} (taken : W → Option (List ℕ)) (items : W → List ℕ)
         where
           by : (b : Bool) → nat_lt 0 n ≡ b → greater 0 n ≡ n
           by true is = rw is refl
-          by false is = rw is (omega (arith, is))
+          by false is = rw is (omega (arith, ltb-false 0 n is))
 
   read-fault : (directory : List ℕ) (command : Command) (file : UcdFile) (fault : Fault) → is_refusal fault ≡ false → IsReadFault d directory file fault → IsFaultInMemory files command directory file fault
   read-fault directory command file (Open kind) of_data why = inl (why.0, ap Open why.1)
@@ -249,7 +251,7 @@ module _ {W : Type 0} (taken : W → Option (List ℕ)) (items : W → List ℕ)
   lacks : (command : Command) (directory : List ℕ) (s t : State W) (after : List Report) → s.told ≡ Some [] → items s.writer ≡ [] → t.told ≡ Some after → All IsOfData after
       → LacksData d command directory s t → LacksDataInMemory files command directory (record { output = items t.writer; reports = after; status = t.status })
   lacks command directory s t after none empty now of_data l =
-      let report = (path_of directory l.file, l.fault) in
+      let report : Report = (path_of directory l.file, l.fault) in
       let told = told-before s.told (path_of directory l.file) l.fault after (subst (λ x. Tells s.told x report) now l.told) in
       let parts : after ≡ report ∷ [] = told.parts ∙ ap (λ x. x ++ report ∷ []) (some-same told.told [] (sym told.was ∙ none)) in
       let fine : is_refusal l.fault ≡ false = last-of-data [] report (subst (All IsOfData) parts of_data) in
@@ -259,7 +261,7 @@ module _ {W : Type 0} (taken : W → Option (List ℕ)) (items : W → List ℕ)
         fault = l.fault;
         why = elim l.why [ inl read ↦ read-fault directory command l.file l.fault fine read | inr data_fault ↦ inr data_fault ];
         of_data = λ memory. true≢false (sym (ap is_refusal memory) ∙ fine);
-        effect = rw (output, parts, l.status) refl;
+        effect = effect-same (items t.writer) [] after (report ∷ []) t.status 2 output parts l.status;
       }
 
   pub effect-of-run : (command : Command) (directory : List ℕ) (names : List (List ℕ)) (s t : State W) (after : List Report) → s.told ≡ Some [] → items s.writer ≡ [] → s.status ≡ 0 → t.told ≡ Some after

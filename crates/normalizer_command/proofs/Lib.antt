@@ -2,3 +2,5 @@ pub mod FileLemmas
 pub mod ArgumentLemmas
 pub mod WriteLemmas
 pub mod InMemoryLemmas
+pub mod NamedFiles
+pub mod KeptLemmas

@@ -111,12 +111,9 @@ module _ (s : EncodingScheme) (mode : ErrorMode) (n : AnyNormalizer) (m : Making
       → (Unwritten : Type 0) → IfErr r (λ f. f ≢ fault.Write → Unwritten)
       → IfErr r (λ f. Leaves (OfForm task s mode m) f Unwritten (IsCutOff (OfForm task s mode m) name left before after))
   comparison_left task other c x (Ok answer) cut Unwritten un = tt
-  comparison_left task other c x (Err f) cut Unwritten un = by f cut un
+  comparison_left task other c x (Err f) cut Unwritten un = by f (λ e. cut (ap (λ y. Err y) e)) un
     where
-      CutOff : Type 0
-      CutOff = IsCutOff (OfForm task s mode m) name left before after
-
-      by : (f : Fault) → (IsErrOf {A = Answer} (Err f) fault.Write → (answer : Answer) × (output : List ℕ) × TellsComparison task s name c answer output × AppendsFront before after output)
+      by : (f : Fault) → (f ≡ fault.Write → (answer : Answer) × (output : List ℕ) × TellsComparison task s name c answer output × AppendsFront before after output)
           → (f ≢ fault.Write → Unwritten) → Leaves (OfForm task s mode m) f Unwritten (IsCutOff (OfForm task s mode m) name left before after)
       by fault.Write cut un = let k = cut refl in
           leaves_write task other Unwritten (IsCutOff (OfForm task s mode m) name left before after) (k.0, k.1, compared task other c x k.0 k.1 k.2, k.3)
@@ -134,5 +131,5 @@ pub work_of_form : (task : Task) (s : EncodingScheme) (mode : ErrorMode) (n : An
 work_of_form task s mode n self is P each (OfForm task' s' mode' m) does =
     let same : Does (worker.OfForm task s mode n) (OfForm task' s' mode' m) = subst (λ x. Does x (OfForm task' s' mode' m)) is does in
     subst (λ x. P (OfForm x s' mode' m)) same.0 (subst (λ x. P (OfForm task x mode' m)) same.1 (subst (λ x. P (OfForm task s x m)) same.2 (each m same.3)))
-work_of_form task s mode n self is P each (OfMapper task' s' m) does =
-    let never : Does (worker.OfForm task s mode n) (OfMapper task' s' m) = subst (λ x. Does x (OfMapper task' s' m)) is does in absurd never
+work_of_form task s mode n self is P each (OfMapper task' s' mode' m) does =
+    let never : Does (worker.OfForm task s mode n) (OfMapper task' s' mode' m) = subst (λ x. Does x (OfMapper task' s' mode' m)) is does in absurd never

@@ -59,8 +59,8 @@ AreKnown word encoding = IfSome word IsCommandWord × ((scheme : EncodingScheme)
 -- map NAMES or validate NAMES.
 abbrev pub AsksFor : (word : List ℕ) (after : List (List ℕ)) (encoding : Option (List ℕ)) (mode : ErrorMode) → Command
     → (names : List (List ℕ)) → Type 0
-AsksFor word after encoding mode (OfMapper task scheme) names =
-    NamesMapperTask task word × (after ≡ names) × IsScheme encoding scheme
+AsksFor word after encoding mode (OfMapper task scheme m) names =
+    NamesMapperTask task word × (after ≡ names) × IsScheme encoding scheme × (m ≡ mode)
 AsksFor word after encoding mode (OfForm Write scheme m form) names =
     NamesForm form word × (after ≡ names) × IsScheme encoding scheme × (m ≡ mode)
 AsksFor word after encoding mode (OfForm task scheme m form) names = NamesTask task word

@@ -35,7 +35,7 @@ IsFile bytes_of can_open directory file bytes =
 abbrev pub IsTable : (List ℕ → Option (List ℕ)) → (can_open : List ℕ → Type 0) → (directory : List ℕ) → Command
     → (table : Option (List ℕ)) → Type 0
 IsTable bytes_of can_open directory (OfForm task scheme mode form) table = table ≡ None
-IsTable bytes_of can_open directory (OfMapper task scheme) table =
+IsTable bytes_of can_open directory (OfMapper task scheme mode) table =
     IsSomeAnd table (λ bytes. IsFile bytes_of can_open directory IdnaMappingTable bytes)
 
 -- these are the bytes of the files that a command needs, if they are known

@@ -1,8 +1,8 @@
 //! The program over files in memory: from the bytes of Unicode's files to what it writes and reports.
 ghost use Rattle.std.specs.Prelude.{
   ◌≡◌,
-  ◌×◌,
   ◌++◌,
+  [],
   false,
   true,
   map,
@@ -99,6 +99,7 @@ pub fn run_in_memory(
 }
 
 /// Files in memory, as inputs.
+#[derive(Clone, Copy)]
 struct NamedFiles<'a> {
     files: &'a [NamedFile<'a>],
 }
@@ -206,7 +207,7 @@ impl Reports for KeptReports {
 
 /// A report that is kept of a message.
 fn kept(alloc: Global, message: Message<'_>) -> Result<KeptReport, AllocError>
-    ensures { IfOk result (λ report. kept_report report ≡ report_of message) }
+    ensures { IfOk result (λ report. kept_report report ≡ report_of message.entry) }
 {
     Ok(KeptReport {
         name: whole_name(alloc, message.directory, message.name)?,

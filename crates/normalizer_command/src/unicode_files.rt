@@ -1,5 +1,5 @@
 //! The data of a directory of Unicode's files.
-ghost use Rattle.std.specs.Prelude.{◌≡◌, List, ⊤, IfOk, IfErr, IfSome, string_bytes};
+ghost use Rattle.std.specs.Prelude.{◌≡◌, List, ⊤, IfOk, IfErr, IfSome, OnOk, string_bytes};
 ghost use Rattle.std.specs.Option.{option_map};
 ghost use Rattle.icu_normalizer.specs.Built.{data_in};
 ghost use Rattle.normalizer_command.specs.UnicodeFiles.{
@@ -20,9 +20,8 @@ ghost use Rattle.normalizer_ucd.specs.FallibleReads.{Gives};
 
 use crate::devices::Inputs;
 use crate::fault::Fault;
-use icu_normalizer::{Built, Records};
+use icu_normalizer::{Built, Record, Records, Uts46Record};
 use normalizer_io::read_all;
-use normalizer_records::{Record, Uts46Record};
 use normalizer_replies::Command;
 use normalizer_ucd::{
     Disallowed, UcdError, UcdFile, records_of_unicode_data, uts46_records_beside_exclusions,
@@ -131,6 +130,7 @@ pub(crate) fn read_file<I: Inputs>(
 
 /// The bytes of a file.
 fn read<I: Inputs>(alloc: Global, inputs: &I, path: &str) -> Result<Vec<u8>, Fault>
+    ensures opened { OnOk result (I.can_open inputs.now path.now) }
     ensures bytes { IfOk result (λ v. IfSome (I.bytes_of inputs.now path.now) (λ all. v.items ≡ all)) }
     ensures fault { IfErr result (IsFileFault (I.cannot_open inputs.now path.now) (I.read_refused inputs.now path.now) ⊥
         (I.unrefused inputs.now path.now)) }
