@@ -11,7 +11,7 @@ use Rattle.clap.specs.Walk.{Text, one_of, rows_of}
 use Rattle.clap.specs.declared.error.kind.ErrorKind.TheVariants.{OutOfMemory}
 use Rattle.clap.specs.declared.parser.matches.ArgMatches.{ArgMatches}
 use Rattle.clap.specs.declared.error.Error.{Error}
-use Rattle.normalizer_built.specs.declared.NormalForm.{NormalForm}
+use Rattle.icu_normalizer.specs.declared.any_normalizer.NormalForm.{NormalForm}
 use Rattle.normalizer_streams.specs.declared.ill_formed.ErrorMode.{ErrorMode}
 use Rattle.normalizer_streams.specs.declared.ill_formed.ErrorMode.TheVariants.{Fatal, Replacement}
 use Rattle.normalizer_streams.specs.declared.scheme.EncodingScheme.{EncodingScheme}
@@ -29,19 +29,19 @@ differ e = let e = e in cc
 -- a task that is followed by a form
 pub asks_after : (task : Task) (word : List ℕ) (after names : List (List ℕ)) (encoding : Option (List ℕ)) (mode : ErrorMode) (scheme : EncodingScheme) (form : NormalForm)
     → NamesTask task word → ((first : List ℕ) × NamesForm form first × (after ≡ first ∷ names)) → IsScheme encoding scheme
-    → AsksFor word after encoding mode (OfForm task scheme form) names
-asks_after (Write m) word after names encoding mode scheme form named first in_scheme = absurd named
-asks_after Check word after names encoding mode scheme form named first in_scheme = (named, first, in_scheme)
-asks_after Locate word after names encoding mode scheme form named first in_scheme = (named, first, in_scheme)
+    → AsksFor word after encoding mode (OfForm task scheme mode form) names
+asks_after Write word after names encoding mode scheme form named first in_scheme = absurd named
+asks_after Check word after names encoding mode scheme form named first in_scheme = (named, first, in_scheme, refl)
+asks_after Locate word after names encoding mode scheme form named first in_scheme = (named, first, in_scheme, refl)
 
 -- a word that names nothing
 pub asks_for_nothing : (word : List ℕ) (after : List (List ℕ)) (encoding : Option (List ℕ)) → ((task : MapperTask) → NamesMapperTask task word → ⊥)
     → ((form : NormalForm) → NamesForm form word → ⊥) → ((task : Task) → NamesTask task word → ⊥)
     → (mode : ErrorMode) (command : Command) (names : List (List ℕ)) → AsksFor word after encoding mode command names → ⊥
-asks_for_nothing word after encoding mapper form task mode (OfMapper t scheme) names asked = mapper t asked.0
-asks_for_nothing word after encoding mapper form task mode (OfForm (Write m) scheme f) names asked = form f asked.0
-asks_for_nothing word after encoding mapper form task mode (OfForm Check scheme f) names asked = task Check asked.0
-asks_for_nothing word after encoding mapper form task mode (OfForm Locate scheme f) names asked = task Locate asked.0
+asks_for_nothing word after encoding mapper form task mode (OfMapper t scheme m) names asked = mapper t asked.0
+asks_for_nothing word after encoding mapper form task mode (OfForm Write scheme m f) names asked = form f asked.0
+asks_for_nothing word after encoding mapper form task mode (OfForm Check scheme m f) names asked = task Check asked.0
+asks_for_nothing word after encoding mapper form task mode (OfForm Locate scheme m f) names asked = task Locate asked.0
 
 -- a value that a search by a word found, or missed
 pub found : {T : Type 0} {Names : T → Type 0} (result : Option T) → ((x : T) → (result ≡ Some x) ↔ Names x) → is_some result ≡ true
@@ -58,17 +58,17 @@ missed None = λ names no x named. let some : is_some (Some x) ≡ false = ap is
 known_word : (word : Option (List ℕ)) (after : List (List ℕ)) (encoding : Option (List ℕ)) (mode : ErrorMode) (command : Command) (names : List (List ℕ))
     → AsksFor (unwrap_or word []) after encoding mode command names → IfSome word IsCommandWord
 known_word None after encoding mode command names asked = tt
-known_word (Some word) after encoding mode (OfMapper t scheme) names asked = inl (t, asked.0)
-known_word (Some word) after encoding mode (OfForm (Write m) scheme f) names asked = inr (inr (f, asked.0))
-known_word (Some word) after encoding mode (OfForm Check scheme f) names asked = inr (inl (Check, asked.0))
-known_word (Some word) after encoding mode (OfForm Locate scheme f) names asked = inr (inl (Locate, asked.0))
+known_word (Some word) after encoding mode (OfMapper t scheme m) names asked = inl (t, asked.0)
+known_word (Some word) after encoding mode (OfForm Write scheme m f) names asked = inr (inr (f, asked.0))
+known_word (Some word) after encoding mode (OfForm Check scheme m f) names asked = inr (inl (Check, asked.0))
+known_word (Some word) after encoding mode (OfForm Locate scheme m f) names asked = inr (inl (Locate, asked.0))
 
 known_scheme : (word : List ℕ) (after : List (List ℕ)) (encoding : Option (List ℕ)) (mode : ErrorMode) (command : Command) (names : List (List ℕ))
     → AsksFor word after encoding mode command names → (scheme : EncodingScheme) × IsScheme encoding scheme
-known_scheme word after encoding mode (OfMapper t scheme) names asked = (scheme, asked.2)
-known_scheme word after encoding mode (OfForm (Write m) scheme f) names asked = (scheme, asked.2)
-known_scheme word after encoding mode (OfForm Check scheme f) names asked = (scheme, asked.2)
-known_scheme word after encoding mode (OfForm Locate scheme f) names asked = (scheme, asked.2)
+known_scheme word after encoding mode (OfMapper t scheme m) names asked = (scheme, asked.2)
+known_scheme word after encoding mode (OfForm Write scheme m f) names asked = (scheme, asked.2)
+known_scheme word after encoding mode (OfForm Check scheme m f) names asked = (scheme, asked.2)
+known_scheme word after encoding mode (OfForm Locate scheme m f) names asked = (scheme, asked.2)
 
 pub asks_by_known_words : (word : Option (List ℕ)) (after : List (List ℕ)) (encoding : Option (List ℕ)) (mode : ErrorMode) (command : Command) (names : List (List ℕ))
     → AsksFor (unwrap_or word []) after encoding mode command names → AreKnown word encoding

@@ -1,3 +1,6 @@
 pub mod FileLemmas
 pub mod ArgumentLemmas
 pub mod WriteLemmas
+pub mod InMemoryLemmas
+pub mod NamedFiles
+pub mod KeptLemmas

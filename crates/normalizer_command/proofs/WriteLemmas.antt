@@ -1,56 +1,135 @@
--- What is written of a form that fails is a beginning of what the work is to write.
-use Rattle.std.proofs.Common.{◌≡◌, ℕ, List, Option, Result, Ok, Err, IfErr, ap, refl, subst, sym}
-use Rattle.std.specs.Prelude.{IsErrAnd}
-use Rattle.normalizer_text.specs.EncodedForm.{encoded_form}
-use Rattle.normalizer_text.specs.Encodings.{decoded_in, encoded_in}
-use Rattle.normalizer_built.specs.declared.normalizer.Normalizer.{Normalizer}
+-- What is written of the form of a file, or of its comparison with it, is what the work is to write, or a beginning.
+use Rattle.std.proofs.Common.{◌≡◌, ◌≢◌, ℕ, List, Option, Result, Ok, Err, IfOk, IfErr, ap, refl, subst, sym}
+use Rattle.std.specs.Prelude.{IsErrAnd, IsErrOf}
+use Rattle.std.specs.Io.KnownBytes.{Appends}
+use Rattle.icu_normalizer.specs.AnyNormalizers.{kind_by, reading_of}
+use Rattle.icu_normalizer.specs.EncodedForm.{encoded_form}
+use Rattle.icu_normalizer.specs.Encodings.{decoded_in, encoded_in}
+use Rattle.icu_normalizer.specs.declared.any_normalizer.AnyNormalizer.{AnyNormalizer}
+use Rattle.normalizer_io.specs.Transfer.{AppendsFront}
 use Rattle.normalizer_io.specs.declared.outcome.TransferError.{TransferError}
 use Rattle.normalizer_io.specs.declared.outcome.TransferError.TheVariants as transfer
 use Rattle.normalizer_streams.specs.declared.ill_formed.ErrorMode.{ErrorMode}
+use Rattle.normalizer_streams.specs.declared.mismatch.Comparison.{Comparison}
 use Rattle.normalizer_streams.specs.declared.scheme.EncodingScheme.{EncodingScheme}
+use Rattle.normalizer_streams.specs.Mismatches.{IsComparison}
 use Rattle.normalizer_streams.specs.Schemes.{bytes_of, encoding_of, units_of}
 use Rattle.normalizer_streams.specs.Streams.{form_by, IsFormCutOff}
 use Rattle.normalizer_replies.specs.declared.reply.Answer.{Answer}
 use Rattle.normalizer_replies.specs.declared.reply.Answer.TheVariants.{Ended}
-use Rattle.normalizer_replies.specs.declared.reply.Task.TheVariants as task
+use Rattle.normalizer_replies.specs.declared.reply.Task.{Task}
+use Rattle.normalizer_replies.specs.declared.reply.Task.TheVariants.{Write, Check, Locate}
 use Rattle.normalizer_replies.specs.declared.worker.Worker.{Worker}
 use Rattle.normalizer_replies.specs.declared.worker.Worker.TheVariants as worker
 use Rattle.normalizer_replies.specs.Making.{Makes, Making}
+use Rattle.normalizer_replies.specs.Mismatches.{TellsComparison}
+use Rattle.normalizer_replies.specs.Replies.{IsReplyOfComparison, IsReplyOfForm}
 use Rattle.normalizer_replies.specs.Works.{Does, OfForm, OfMapper, Work}
+use Rattle.normalizer_replies.proofs.MismatchLemmas.{compares-by}
 use Rattle.normalizer_command.specs.FileFaults.{fault_of_transfer}
-use Rattle.normalizer_command.specs.Outcomes.{IsCutOff, Leaves}
+use Rattle.normalizer_command.specs.Outcomes.{IsCutOff, IsWritten, Leaves, Replies}
 use Rattle.normalizer_command.specs.declared.fault.Fault.{Fault}
+use Rattle.normalizer_command.specs.declared.fault.Fault.TheVariants as fault
 
-module _ (mode : ErrorMode) (s : EncodingScheme) (n : Normalizer) (name : List ℕ) (left before after : Option (List ℕ)) where
-  module _ (m : Making) (makes : Makes n m) where
-    same_form : (text : List ℕ) → form_by s n text ≡ bytes_of s (encoded_form (encoding_of s) m.reading m.form (units_of s text))
-    same_form text = ap (λ x. bytes_of s (encoded_in (encoding_of s) x)) (makes.same (decoded_in (encoding_of s) (units_of s text)))
+module _ (s : EncodingScheme) (mode : ErrorMode) (n : AnyNormalizer) (m : Making) (makes : Makes n m) (name : List ℕ) (left before after : Option (List ℕ)) where
+  same_form : (text : List ℕ) → form_by s n text ≡ bytes_of s (encoded_form (encoding_of s) m.reading m.form (units_of s text))
+  same_form text = ap (λ x. bytes_of s (encoded_in (encoding_of s) x)) (makes.same (decoded_in (encoding_of s) (units_of s text)))
 
-    cut_off : IsFormCutOff s mode (form_by s n) left before after → IsCutOff (OfForm (task.Write mode) s m) name left before after
-    cut_off f = (
-      Ended s f.ending,
-      form_by s n f.text,
-      record { input = f.input; whole = f.whole; reply = (refl, record { text = f.text; ends = f.ends; form = same_form f.text }) },
-      f.output,
-    )
+  cut_off : IsFormCutOff s mode (form_by s n) left before after → IsCutOff (OfForm Write s mode m) name left before after
+  cut_off f = (
+    Ended s f.ending,
+    form_by s n f.text,
+    record { input = f.input; whole = f.whole; reply = (refl, record { text = f.text; ends = f.ends; form = same_form f.text }) },
+    f.output,
+  )
 
-  module _ (self : Worker) (is : self ≡ worker.OfForm (task.Write mode) s n) where
-    left_by : (error : TransferError) (m : Making) (Unwritten CutOff : Type 0) → CutOff → Leaves (OfForm (task.Write mode) s m) (fault_of_transfer error) Unwritten CutOff
-    left_by transfer.Read m Unwritten CutOff cut = cut
-    left_by transfer.Write m Unwritten CutOff cut = cut
-    left_by transfer.Memory m Unwritten CutOff cut = cut
+  left_by : (error : TransferError) (Unwritten CutOff : Type 0) → CutOff → Leaves (OfForm Write s mode m) (fault_of_transfer error) Unwritten CutOff
+  left_by transfer.Read Unwritten CutOff cut = cut
+  left_by transfer.Write Unwritten CutOff cut = cut
+  left_by transfer.Memory Unwritten CutOff cut = cut
 
-    leaves_by : (error : TransferError) (Unwritten : Type 0) → IsFormCutOff s mode (form_by s n) left before after → (w : Work) → Does self w
-        → Leaves w (fault_of_transfer error) Unwritten (IsCutOff w name left before after)
-    leaves_by error Unwritten f (OfForm t s' m) does =
-        let same : Does (worker.OfForm (task.Write mode) s n) (OfForm t s' m) = subst (λ x. Does x (OfForm t s' m)) is does in
-        subst (λ x. Leaves (OfForm x s' m) (fault_of_transfer error) Unwritten (IsCutOff (OfForm x s' m) name left before after)) same.0
-        (subst (λ x. Leaves (OfForm (task.Write mode) x m) (fault_of_transfer error) Unwritten (IsCutOff (OfForm (task.Write mode) x m) name left before after)) same.1
-        (left_by error m Unwritten (IsCutOff (OfForm (task.Write mode) s m) name left before after) (cut_off m same.2 f)))
-    leaves_by error Unwritten f (OfMapper t s' m) does =
-        let never : Does (worker.OfForm (task.Write mode) s n) (OfMapper t s' m) = subst (λ x. Does x (OfMapper t s' m)) is does in absurd never
+  pub form_left : (r : Result Answer Fault) (error : TransferError) → IsErrAnd r (λ fault. fault ≡ fault_of_transfer error) → (Unwritten : Type 0)
+      → IsFormCutOff s mode (form_by s n) left before after → IfErr r (λ fault. Leaves (OfForm Write s mode m) fault Unwritten (IsCutOff (OfForm Write s mode m) name left before after))
+  form_left (Ok answer) error e Unwritten f = tt
+  form_left (Err fault) error e Unwritten f =
+      subst (λ x. Leaves (OfForm Write s mode m) x Unwritten (IsCutOff (OfForm Write s mode m) name left before after)) (sym e)
+      (left_by error Unwritten (IsCutOff (OfForm Write s mode m) name left before after) (cut_off f))
 
-    pub leaves_after : (r : Result Answer Fault) (error : TransferError) → IsErrAnd r (λ fault. fault ≡ fault_of_transfer error) → (Unwritten : Type 0)
-        → IsFormCutOff s mode (form_by s n) left before after → (w : Work) → Does self w → IfErr r (λ fault. Leaves w fault Unwritten (IsCutOff w name left before after))
-    leaves_after (Ok answer) error e Unwritten f w does = tt
-    leaves_after (Err fault) error e Unwritten f w does = subst (λ x. Leaves w x Unwritten (IsCutOff w name left before after)) (sym e) (leaves_by error Unwritten f w does)
+  as_reply : (task : Task) → task ≢ Write → (input : List ℕ) (answer : Answer) (output : List ℕ) → IsReplyOfComparison task s mode m name input answer output
+      → IsReplyOfForm task s mode m name input answer output
+  as_reply Write other input answer output r = absurd (other refl)
+  as_reply Check other input answer output r = r
+  as_reply Locate other input answer output r = r
+
+  compared : (task : Task) → task ≢ Write → (c : Comparison) → IsComparison s mode (reading_of n) (kind_by n) left c → (answer : Answer) (output : List ℕ)
+      → TellsComparison task s name c answer output → Replies (OfForm task s mode m) name left answer output
+  compared task other c x answer output told = record {
+    input = x.input;
+    whole = x.whole;
+    reply = as_reply task other x.input answer output
+        (record { comparison = c; compares = compares-by s mode (reading_of n) m.reading (kind_by n) m.form makes.same x.input c x.compares; told = told });
+  }
+
+  pub comparison_written : (task : Task) → task ≢ Write → (c : Comparison) → IsComparison s mode (reading_of n) (kind_by n) left c → (r : Result Answer Fault)
+      → IfOk r (λ answer. (output : List ℕ) × TellsComparison task s name c answer output × Appends before after output)
+      → IfOk r (IsWritten (OfForm task s mode m) name left before after)
+  comparison_written task other c x (Ok answer) w = (w.0, compared task other c x answer w.0 w.1, w.2)
+  comparison_written task other c x (Err fault) w = tt
+
+  leaves_write : (task : Task) → task ≢ Write → (Unwritten CutOff : Type 0) → CutOff → Leaves (OfForm task s mode m) fault.Write Unwritten CutOff
+  leaves_write Write other Unwritten CutOff cut = cut
+  leaves_write Check other Unwritten CutOff cut = cut
+  leaves_write Locate other Unwritten CutOff cut = cut
+
+  pub leaves_other : (task : Task) → task ≢ Write → (f : Fault) → f ≢ fault.Write → (Unwritten CutOff : Type 0) → Unwritten → Leaves (OfForm task s mode m) f Unwritten CutOff
+  leaves_other Write other f differs Unwritten CutOff un = absurd (other refl)
+  leaves_other Check other f differs Unwritten CutOff un = by f differs
+    where
+      by : (f : Fault) → f ≢ fault.Write → Leaves (OfForm Check s mode m) f Unwritten CutOff
+      by (fault.Open kind) differs = un
+      by fault.Read differs = un
+      by fault.Write differs = absurd (differs refl)
+      by fault.Memory differs = un
+      by (fault.Line l) differs = un
+      by (fault.Records e) differs = un
+      by (fault.IllFormed e at) differs = un
+      by (fault.Replaced count) differs = un
+  leaves_other Locate other f differs Unwritten CutOff un = by f differs
+    where
+      by : (f : Fault) → f ≢ fault.Write → Leaves (OfForm Locate s mode m) f Unwritten CutOff
+      by (fault.Open kind) differs = un
+      by fault.Read differs = un
+      by fault.Write differs = absurd (differs refl)
+      by fault.Memory differs = un
+      by (fault.Line l) differs = un
+      by (fault.Records e) differs = un
+      by (fault.IllFormed e at) differs = un
+      by (fault.Replaced count) differs = un
+
+  pub comparison_left : (task : Task) → task ≢ Write → (c : Comparison) → IsComparison s mode (reading_of n) (kind_by n) left c → (r : Result Answer Fault)
+      → (IsErrOf r fault.Write → (answer : Answer) × (output : List ℕ) × TellsComparison task s name c answer output × AppendsFront before after output)
+      → (Unwritten : Type 0) → IfErr r (λ f. f ≢ fault.Write → Unwritten)
+      → IfErr r (λ f. Leaves (OfForm task s mode m) f Unwritten (IsCutOff (OfForm task s mode m) name left before after))
+  comparison_left task other c x (Ok answer) cut Unwritten un = tt
+  comparison_left task other c x (Err f) cut Unwritten un = by f (λ e. cut (ap (λ y. Err y) e)) un
+    where
+      by : (f : Fault) → (f ≡ fault.Write → (answer : Answer) × (output : List ℕ) × TellsComparison task s name c answer output × AppendsFront before after output)
+          → (f ≢ fault.Write → Unwritten) → Leaves (OfForm task s mode m) f Unwritten (IsCutOff (OfForm task s mode m) name left before after)
+      by fault.Write cut un = let k = cut refl in
+          leaves_write task other Unwritten (IsCutOff (OfForm task s mode m) name left before after) (k.0, k.1, compared task other c x k.0 k.1 k.2, k.3)
+      by (fault.Open kind) cut un = leaves_other task other (fault.Open kind) (λ e. cc) Unwritten _ (un (λ e. cc))
+      by fault.Read cut un = leaves_other task other fault.Read (λ e. cc) Unwritten _ (un (λ e. cc))
+      by fault.Memory cut un = leaves_other task other fault.Memory (λ e. cc) Unwritten _ (un (λ e. cc))
+      by (fault.Line l) cut un = leaves_other task other (fault.Line l) (λ e. cc) Unwritten _ (un (λ e. cc))
+      by (fault.Records e) cut un = leaves_other task other (fault.Records e) (λ e. cc) Unwritten _ (un (λ e. cc))
+      by (fault.IllFormed e at) cut un = leaves_other task other (fault.IllFormed e at) (λ e. cc) Unwritten _ (un (λ e. cc))
+      by (fault.Replaced count) cut un = leaves_other task other (fault.Replaced count) (λ e. cc) Unwritten _ (un (λ e. cc))
+
+-- what holds for each form that a worker may be of holds for its work
+pub work_of_form : (task : Task) (s : EncodingScheme) (mode : ErrorMode) (n : AnyNormalizer) (self : Worker) → self ≡ worker.OfForm task s mode n → (P : Work → Type 0)
+    → ((m : Making) → Makes n m → P (OfForm task s mode m)) → (w : Work) → Does self w → P w
+work_of_form task s mode n self is P each (OfForm task' s' mode' m) does =
+    let same : Does (worker.OfForm task s mode n) (OfForm task' s' mode' m) = subst (λ x. Does x (OfForm task' s' mode' m)) is does in
+    subst (λ x. P (OfForm x s' mode' m)) same.0 (subst (λ x. P (OfForm task x mode' m)) same.1 (subst (λ x. P (OfForm task s x m)) same.2 (each m same.3)))
+work_of_form task s mode n self is P each (OfMapper task' s' mode' m) does =
+    let never : Does (worker.OfForm task s mode n) (OfMapper task' s' mode' m) = subst (λ x. Does x (OfMapper task' s' mode' m)) is does in absurd never

@@ -1,8 +1,8 @@
 -- What the words request that the program is started with.
 use Rattle.std.specs.Prelude.{◌≡◌, ◌≢◌, ◌⊎◌, ℕ, List, [], ◌∷◌, codes, map, Option, Some, None, option_copied, unwrap_or, IfSome}
 use Rattle.clap.specs.Walk.{Row, all_of, first_of, one_of}
-use Rattle.normalizer_built.specs.declared.NormalForm.{NormalForm}
-use Rattle.normalizer_built.specs.declared.NormalForm.TheVariants.{Nfd, Nfc, Nfkd, Nfkc}
+use Rattle.icu_normalizer.specs.declared.any_normalizer.NormalForm.{NormalForm}
+use Rattle.icu_normalizer.specs.declared.any_normalizer.NormalForm.TheVariants.{Nfd, Nfc, Nfkd, Nfkc}
 use Rattle.normalizer_streams.specs.declared.ill_formed.ErrorMode.{ErrorMode}
 use Rattle.normalizer_streams.specs.declared.ill_formed.ErrorMode.TheVariants.{Fatal, Replacement}
 use Rattle.normalizer_streams.specs.declared.scheme.ByteOrder.TheVariants.{Big, Little}
@@ -26,7 +26,7 @@ NamesForm Nfkd word = word ≡ codes "nfkd"
 
 -- the word of a task that is followed by that of a form
 abbrev pub NamesTask : Task → List ℕ → Type 0
-NamesTask (Write mode) word = ⊥
+NamesTask Write word = ⊥
 NamesTask Check word = word ≡ codes "check"
 NamesTask Locate word = word ≡ codes "where"
 
@@ -59,12 +59,12 @@ AreKnown word encoding = IfSome word IsCommandWord × ((scheme : EncodingScheme)
 -- map NAMES or validate NAMES.
 abbrev pub AsksFor : (word : List ℕ) (after : List (List ℕ)) (encoding : Option (List ℕ)) (mode : ErrorMode) → Command
     → (names : List (List ℕ)) → Type 0
-AsksFor word after encoding mode (OfMapper task scheme) names =
-    NamesMapperTask task word × (after ≡ names) × IsScheme encoding scheme
-AsksFor word after encoding mode (OfForm (Write m) scheme form) names =
+AsksFor word after encoding mode (OfMapper task scheme m) names =
+    NamesMapperTask task word × (after ≡ names) × IsScheme encoding scheme × (m ≡ mode)
+AsksFor word after encoding mode (OfForm Write scheme m form) names =
     NamesForm form word × (after ≡ names) × IsScheme encoding scheme × (m ≡ mode)
-AsksFor word after encoding mode (OfForm task scheme form) names = NamesTask task word
-    × ((first : List ℕ) × NamesForm form first × (after ≡ first ∷ names)) × IsScheme encoding scheme
+AsksFor word after encoding mode (OfForm task scheme m form) names = NamesTask task word
+    × ((first : List ℕ) × NamesForm form first × (after ≡ first ∷ names)) × IsScheme encoding scheme × (m ≡ mode)
 
 -- ill-formed input is fatal if the flag of `--strict` is set
 abbrev pub IsMode : (flag : Option (List ℕ)) → ErrorMode → Type 0

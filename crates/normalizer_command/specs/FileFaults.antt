@@ -5,8 +5,8 @@ use Rattle.std.specs.declared.io.ErrorKind.{ErrorKind}
 use Rattle.normalizer_io.specs.Transfer.{IsUnrefused}
 use Rattle.normalizer_io.specs.declared.outcome.TransferError.{TransferError}
 use Rattle.normalizer_io.specs.declared.outcome.TransferError.TheVariants as transfer
-use Rattle.normalizer_records.specs.declared.records.BuildError.{BuildError}
-use Rattle.normalizer_records.specs.declared.records.BuildError.TheVariants as build_error
+use Rattle.icu_normalizer.specs.BuildError.{BuildError}
+use Rattle.icu_normalizer.specs.BuildError.TheVariants as build_error
 use Rattle.normalizer_ucd.specs.declared.error.UcdError.{UcdError}
 use Rattle.normalizer_ucd.specs.declared.error.UcdError.TheVariants as ucd
 use Rattle.normalizer_command.specs.declared.fault.Fault.{Fault}

@@ -9,3 +9,5 @@ pub mod Arguments
 pub mod Messages
 pub mod CommandLine
 pub mod DataDirectory
+pub mod InMemory
+pub mod inner

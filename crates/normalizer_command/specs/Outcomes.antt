@@ -1,5 +1,5 @@
 -- What becomes of files, one after another.
-use Rattle.std.specs.Prelude.{◌≡◌, ◌⊎◌, ◌==◌, ℕ, List, [], ◌∷◌, Option, Some, None, Result, Ok, Err, IfOk, IfErr, IfSome, IsErrOf}
+use Rattle.std.specs.Prelude.{◌≡◌, ◌⊎◌, ◌==◌, ℕ, List, [], ◌∷◌, Option, Some, None, Result, Ok, Err, IfOk, IfErr, IfSome, IsErrOf, OnOk}
 use Rattle.std.specs.Prelude.{MatchOption, nat_lt, if◌then◌else◌}
 use Rattle.std.specs.Io.KnownBytes.{Appends}
 use Rattle.normalizer_io.specs.Transfer.{AppendsFront, IsUnrefused}
@@ -66,15 +66,16 @@ greater a b = if nat_lt a b then b else a
 -- What work leaves that fails so: nothing is written, or a front of the reply is. A form is written while its file is
 -- read, another reply only then.
 abbrev pub Leaves : Work → Fault → (Unwritten CutOff : Type 0) → Type 0
-Leaves (OfForm (task.Write mode) scheme m) (Open kind) Unwritten CutOff = Unwritten
-Leaves (OfForm (task.Write mode) scheme m) fault Unwritten CutOff = CutOff
+Leaves (OfForm task.Write scheme mode m) (Open kind) Unwritten CutOff = Unwritten
+Leaves (OfForm task.Write scheme mode m) fault Unwritten CutOff = CutOff
 Leaves other Write Unwritten CutOff = CutOff
 Leaves other fault Unwritten CutOff = Unwritten
 
--- One file: its reply is written, or a report says why it failed. A report also says what was ill-formed in a form. A
+-- One file: it is opened, and its reply is written, or a report says why it failed. A report also says what was ill-formed in a form. A
 -- source of 2^64 - 1 bytes may count as refused. If memory was, the file was opened, and no read or write was refused.
 pub record IsDone {W : Type 0} (d : Devices W) (w : Work) (name : List ℕ) (s t : State W)
     (outcome : Result Answer Fault) : Type 0 where
+  pub opened : OnOk outcome (d.can_open name)
   pub done : IfOk outcome (IsWritten w name (d.bytes_of name) (d.taken s.writer) (d.taken t.writer))
   pub why : IfErr outcome
       (IsFileFault (d.cannot_open name) (d.read_refused name ⊎ IsEndless (d.bytes_of name))

@@ -1,6 +1,6 @@
 -- A run over files, by the data of a directory.
 use Rattle.std.specs.Prelude.{◌≡◌, ◌⊎◌, ℕ, List, Option}
-use Rattle.normalizer_records.specs.RecordValue.{RecordValue, Uts46RecordValue}
+use Rattle.icu_normalizer.specs.RecordValue.{RecordValue, Uts46RecordValue}
 use Rattle.normalizer_ucd.specs.declared.error.UcdFile.{UcdFile}
 use Rattle.normalizer_command.specs.declared.fault.Fault.{Fault}
 use Rattle.normalizer_replies.specs.declared.worker.Command.{Command}
@@ -16,7 +16,7 @@ pub record RunsByFiles {W : Type 0} (d : Devices W) (command : Command) (directo
   pub unicode_data : List ℕ
   pub exclusions : List ℕ
   pub table : Option (List ℕ)
-  pub files : AreFiles d.bytes_of directory command unicode_data exclusions table
+  pub files : AreFiles d.bytes_of d.can_open directory command unicode_data exclusions table
   pub records : List RecordValue
   pub uts46 : List Uts46RecordValue
   pub recorded : AreRecorded unicode_data exclusions table records uts46

@@ -1,8 +1,8 @@
 -- The data that the files of Unicode mean.
 use Rattle.std.specs.Prelude.{◌≡◌, ℕ, List, [], ◌∷◌, ◌++◌, codes, Option, Some, None, IfSome, IsSomeAnd, Result, Ok, Err, ⊤, ◌⊎◌}
-use Rattle.normalizer_builder.specs.Building.{Builds, IsSmallest}
-use Rattle.normalizer_packing.specs.declared.Packed.{Packed}
-use Rattle.normalizer_records.specs.RecordValue.{RecordValue, Uts46RecordValue}
+use Rattle.icu_normalizer.specs.Building.{Builds, IsSmallest}
+use Rattle.icu_normalizer.specs.Packed.{Packed}
+use Rattle.icu_normalizer.specs.RecordValue.{RecordValue, Uts46RecordValue}
 use Rattle.normalizer_ucd.specs.declared.error.UcdFile.{UcdFile}
 use Rattle.normalizer_ucd.specs.declared.error.UcdFile.TheVariants.{UnicodeData, CompositionExclusions, IdnaMappingTable}
 use Rattle.normalizer_ucd.specs.declared.idna_table.Disallowed.TheVariants.{All}
@@ -25,22 +25,26 @@ name_of IdnaMappingTable = codes "IdnaMappingTable.txt"
 abbrev pub path_of : List ℕ → UcdFile → List ℕ
 path_of directory file = directory ++ (0x2F ∷ name_of file)
 
--- these are the bytes of a file of a directory, if they are known
-abbrev pub IsFile : (List ℕ → Option (List ℕ)) → (directory : List ℕ) → UcdFile → (bytes : List ℕ) → Type 0
-IsFile bytes_of directory file bytes = IfSome (bytes_of (path_of directory file)) (λ all. bytes ≡ all)
+-- a file of a directory can be opened, and these are its bytes, if they are known
+abbrev pub IsFile : (List ℕ → Option (List ℕ)) → (can_open : List ℕ → Type 0) → (directory : List ℕ) → UcdFile
+    → (bytes : List ℕ) → Type 0
+IsFile bytes_of can_open directory file bytes =
+    can_open (path_of directory file) × IfSome (bytes_of (path_of directory file)) (λ all. bytes ≡ all)
 
 -- no table is read for a form
-abbrev pub IsTable : (List ℕ → Option (List ℕ)) → (directory : List ℕ) → Command → (table : Option (List ℕ)) → Type 0
-IsTable bytes_of directory (OfForm task scheme form) table = table ≡ None
-IsTable bytes_of directory (OfMapper task scheme) table =
-    IsSomeAnd table (λ bytes. IsFile bytes_of directory IdnaMappingTable bytes)
+abbrev pub IsTable : (List ℕ → Option (List ℕ)) → (can_open : List ℕ → Type 0) → (directory : List ℕ) → Command
+    → (table : Option (List ℕ)) → Type 0
+IsTable bytes_of can_open directory (OfForm task scheme mode form) table = table ≡ None
+IsTable bytes_of can_open directory (OfMapper task scheme mode) table =
+    IsSomeAnd table (λ bytes. IsFile bytes_of can_open directory IdnaMappingTable bytes)
 
 -- these are the bytes of the files that a command needs, if they are known
-abbrev pub AreFiles : (List ℕ → Option (List ℕ)) → (directory : List ℕ) → Command
+abbrev pub AreFiles : (List ℕ → Option (List ℕ)) → (can_open : List ℕ → Type 0) → (directory : List ℕ) → Command
     → (unicode_data exclusions : List ℕ) → (table : Option (List ℕ)) → Type 0
-AreFiles bytes_of directory command unicode_data exclusions table =
-    IsFile bytes_of directory UnicodeData unicode_data × IsFile bytes_of directory CompositionExclusions exclusions
-    × IsTable bytes_of directory command table
+AreFiles bytes_of can_open directory command unicode_data exclusions table =
+    IsFile bytes_of can_open directory UnicodeData unicode_data
+    × IsFile bytes_of can_open directory CompositionExclusions exclusions
+    × IsTable bytes_of can_open directory command table
 
 -- the mapper's records that a table says, if there is one
 abbrev pub mapper_records_of : (exclusions : List ℕ) → (table : Option (List ℕ)) →
@@ -83,5 +87,5 @@ IsReadFault d directory file fault =
 abbrev pub IsDataFault : {W : Type 0} → Devices W → (directory : List ℕ) → Command → UcdFile → Fault → Type 0
 IsDataFault d directory command file fault = IsReadFault d directory file fault
     ⊎ ((unicode_data : List ℕ) × (exclusions : List ℕ) × (table : Option (List ℕ))
-    × AreFiles d.bytes_of directory command unicode_data exclusions table
+    × AreFiles d.bytes_of d.can_open directory command unicode_data exclusions table
     × IsFaultOf unicode_data exclusions table file fault)

@@ -1,10 +1,10 @@
 -- What is written of versions.
-use Rattle.std.specs.Prelude.{◌≡◌, ◌≢◌, ◌⊎◌, ◌==◌, not, ℕ, List, [], ◌∷◌, ◌++◌, codes, take_while, IfSome, ⊤}
+use Rattle.std.specs.Prelude.{◌≡◌, ◌≢◌, ◌⊎◌, ◌==◌, not, ℕ, List, [], ◌∷◌, ◌++◌, codes, take_while, ⊤}
 use Rattle.std.specs.Io.KnownBytes.{Appends}
 use Rattle.normalizer_io.specs.Transfer.{AppendsFront}
 use Rattle.normalizer_ucd.specs.declared.error.UcdFile.{UcdFile}
 use Rattle.normalizer_ucd.specs.declared.error.UcdFile.TheVariants.{CompositionExclusions}
-use Rattle.normalizer_command.specs.UnicodeFiles.{path_of}
+use Rattle.normalizer_command.specs.UnicodeFiles.{path_of, IsFile}
 use Rattle.normalizer_command.specs.Devices.{Devices}
 use Rattle.normalizer_command.specs.FileFaults.{IsFileFault}
 use Rattle.normalizer_command.specs.Outcomes.{State}
@@ -23,7 +23,7 @@ version_text exclusions = codes "uninorm 1.0.0" ++ (0x0A ∷ (first_line exclusi
 -- the exclusions of a directory
 abbrev pub AreExclusions : {W : Type 0} → Devices W → (directory exclusions : List ℕ) → Type 0
 AreExclusions d directory exclusions =
-    IfSome (d.bytes_of (path_of directory CompositionExclusions)) (λ all. exclusions ≡ all)
+    IsFile d.bytes_of d.can_open directory CompositionExclusions exclusions
 
 -- the versions are written
 abbrev pub IsVersionAppended : {W : Type 0} → Devices W → (directory : List ℕ) → W → W → Type 0

@@ -34,7 +34,7 @@ ghost use Rattle.normalizer_command.specs.CommandLine.{
   with_options,
   word_rule,
 };
-ghost use Rattle.normalizer_built.specs.declared.NormalForm.{NormalForm};
+ghost use Rattle.icu_normalizer.specs.declared.any_normalizer.NormalForm.{NormalForm};
 ghost use Rattle.normalizer_streams.specs.declared.ill_formed.ErrorMode.{ErrorMode};
 ghost use Rattle.normalizer_streams.specs.declared.scheme.EncodingScheme.{EncodingScheme};
 ghost use Rattle.normalizer_replies.specs.declared.mapping.MapperTask.{MapperTask};
@@ -54,42 +54,67 @@ ghost use Rattle.normalizer_command.specs.Arguments.{
 };
 
 use clap::{Arg, ArgAction, ArgMatches, Command, Error};
-use normalizer_built::NormalForm;
+use icu_normalizer::NormalForm;
 use normalizer_replies::{Command as FileCommand, MapperTask, Task};
 use normalizer_streams::{ByteOrder, EncodingScheme, ErrorMode};
 use std::alloc::{AllocError, Global};
 
-/// What the commands do.
-const WORD_HELP: &str =
-    "nfc, nfd, nfkc or nfkd: write that form. check FORM: print the names of files that aren't in \
-    the form. where FORM: print the first mismatch of each. map: write the lines, each mapped by UTS #46 (Map and \
-    Normalize). validate: print the numbers of the lines that aren't valid";
+/// The commands.
+const WORD_HELP: &str = "\
+nfc, nfd, nfkc, nfkd, check, where, map, validate";
 
 /// How text is read and written.
-const ENCODING_HELP: &str =
-    "utf-8 (if none is named), utf-16le or utf-16be: how the files are read, and forms and mapped lines \
-    written; a byte order mark is text. Names and reports are UTF-8";
+const ENCODING_HELP: &str = "\
+utf-8 (if none is named), utf-16le or utf-16be: how\n\
+files are read, and forms and mapped lines written.\n\
+A byte order mark is text. Names and reports are\n\
+UTF-8";
 
 /// What `--strict` does.
-const STRICT_HELP: &str =
-    "End a file at its first ill-formed sequence, which fails. Else a form has U+FFFD for each, and a     report says how many a file had";
+const STRICT_HELP: &str = "\
+End a file at its first ill-formed sequence, which\n\
+fails. Else forms and mapped lines have U+FFFD for\n\
+each, and a report says how many a file had";
 
 /// Where the data are.
-const DIRECTORY_HELP: &str =
-    "The directory of UnicodeData.txt, CompositionExclusions.txt and, for map and validate, \
-    IdnaMappingTable.txt. If none is named, the one that the variable UNINORM_DATA names; else data/unicode beside the \
-    program, or ../share/uninorm from there, whichever is first to have a UnicodeData.txt";
+const DIRECTORY_HELP: &str = "\
+The directory of UnicodeData.txt and\n\
+CompositionExclusions.txt and, for map and\n\
+validate, IdnaMappingTable.txt. If none is named,\n\
+the one that the variable UNINORM_DATA names; else\n\
+data/unicode beside the program, or\n\
+../share/uninorm from there, whichever is first to\n\
+have a UnicodeData.txt";
 
-/// What the output and the status say.
-const AFTER_HELP: &str =
-    "where prints FILE:LINE:BYTE: found U+0061, wanted U+00E4. Lines and bytes in a line count from 1; \
-    an ill-formed sequence is found as U+FFFD.\nmap and validate need IdnaMappingTable.txt in the directory too. \
-    Each line is a text of its own, without its line feed. map drops ignored characters, and writes U+FFFD for \
-    disallowed ones. A line is valid if mapping leaves it as it is, and it has no ignored or disallowed character \
-    and no U+FFFD; Punycode, STD3 rules, hyphens, joiners and bidi are not checked. validate prints FILE:LINE: invalid.\n\
-    The forms are written while a file is read; the other commands read each file whole first.\n\
-    Status: 0; 1 if ill-formed sequences were replaced in a form, if a file isn't in the form (check, where) or a line \
-    isn't valid (validate); 2 if a file failed.";
+/// What the commands do, and what the output and the status say.
+const AFTER_HELP: &str = "\
+Commands:\n  \
+nfc|nfd|nfkc|nfkd [FILE]...  write that form\n  \
+check FORM [FILE]...         print the names of files that aren't in the form\n  \
+where FORM [FILE]...         print the first mismatch of each file\n  \
+map [FILE]...                write the lines, each mapped by UTS #46\n  \
+validate [FILE]...           print the numbers of lines that aren't valid\n\
+\n\
+where prints FILE:LINE:BYTE: found U+0061, wanted U+00E4. Lines and bytes in a\n\
+line count from 1. An ill-formed sequence is found as U+FFFD.\n\
+\n\
+For map and validate each line is a text of its own, without its line feed. map\n\
+drops ignored characters, and writes U+FFFD for disallowed ones. A line is valid\n\
+if mapping leaves it as it is, and it has no ignored or disallowed character and\n\
+no U+FFFD. Punycode, STD3 rules, hyphens, joiners and bidi are not checked.\n\
+validate prints FILE:LINE: invalid.\n\
+\n\
+Forms are written, and files compared with them, while they are read. map and\n\
+validate read each file whole first.\n\
+\n\
+Status: 0; 1 if ill-formed sequences were replaced in a form or mapped lines, if\n\
+a file isn't in the form (check, where) or a line isn't valid (validate); 2 if a\n\
+file failed.\n\
+\n\
+Examples:\n  \
+uninorm nfc old.txt >new.txt\n  \
+git ls-files -z | xargs -0 uninorm check nfc\n  \
+uninorm where nfc --strict notes.txt";
 
 /// The message if the command is unknown.
 const UNKNOWN_COMMAND: &str =
@@ -214,16 +239,16 @@ fn command_of<'n, 'a>(
 {
     let scheme = scheme_of(encoding)?;
     if let Some(task) = mapper_task_named(word) {
-        return Ok((FileCommand::OfMapper(task, scheme), after));
+        return Ok((FileCommand::OfMapper(task, scheme, mode), after));
     }
     if let Some(form) = form_named(word) {
-        return Ok((FileCommand::OfForm(Task::Write(mode), scheme, form), after));
+        return Ok((FileCommand::OfForm(Task::Write, scheme, mode, form), after));
     }
     let Some(task) = task_named(word) else {
         return Err(NO_COMMAND);
     };
     let (form, names) = form_first(after).ok_or(NO_FORM)?;
-    Ok((FileCommand::OfForm(task, scheme, form), names))
+    Ok((FileCommand::OfForm(task, scheme, mode, form), names))
 }
 
 /// The form that is named first, and what is after its name.
@@ -322,7 +347,7 @@ fn command<'a>(alloc: Global) -> Result<Command<'a>, AllocError>
     ensures { IfOk result (λ command. app_of command ≡ uninorm) }
 {
     let command = Command::new(alloc, "uninorm")
-        .about("Writes the normal forms of text (Unicode Standard Annex #15)")
+        .about("Writes, checks and compares normal forms of text (Unicode Standard Annex #15)")
         .after_help(AFTER_HELP)
         .arg(word(alloc))?
         .arg(files(alloc))?;
@@ -398,6 +423,6 @@ fn version<'a>(alloc: Global) -> Arg<'a>
         .short('V')
         .action(ArgAction::SetTrue)
         .help(
-            "Print the version, and the first line of CompositionExclusions.txt, which names that of Unicode",
+            "Print the version, and the first line of\nCompositionExclusions.txt, which names that of\nUnicode",
         )
 }

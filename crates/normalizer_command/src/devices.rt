@@ -1,5 +1,5 @@
 //! What the program reads from, and what it reports failures to.
-ghost use Rattle.std.specs.Prelude.{◌≡◌, ℕ, List, Option, IfOk, IfErr};
+ghost use Rattle.std.specs.Prelude.{◌≡◌, ℕ, List, Option, IfOk, IfErr, OnOk};
 ghost use Rattle.std.specs.declared.io.ErrorKind.{ErrorKind};
 ghost use Rattle.normalizer_command.specs.FileFaults.{IsReadUnrefused};
 ghost use Rattle.normalizer_command.specs.FileReports.{Report, Tells};
@@ -17,6 +17,9 @@ pub trait Inputs {
     /// The bytes of the file of a name, if they are known.
     ghost bytes_of: { Self → List ℕ → Option (List ℕ) };
 
+    /// Holds if the file of a name can be opened.
+    ghost can_open: { Self → List ℕ → Type 0 };
+
     /// Holds if the file of a name can't be opened, for this reason.
     ghost cannot_open: { Self → List ℕ → ErrorKind → Type 0 };
 
@@ -32,6 +35,7 @@ pub trait Inputs {
     /// Why it can't be opened: `Deadlock` if it is the output too, `InvalidData` if its name is not UTF-8.
     fn open(&self, name: &str) -> Result<Self::Input, ErrorKind>
         ensures bytes { IfOk result (λ input. Self.Input.bytes_left input ≡ bytes_of self.now name.now) }
+        ensures opened { OnOk result (can_open self.now name.now) }
         ensures reads { IfOk result (λ input. (later : Self.Input) → Self.Input.refusal input later →
             read_refused self.now name.now) }
         ensures succeeds { IfOk result (λ input. (later : Self.Input) → IsReadUnrefused (Self.Input.bytes_left later)

@@ -3,9 +3,8 @@ ghost use Rattle.std.specs.Prelude.{◌≡◌};
 ghost use Rattle.normalizer_command.specs.Messages.{text_of_fault};
 ghost use Rattle.normalizer_command.specs.FileFaults.{fault_of_file, fault_of_records, fault_of_transfer};
 
+use icu_normalizer::{BuildError, NormalizeError};
 use normalizer_io::TransferError;
-use normalizer_iterators::NormalizeError;
-use normalizer_records::BuildError;
 use normalizer_streams::{EncodingScheme, Position};
 use normalizer_ucd::{LineFault, UcdError};
 use std::alloc::{AllocError, AllocFailed};

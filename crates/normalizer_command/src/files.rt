@@ -1,5 +1,5 @@
 //! A command over files.
-ghost use Rattle.std.specs.Prelude.{◌≡◌, ◌≢◌, ◌↔◌, ◌⊎◌, ℕ, IsTrue, List, map, IfOk, IfErr, IsErrOf, MatchOption};
+ghost use Rattle.std.specs.Prelude.{◌≡◌, ◌≢◌, ◌↔◌, ◌⊎◌, ℕ, IsTrue, List, map, IfOk, IfErr, IsErrOf, MatchOption, OnOk};
 ghost use Rattle.normalizer_streams.specs.declared.scheme.EncodingScheme.{EncodingScheme};
 ghost use Rattle.std.specs.Io.KnownBytes.{Appends};
 ghost use Rattle.normalizer_replies.specs.declared.reply.Answer.{Answer};
@@ -19,14 +19,19 @@ ghost use Rattle.normalizer_command.specs.Outcomes.{
   Leaves,
 };
 ghost use Rattle.normalizer_command.specs.FileReports.{Tells};
-ghost use Rattle.normalizer_replies.specs.Works.{Does, RepliesAtEnd, Work};
+ghost use Rattle.normalizer_replies.specs.Making.{Makes, Making};
+ghost use Rattle.normalizer_replies.specs.Mismatches.{TellsComparison};
+ghost use Rattle.normalizer_replies.specs.Works.{Does, IsOfMapper, OfForm, Work};
 
 use crate::devices::{Inputs, Reports};
 use crate::fault::Fault;
 use crate::message::Message;
+use icu_normalizer::AnyNormalizer;
 use normalizer_io::{Source, Target, read_all, write_all};
 use normalizer_replies::{Answer, Task, Worker};
-use normalizer_streams::{EncodingScheme, Ending, write_form};
+use normalizer_streams::{
+    Comparison, EncodingScheme, Ending, ErrorMode, first_mismatch, write_form,
+};
 use std::alloc::Global;
 
 /// Does a worker's work with each file in turn, up to a refused write, and returns the exit status: the greatest of
@@ -41,8 +46,8 @@ pub(crate) fn over_files<I: Inputs, W: Target, R: Reports>(
 ) -> u8
     ensures { (w : Work) → Does worker.now w →
         AreDone
-        (devices (I.bytes_of inputs.now) (I.cannot_open inputs.now) (I.unrefused inputs.now) (I.read_refused inputs.now)
-        W.bytes_taken W.refusal)
+        (devices (I.bytes_of inputs.now) (I.can_open inputs.now) (I.cannot_open inputs.now) (I.unrefused inputs.now)
+        (I.read_refused inputs.now) W.bytes_taken W.refusal)
         w (map (λ name. name.now) names.now)
         (state writer.old (R.reports reports.old) 0) (state writer.new (R.reports reports.new) result) }
 {
@@ -66,6 +71,7 @@ fn over_file<I: Inputs, W: Target>(
     name: &str,
     writer: &mut W,
 ) -> Result<Answer, Fault>
+    ensures opened { OnOk result (I.can_open inputs.now name.now) }
     ensures done { (w : Work) → Does worker.now w → IfOk result
         (IsWritten w name.now (I.bytes_of inputs.now name.now) (W.bytes_taken writer.old) (W.bytes_taken writer.new)) }
     ensures why { IfErr result (IsFileFault (I.cannot_open inputs.now name.now)
@@ -80,7 +86,7 @@ fn over_file<I: Inputs, W: Target>(
     over_input(alloc, worker, name, &mut input, writer)
 }
 
-/// Writes the form while it reads; else reads to the end, computes the reply, and only then writes it.
+/// Does a worker's work with what an open file has.
 fn over_input<S: Source, W: Target>(
     alloc: Global,
     worker: &Worker,
@@ -99,12 +105,70 @@ fn over_input<S: Source, W: Target>(
         (IsCutOff w name.now (S.bytes_left input.old) (W.bytes_taken writer.old) (W.bytes_taken writer.new))) }
 {
     match worker {
-        Worker::OfForm(Task::Write(mode), scheme, normalizer) => {
-            let ending = write_form(alloc, *scheme, *mode, normalizer, input, writer)?;
-            Ok(Answer::Ended(*scheme, ending))
+        Worker::OfForm(task, scheme, mode, normalizer) => {
+            over_form(
+                alloc, *task, *scheme, *mode, normalizer, name, input, writer,
+            )
         }
-        _ => write_reply(alloc, worker, name, input, writer),
+        Worker::OfMapper(..) => write_reply(alloc, worker, name, input, writer),
     }
+}
+
+/// Writes the form while it reads; else compares what it reads with the form, and only then writes the reply.
+fn over_form<S: Source, W: Target>(
+    alloc: Global,
+    task: Task,
+    scheme: EncodingScheme,
+    mode: ErrorMode,
+    normalizer: &AnyNormalizer,
+    name: &str,
+    input: &mut S,
+    writer: &mut W,
+) -> Result<Answer, Fault>
+    ensures done { (m : Making) → Makes normalizer.now m → IfOk result (IsWritten (OfForm task scheme mode m) name.now
+        (S.bytes_left input.old) (W.bytes_taken writer.old) (W.bytes_taken writer.new)) }
+    ensures why { IfErr result (IsFileFault (λ _. ⊥)
+        (S.refusal input.old input.new ⊎ IsEndless (S.bytes_left input.old)) (W.refusal writer.old writer.new)
+        (IsReadUnrefused (S.bytes_left input.new) S.refusal input.old input.new
+        × IsUnrefused W.refusal writer.old writer.new)) }
+    ensures left { (m : Making) → Makes normalizer.now m →
+        IfErr result (λ fault. Leaves (OfForm task scheme mode m) fault (writer.new ≡ writer.old)
+        (IsCutOff (OfForm task scheme mode m) name.now
+        (S.bytes_left input.old) (W.bytes_taken writer.old) (W.bytes_taken writer.new))) }
+{
+    match task {
+        Task::Write => {
+            let ending = write_form(alloc, scheme, mode, normalizer, input, writer)?;
+            Ok(Answer::Ended(scheme, ending))
+        }
+        Task::Check | Task::Locate => {
+            let comparison = first_mismatch(alloc, scheme, mode, normalizer, input)?;
+            write_comparison(alloc, task, scheme, name, comparison, writer)
+        }
+    }
+}
+
+/// Writes what is replied of a comparison.
+fn write_comparison<W: Target>(
+    alloc: Global,
+    task: Task,
+    scheme: EncodingScheme,
+    name: &str,
+    comparison: Comparison,
+    writer: &mut W,
+) -> Result<Answer, Fault>
+    ensures done { IfOk result (λ answer. (output : List ℕ) × TellsComparison task scheme name.now comparison answer output
+        × Appends (W.bytes_taken writer.old) (W.bytes_taken writer.new) output) }
+    ensures why { IfErr result (IsFileFault (λ _. ⊥) ⊥ (W.refusal writer.old writer.new)
+        (IsUnrefused W.refusal writer.old writer.new)) }
+    ensures cut { IsErrOf result Fault.Write → (answer : Answer) × (output : List ℕ)
+        × TellsComparison task scheme name.now comparison answer output
+        × AppendsFront (W.bytes_taken writer.old) (W.bytes_taken writer.new) output }
+    ensures unwritten { IfErr result (λ fault. fault ≢ Fault.Write → writer.new ≡ writer.old) }
+{
+    let reply = task.reply(alloc, scheme, name, comparison)?;
+    write_all(writer, &reply.output)?;
+    Ok(reply.answer)
 }
 
 /// Reads to the end, computes the reply, and only then writes it.
@@ -115,7 +179,7 @@ fn write_reply<S: Source, W: Target>(
     input: &mut S,
     writer: &mut W,
 ) -> Result<Answer, Fault>
-    requires { RepliesAtEnd worker.now }
+    requires { IsOfMapper worker.now }
     ensures done { (w : Work) → Does worker.now w → IfOk result
         (IsWritten w name.now (S.bytes_left input.old) (W.bytes_taken writer.old) (W.bytes_taken writer.new)) }
     ensures why { IfErr result (IsFileFault (λ _. ⊥) (S.refusal input.old input.new) (W.refusal writer.old writer.new)
@@ -137,7 +201,7 @@ fn write_reply_to<W: Target>(
     bytes: &[u8],
     writer: &mut W,
 ) -> Result<Answer, Fault>
-    requires { RepliesAtEnd worker.now }
+    requires { IsOfMapper worker.now }
     ensures done { (w : Work) → Does worker.now w → IfOk result (λ answer. (output : List ℕ)
         × IsReply w name.now bytes.now answer output
         × Appends (W.bytes_taken writer.old) (W.bytes_taken writer.new) output) }

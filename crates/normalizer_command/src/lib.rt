@@ -6,6 +6,7 @@ pub mod devices;
 pub mod directory;
 pub mod fault;
 mod files;
+pub mod memory;
 pub mod message;
 pub mod run;
 mod unicode_files;

@@ -1,8 +1,8 @@
 //! A run over files.
 ghost use Rattle.std.specs.Prelude.{◌≡◌, ◌⊎◌, map, List, ℕ, IfOk, IfErr, OnErr};
-ghost use Rattle.normalizer_builder.specs.Built.{AreBuilt, data_in};
-ghost use Rattle.normalizer_builder.specs.Building.{Builds};
-ghost use Rattle.normalizer_records.specs.RecordValue.{RecordValue, Uts46RecordValue};
+ghost use Rattle.icu_normalizer.specs.Built.{AreBuilt, data_in};
+ghost use Rattle.icu_normalizer.specs.Building.{Builds};
+ghost use Rattle.icu_normalizer.specs.RecordValue.{RecordValue, Uts46RecordValue};
 ghost use Rattle.normalizer_command.specs.UnicodeFiles.{IsDataFault, path_of};
 ghost use Rattle.normalizer_command.specs.Devices.{devices};
 ghost use Rattle.normalizer_command.specs.Outcomes.{AreDone, state};
@@ -15,9 +15,8 @@ use crate::fault::Fault;
 use crate::files::over_files;
 use crate::message::Message;
 use crate::unicode_files::{DataFault, built, name_of, read_files};
-use normalizer_builder::Built;
+use icu_normalizer::{Built, NormalizeError};
 use normalizer_io::Target;
-use normalizer_iterators::NormalizeError;
 use normalizer_replies::{Command, worker_for};
 use normalizer_ucd::UcdFile;
 use std::alloc::Global;
@@ -35,8 +34,8 @@ pub fn run<I: Inputs, W: Target, R: Reports>(
     reports: &mut R,
 ) -> u8
     ensures { IsRun
-        (devices (I.bytes_of inputs.now) (I.cannot_open inputs.now) (I.unrefused inputs.now) (I.read_refused inputs.now)
-        W.bytes_taken W.refusal)
+        (devices (I.bytes_of inputs.now) (I.can_open inputs.now) (I.cannot_open inputs.now) (I.unrefused inputs.now)
+        (I.read_refused inputs.now) W.bytes_taken W.refusal)
         command directory.now (map (λ name. name.now) names.now)
         (state writer.old (R.reports reports.old) 0) (state writer.new (R.reports reports.new) result) }
 {
@@ -60,13 +59,13 @@ fn run_by_files<I: Inputs, W: Target, R: Reports>(
     reports: &mut R,
 ) -> Result<u8, DataFault>
     ensures done { IfOk result (λ status. RunsByFiles
-        (devices (I.bytes_of inputs.now) (I.cannot_open inputs.now) (I.unrefused inputs.now) (I.read_refused inputs.now)
-        W.bytes_taken W.refusal)
+        (devices (I.bytes_of inputs.now) (I.can_open inputs.now) (I.cannot_open inputs.now) (I.unrefused inputs.now)
+        (I.read_refused inputs.now) W.bytes_taken W.refusal)
         command directory.now (map (λ name. name.now) names.now)
         (state writer.old (R.reports reports.old) 0) (state writer.new (R.reports reports.new) status)) }
     ensures fault { IfErr result (λ e. IsDataFault
-        (devices (I.bytes_of inputs.now) (I.cannot_open inputs.now) (I.unrefused inputs.now) (I.read_refused inputs.now)
-        W.bytes_taken W.refusal)
+        (devices (I.bytes_of inputs.now) (I.can_open inputs.now) (I.cannot_open inputs.now) (I.unrefused inputs.now)
+        (I.read_refused inputs.now) W.bytes_taken W.refusal)
         directory.now command e.file e.fault) }
     ensures unwritten { OnErr result (writer.new ≡ writer.old) }
     ensures untold { OnErr result (reports.new ≡ reports.old) }
@@ -95,8 +94,8 @@ fn over_data<I: Inputs, W: Target, R: Reports>(
     requires { AreBuilt (data_in «data».now) }
     ensures done { (records : List RecordValue) (uts46 : List Uts46RecordValue) →
         Builds records uts46 (data_in «data».now) → IfOk result (λ status. AreDone
-        (devices (I.bytes_of inputs.now) (I.cannot_open inputs.now) (I.unrefused inputs.now) (I.read_refused inputs.now)
-        W.bytes_taken W.refusal)
+        (devices (I.bytes_of inputs.now) (I.can_open inputs.now) (I.cannot_open inputs.now) (I.unrefused inputs.now)
+        (I.read_refused inputs.now) W.bytes_taken W.refusal)
         (work_by records uts46 command) (map (λ name. name.now) names.now)
         (state writer.old (R.reports reports.old) 0) (state writer.new (R.reports reports.new) status)) }
     ensures unwritten { OnErr result (writer.new ≡ writer.old) }

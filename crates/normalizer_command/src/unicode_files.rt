@@ -1,7 +1,7 @@
 //! The data of a directory of Unicode's files.
-ghost use Rattle.std.specs.Prelude.{◌≡◌, List, ⊤, IfOk, IfErr, IfSome, string_bytes};
+ghost use Rattle.std.specs.Prelude.{◌≡◌, List, ⊤, IfOk, IfErr, IfSome, OnOk, string_bytes};
 ghost use Rattle.std.specs.Option.{option_map};
-ghost use Rattle.normalizer_builder.specs.Built.{data_in};
+ghost use Rattle.icu_normalizer.specs.Built.{data_in};
 ghost use Rattle.normalizer_command.specs.UnicodeFiles.{
   AreBuiltOf,
   AreFiles,
@@ -14,15 +14,14 @@ ghost use Rattle.normalizer_command.specs.UnicodeFiles.{
   path_of,
 };
 ghost use Rattle.normalizer_command.specs.FileFaults.{fault_of_file, IsFileFault};
-ghost use Rattle.normalizer_records.specs.RecordValue.{RecordValue, Uts46RecordValue};
+ghost use Rattle.icu_normalizer.specs.RecordValue.{RecordValue, Uts46RecordValue};
 ghost use Rattle.normalizer_ucd.specs.declared.error.LineFault.{LineFault};
 ghost use Rattle.normalizer_ucd.specs.FallibleReads.{Gives};
 
 use crate::devices::Inputs;
 use crate::fault::Fault;
-use normalizer_builder::{Built, Records};
+use icu_normalizer::{Built, Record, Records, Uts46Record};
 use normalizer_io::read_all;
-use normalizer_records::{Record, Uts46Record};
 use normalizer_replies::Command;
 use normalizer_ucd::{
     Disallowed, UcdError, UcdFile, records_of_unicode_data, uts46_records_beside_exclusions,
@@ -70,7 +69,7 @@ pub(crate) fn read_files<I: Inputs>(
     directory: &str,
     command: Command,
 ) -> Result<DataFiles, DataFault>
-    ensures files { IfOk result (λ r. AreFiles (I.bytes_of inputs.now) directory.now command
+    ensures files { IfOk result (λ r. AreFiles (I.bytes_of inputs.now) (I.can_open inputs.now) directory.now command
         r.unicode_data.items r.exclusions.items (option_map (λ v. v.items) r.table)) }
     ensures fault { IfErr result (λ e. IsFileFault (I.cannot_open inputs.now (path_of directory.now e.file))
         (I.read_refused inputs.now (path_of directory.now e.file)) ⊥ ⊤ e.fault) }
@@ -92,7 +91,7 @@ fn read_table<I: Inputs>(
     directory: &str,
     command: Command,
 ) -> Result<Option<Vec<u8>>, DataFault>
-    ensures table { IfOk result (λ t. IsTable (I.bytes_of inputs.now) directory.now command
+    ensures table { IfOk result (λ t. IsTable (I.bytes_of inputs.now) (I.can_open inputs.now) directory.now command
         (option_map (λ v. v.items) t)) }
     ensures fault { IfErr result (λ e. IsFileFault (I.cannot_open inputs.now (path_of directory.now e.file))
         (I.read_refused inputs.now (path_of directory.now e.file)) ⊥ ⊤ e.fault) }
@@ -113,7 +112,7 @@ pub(crate) fn read_file<I: Inputs>(
     directory: &str,
     file: UcdFile,
 ) -> Result<Vec<u8>, DataFault>
-    ensures bytes { IfOk result (λ v. IsFile (I.bytes_of inputs.now) directory.now file v.items) }
+    ensures bytes { IfOk result (λ v. IsFile (I.bytes_of inputs.now) (I.can_open inputs.now) directory.now file v.items) }
     ensures fault { IfErr result (λ e. IsFileFault (I.cannot_open inputs.now (path_of directory.now e.file))
         (I.read_refused inputs.now (path_of directory.now e.file)) ⊥ ⊤ e.fault) }
 {
@@ -131,6 +130,7 @@ pub(crate) fn read_file<I: Inputs>(
 
 /// The bytes of a file.
 fn read<I: Inputs>(alloc: Global, inputs: &I, path: &str) -> Result<Vec<u8>, Fault>
+    ensures opened { OnOk result (I.can_open inputs.now path.now) }
     ensures bytes { IfOk result (λ v. IfSome (I.bytes_of inputs.now path.now) (λ all. v.items ≡ all)) }
     ensures fault { IfErr result (IsFileFault (I.cannot_open inputs.now path.now) (I.read_refused inputs.now path.now) ⊥
         (I.unrefused inputs.now path.now)) }

@@ -33,8 +33,8 @@ pub fn write_version<I: Inputs, W: Target, R: Reports>(
     reports: &mut R,
 ) -> u8
     ensures { IsVersionRun
-        (devices (I.bytes_of inputs.now) (I.cannot_open inputs.now) (I.unrefused inputs.now) (I.read_refused inputs.now)
-        W.bytes_taken W.refusal)
+        (devices (I.bytes_of inputs.now) (I.can_open inputs.now) (I.cannot_open inputs.now) (I.unrefused inputs.now)
+        (I.read_refused inputs.now) W.bytes_taken W.refusal)
         directory.now (state writer.old (R.reports reports.old) 0) (state writer.new (R.reports reports.new) result) }
 {
     match version_written(alloc, directory, inputs, writer) {
@@ -54,14 +54,14 @@ fn version_written<I: Inputs, W: Target>(
     writer: &mut W,
 ) -> Result<(), DataFault>
     ensures written { OnOk result (IsVersionAppended
-        (devices (I.bytes_of inputs.now) (I.cannot_open inputs.now) (I.unrefused inputs.now) (I.read_refused inputs.now)
-        W.bytes_taken W.refusal)
+        (devices (I.bytes_of inputs.now) (I.can_open inputs.now) (I.cannot_open inputs.now) (I.unrefused inputs.now)
+        (I.read_refused inputs.now) W.bytes_taken W.refusal)
         directory.now writer.old writer.new) }
     ensures why { IfErr result (λ e. IsFileFault (I.cannot_open inputs.now (path_of directory.now e.file))
         (I.read_refused inputs.now (path_of directory.now e.file)) (W.refusal writer.old writer.new) ⊤ e.fault) }
     ensures cut { IfErr result (λ e. e.fault ≡ Fault.Write → IsVersionCutOff
-        (devices (I.bytes_of inputs.now) (I.cannot_open inputs.now) (I.unrefused inputs.now) (I.read_refused inputs.now)
-        W.bytes_taken W.refusal)
+        (devices (I.bytes_of inputs.now) (I.can_open inputs.now) (I.cannot_open inputs.now) (I.unrefused inputs.now)
+        (I.read_refused inputs.now) W.bytes_taken W.refusal)
         directory.now writer.old writer.new) }
     ensures unwritten { IfErr result (λ e. e.fault ≢ Fault.Write → writer.new ≡ writer.old) }
 {

@@ -3,4 +3,3 @@ pub mod LineLemmas
 pub mod MakingLemmas
 pub mod MapperLemmas
 pub mod MismatchLemmas
-pub mod WorkLemmas

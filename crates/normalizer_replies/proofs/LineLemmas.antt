@@ -5,8 +5,8 @@ use Rattle.std.specs.List.{join_with_byte, list_any}
 use Rattle.std.proofs.Math.Dec.{eqb-suc-zero}
 use Rattle.std.proofs.Math.Seq.{drop-cons}
 use Rattle.std.proofs.Math.ListN.{drop_of_length-le}
-use Rattle.normalizer_text.proofs.rules.EncodingLemmas.{encoded_in-append}
-use Rattle.normalizer_text.specs.Encodings.{encoded_in}
+use Rattle.icu_normalizer.proofs.EncodingLemmas.{encoded_in-append}
+use Rattle.icu_normalizer.specs.Encodings.{encoded_in}
 use Rattle.icu_normalizer.specs.Uts46.{MapperData}
 use Rattle.normalizer_streams.specs.declared.scheme.EncodingScheme.{EncodingScheme}
 use Rattle.normalizer_streams.specs.declared.scheme.EncodingScheme.TheVariants.{Utf8, Utf16}
@@ -15,7 +15,7 @@ use Rattle.normalizer_streams.proofs.SchemeLemmas.{bytes-append}
 use Rattle.normalizer_replies.specs.declared.mapping.MapperTask.{MapperTask}
 use Rattle.normalizer_replies.specs.declared.mapping.MapperTask.TheVariants.{Map, Validate}
 use Rattle.normalizer_replies.specs.Making.{Mapping, Maps, mapping_of}
-use Rattle.normalizer_built.specs.Mapping.{is_valid_by}
+use Rattle.icu_normalizer.specs.Mapping.{is_valid_by}
 use Rattle.normalizer_replies.specs.Lines.{invalid_lines, line_feed, mapped_lines, told_unless}
 use Rattle.normalizer_replies.specs.inner.EachLine.{replies_to, reply_to}
 

@@ -1,35 +1,52 @@
--- The first mismatch, by readings that give the same forms.
-use Rattle.std.proofs.Common.{◌≡◌, ℕ, List, ◌++◌, take, drop, Option, Some, None, ap, sym, subst, ◌∙◌}
-use Rattle.normal_forms.specs.Reading.{Reading}
-use Rattle.normal_forms.specs.declared.Form.{Form}
-use Rattle.normal_forms.specs.Forms.{normal_form}
-use Rattle.normal_forms.specs.Offence.{IsFirst}
-use Rattle.normalizer_text.specs.Encodings.{Encoding, decoded_in}
-use Rattle.normalizer_text.specs.declared.offence.Offence.{Offence}
-use Rattle.normalizer_text.specs.InputCut.{IsInputNormalized, QualifiesForInputCut}
-use Rattle.normalizer_text.specs.InputOffence.{IsInputOffenceOf}
+-- How bytes compare with their form, by readings that give the same forms.
+use Rattle.std.proofs.Common.{◌≡◌, ℕ, List, ◌++◌, take, drop, ap, sym, subst, ◌∙◌}
+use Rattle.icu_normalizer.specs.Reading.{Reading}
+use Rattle.icu_normalizer.specs.Form.{Form}
+use Rattle.icu_normalizer.specs.NormalForms.{normal_form}
+use Rattle.icu_normalizer.specs.TextOffence.{IsFirst}
+use Rattle.icu_normalizer.specs.Encodings.{Encoding, decoded_in}
+use Rattle.icu_normalizer.specs.InputCut.{IsInputNormalized, QualifiesForInputCut}
+use Rattle.icu_normalizer.specs.InputOffence.{IsInputOffence}
+use Rattle.normalizer_streams.specs.declared.ill_formed.ErrorMode.{ErrorMode}
+use Rattle.normalizer_streams.specs.declared.mismatch.Comparison.{Comparison}
+use Rattle.normalizer_streams.specs.declared.mismatch.Comparison.TheVariants.{Normalized, Differs, Stopped}
+use Rattle.normalizer_streams.specs.declared.scheme.EncodingScheme.{EncodingScheme}
+use Rattle.normalizer_streams.specs.Mismatches.{Compares, IsMismatchOf}
+use Rattle.normalizer_streams.specs.Schemes.{encoding_of, units_of}
 
-normalized-by : (e : Encoding) (d d' : Reading) (f f' : Form) → ((x : List ℕ) → normal_form d f x ≡ normal_form d' f' x) → (units : List ℕ)
-    → IsInputNormalized e d f units → IsInputNormalized e d' f' units
-normalized-by e d d' f f' same units h = record { well_formed = h.well_formed; own = sym (same (decoded_in e units)) ∙ h.own }
+module _ (d d' : Reading) (f f' : Form) where
+  normalized-by : (e : Encoding) → ((x : List ℕ) → normal_form d f x ≡ normal_form d' f' x) → (units : List ℕ) → IsInputNormalized e d f units → IsInputNormalized e d' f' units
+  normalized-by e same units h = record { well_formed = h.well_formed; own = sym (same (decoded_in e units)) ∙ h.own }
 
-qualifies-by : (e : Encoding) (d d' : Reading) (f f' : Form) → ((x : List ℕ) → normal_form d f x ≡ normal_form d' f' x) → (units : List ℕ) (n : ℕ)
-    → QualifiesForInputCut e d f units n → QualifiesForInputCut e d' f' units n
-qualifies-by e d d' f f' same units n q = record {
-  within = q.within;
-  well_formed = q.well_formed;
-  keeps = ap (λ z. decoded_in e (take n units) ++ z) (sym (same (decoded_in e (drop n units)))) ∙ q.keeps ∙ same (decoded_in e units);
-}
+  qualifies-by : (e : Encoding) → ((x : List ℕ) → normal_form d f x ≡ normal_form d' f' x) → (units : List ℕ) (n : ℕ) → QualifiesForInputCut e d f units n → QualifiesForInputCut e d' f' units n
+  qualifies-by e same units n q = record {
+    within = q.within;
+    well_formed = q.well_formed;
+    keeps = ap (λ z. decoded_in e (take n units) ++ z) (sym (same (decoded_in e (drop n units)))) ∙ q.keeps ∙ same (decoded_in e units);
+  }
 
-pub offence-by : (e : Encoding) (d d' : Reading) (f f' : Form) → ((x : List ℕ) → normal_form d f x ≡ normal_form d' f' x) → (units : List ℕ) (o : Option Offence)
-    → IsInputOffenceOf e d f units o → IsInputOffenceOf e d' f' units o
-offence-by e d d' f f' same units None h = normalized-by e d d' f f' same units h
-offence-by e d d' f f' same units (Some o) h = record {
-  differs = λ own. h.differs (normalized-by e d' d f' f (λ x. sym (same x)) units own);
+offence-by : (e : Encoding) (d d' : Reading) (f f' : Form) → ((x : List ℕ) → normal_form d f x ≡ normal_form d' f' x) → (units : List ℕ) (place found wanted : ℕ)
+    → IsInputOffence e d f units place found wanted → IsInputOffence e d' f' units place found wanted
+offence-by e d d' f f' same units place found wanted h = record {
+  differs = λ own. h.differs (normalized-by d' d f' f e (λ x. sym (same x)) units own);
   cut = record {
-    qualifies = qualifies-by e d d' f f' same units o.place h.cut.qualifies;
-    greatest = λ n q. h.cut.greatest n (qualifies-by e d' d f' f (λ x. sym (same x)) units n q);
+    qualifies = qualifies-by d d' f f' e same units place h.cut.qualifies;
+    greatest = λ n q. h.cut.greatest n (qualifies-by d' d f' f e (λ x. sym (same x)) units n q);
   };
   is_found = h.is_found;
-  is_wanted = let P : List ℕ → Type 0 = λ z. IsFirst z o.wanted in subst P (same (decoded_in e (drop o.place units))) h.is_wanted;
+  is_wanted = let P : List ℕ → Type 0 = λ z. IsFirst z wanted in subst P (same (decoded_in e (drop place units))) h.is_wanted;
 }
+
+pub compares-by : (s : EncodingScheme) (mode : ErrorMode) (d d' : Reading) (f f' : Form) → ((x : List ℕ) → normal_form d f x ≡ normal_form d' f' x) → (bytes : List ℕ) (c : Comparison)
+    → Compares s mode d f bytes c → Compares s mode d' f' bytes c
+compares-by s mode d d' f f' same bytes Normalized h = normalized-by d d' f f' (encoding_of s) same (units_of s bytes) h
+compares-by s mode d d' f f' same bytes (Differs x) h = (
+  h.0,
+  h.1,
+  record {
+    place = h.2.place;
+    first = offence-by (encoding_of s) d d' f f' same (units_of s h.0) h.2.place x.found x.wanted h.2.first;
+    position = h.2.position;
+  },
+)
+compares-by s mode d d' f f' same bytes (Stopped p) h = (h.0, h.1, normalized-by d d' f f' (encoding_of s) same (units_of s h.0) h.2)

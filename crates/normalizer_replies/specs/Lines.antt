@@ -1,9 +1,7 @@
 -- The lines of a text: each mapped by itself, or validated.
-use Rattle.std.specs.Prelude.{◌≡◌, ◌↔◌, ℕ, ◌+◌, ◌==◌, Bool, List, [], ◌∷◌, ◌++◌, map, codes, decimal, if◌then◌else◌}
+use Rattle.std.specs.Prelude.{ℕ, ◌+◌, ◌==◌, Bool, List, [], ◌∷◌, ◌++◌, map, codes, decimal, if◌then◌else◌}
 use Rattle.std.specs.List.{join_with_byte, slice_split}
-use Rattle.normalizer_built.specs.Mapping.{is_valid_by}
-use Rattle.normalizer_replies.specs.declared.reply.Answer.{Answer}
-use Rattle.normalizer_replies.specs.declared.reply.Answer.TheVariants.{Done}
+use Rattle.icu_normalizer.specs.Mapping.{is_valid_by}
 use Rattle.normalizer_replies.specs.Making.{Mapping}
 
 abbrev pub line_feed : ℕ
@@ -32,9 +30,3 @@ abbrev pub invalid_lines : Mapping → (name : List ℕ) → (number : ℕ) → 
 invalid_lines m name number [] = []
 invalid_lines m name number (line ∷ lines) =
     told_unless (is_valid_by m.validate line) name number ++ invalid_lines m name (number + 1) lines
-
--- a line for each of the lines that isn't valid, and yes if there is none
-pub record TellsInvalid (m : Mapping) (name : List ℕ) (lines : List (List ℕ)) (answer : Answer) (output : List ℕ)
-    : Type 0 where
-  pub told : output ≡ invalid_lines m name 1 lines
-  pub none : (answer ≡ Done) ↔ (output ≡ [])

@@ -1,19 +1,19 @@
 -- What is made of texts, by what records mean.
 use Rattle.std.specs.Prelude.{◌≡◌, ℕ, List}
-use Rattle.normal_forms.specs.declared.Form.{Form}
-use Rattle.normal_forms.specs.Forms.{nfc, normal_form}
-use Rattle.normal_forms.specs.Reading.{Reading}
-use Rattle.normalizer_tables.specs.declared.characters.IgnoredCharacters.TheVariants.{Dropped, Replaced}
-use Rattle.normalizer_records.specs.declared.records.Mappings.{Mappings}
-use Rattle.normalizer_records.specs.declared.records.Mappings.TheVariants.{Canonical, All}
-use Rattle.normalizer_records.specs.RecordValue.{RecordValue, Uts46RecordValue}
-use Rattle.normalizer_builder.specs.RecordedReading.{recorded_reading}
-use Rattle.normalizer_built.specs.declared.NormalForm.{NormalForm}
-use Rattle.normalizer_built.specs.declared.NormalForm.TheVariants.{Nfd, Nfc, Nfkd, Nfkc}
-use Rattle.normalizer_built.specs.declared.normalizer.Normalizer.{Normalizer}
-use Rattle.normalizer_built.specs.Mapping.{mapped_in, mapper_reading}
-use Rattle.normalizer_built.specs.Normalizers.{kind_by, reading_of}
-use Rattle.normalizer_built.specs.Providers.{kind_of}
+use Rattle.icu_normalizer.specs.Form.{Form}
+use Rattle.icu_normalizer.specs.NormalForms.{nfc, normal_form}
+use Rattle.icu_normalizer.specs.Reading.{Reading}
+use Rattle.icu_normalizer.specs.IgnoredCharacters.TheVariants.{Dropped, Replaced}
+use Rattle.icu_normalizer.specs.Mappings.{Mappings}
+use Rattle.icu_normalizer.specs.Mappings.TheVariants.{Canonical, All}
+use Rattle.icu_normalizer.specs.RecordValue.{RecordValue, Uts46RecordValue}
+use Rattle.icu_normalizer.specs.RecordedReading.{recorded_reading}
+use Rattle.icu_normalizer.specs.declared.any_normalizer.NormalForm.{NormalForm}
+use Rattle.icu_normalizer.specs.declared.any_normalizer.NormalForm.TheVariants.{Nfd, Nfc, Nfkd, Nfkc}
+use Rattle.icu_normalizer.specs.declared.any_normalizer.AnyNormalizer.{AnyNormalizer}
+use Rattle.icu_normalizer.specs.Mapping.{mapped_in, mapper_reading}
+use Rattle.icu_normalizer.specs.AnyNormalizers.{kind_by, reading_of}
+use Rattle.icu_normalizer.specs.Form.TheVariants.{Decomposing, Composing}
 use Rattle.icu_normalizer.specs.Uts46.{MapperData}
 
 -- a normal form, and the reading by which it is made
@@ -27,12 +27,18 @@ mappings_of Nfc = Canonical
 mappings_of Nfkd = All
 mappings_of Nfkc = All
 
+abbrev pub kind_of : NormalForm → Form
+kind_of Nfd = Decomposing
+kind_of Nfc = Composing
+kind_of Nfkd = Decomposing
+kind_of Nfkc = Composing
+
 -- D118 to D121 by what records mean
 abbrev pub making_by : List RecordValue → NormalForm → Making
 making_by records form = record { reading = recorded_reading records (mappings_of form); form = kind_of form }
 
 -- the normalizer makes this form of every text
-pub record Makes (n : Normalizer) (m : Making) : Type 0 where
+pub record Makes (n : AnyNormalizer) (m : Making) : Type 0 where
   pub kind : kind_by n ≡ m.form
   pub same : (x : List ℕ) → normal_form (reading_of n) (kind_by n) x ≡ normal_form m.reading m.form x
 

@@ -1,11 +1,11 @@
 -- What is done with files.
 use Rattle.std.specs.Prelude.{◌≡◌, List, ⊤}
-use Rattle.normalizer_records.specs.RecordValue.{RecordValue, Uts46RecordValue}
+use Rattle.icu_normalizer.specs.RecordValue.{RecordValue, Uts46RecordValue}
 use Rattle.icu_normalizer.specs.Mappers.{mapper_data_of}
+use Rattle.normalizer_streams.specs.declared.ill_formed.ErrorMode.{ErrorMode}
 use Rattle.normalizer_streams.specs.declared.scheme.EncodingScheme.{EncodingScheme}
 use Rattle.normalizer_replies.specs.declared.mapping.MapperTask.{MapperTask}
 use Rattle.normalizer_replies.specs.declared.reply.Task.{Task}
-use Rattle.normalizer_replies.specs.declared.reply.Task.TheVariants as task
 use Rattle.normalizer_replies.specs.declared.worker.Command.{Command}
 use Rattle.normalizer_replies.specs.declared.worker.Command.TheVariants as command
 use Rattle.normalizer_replies.specs.declared.worker.Worker.{Worker}
@@ -14,23 +14,24 @@ use Rattle.normalizer_replies.specs.Making.{Making, Makes, Mapping, Maps, making
 
 -- something of a normal form, or something of the mapper
 pub data Work : Type 0 where
-  OfForm : Task → EncodingScheme → Making → Work
-  OfMapper : MapperTask → EncodingScheme → Mapping → Work
+  OfForm : Task → EncodingScheme → ErrorMode → Making → Work
+  OfMapper : MapperTask → EncodingScheme → ErrorMode → Mapping → Work
 
 -- the work of a command, by what records mean
 abbrev pub work_by : List RecordValue → List Uts46RecordValue → Command → Work
-work_by records uts46 (command.OfForm task scheme form) = OfForm task scheme (making_by records form)
-work_by records uts46 (command.OfMapper task scheme) = OfMapper task scheme (mapping_by records uts46)
+work_by records uts46 (command.OfForm task scheme mode form) = OfForm task scheme mode (making_by records form)
+work_by records uts46 (command.OfMapper task scheme mode) = OfMapper task scheme mode (mapping_by records uts46)
 
 -- the worker does this work
 abbrev pub Does : Worker → Work → Type 0
-Does (worker.OfForm task scheme n) (OfForm task' scheme' m) = (task ≡ task') × (scheme ≡ scheme') × Makes n m
-Does (worker.OfForm task scheme n) (OfMapper task' scheme' m) = ⊥
-Does (worker.OfMapper task scheme n) (OfForm task' scheme' m) = ⊥
-Does (worker.OfMapper task scheme n) (OfMapper task' scheme' m) =
-    (task ≡ task') × (scheme ≡ scheme') × Maps (mapper_data_of n) m
+Does (worker.OfForm task scheme mode n) (OfForm task' scheme' mode' m) =
+    (task ≡ task') × (scheme ≡ scheme') × (mode ≡ mode') × Makes n m
+Does (worker.OfForm task scheme mode n) (OfMapper task' scheme' mode' m) = ⊥
+Does (worker.OfMapper task scheme mode n) (OfForm task' scheme' mode' m) = ⊥
+Does (worker.OfMapper task scheme mode n) (OfMapper task' scheme' mode' m) =
+    (task ≡ task') × (scheme ≡ scheme') × (mode ≡ mode') × Maps (mapper_data_of n) m
 
--- it reads a file to its end before it writes, as for all but writing a form
-abbrev pub RepliesAtEnd : Worker → Type 0
-RepliesAtEnd (worker.OfForm (task.Write mode) scheme n) = ⊥
-RepliesAtEnd other = ⊤
+-- it is something of the mapper
+abbrev pub IsOfMapper : Worker → Type 0
+IsOfMapper (worker.OfForm task scheme mode n) = ⊥
+IsOfMapper (worker.OfMapper task scheme mode n) = ⊤

@@ -1,17 +1,16 @@
 //! What is done with a file by the mapper.
-ghost use Rattle.std.specs.Prelude.{◌≡◌, ◌↔◌, ◌<◌, ◌+◌, ◌^◌, ◌++◌, [], IfOk, IsOkUnless, map, string_bytes};
+ghost use Rattle.std.specs.Prelude.{◌≡◌, ◌<◌, ◌+◌, ◌^◌, ◌++◌, IfOk, IsOkUnless, map, string_bytes};
 ghost use Rattle.icu_normalizer.specs.Mappers.{mapper_data_of, mapper_data_of_borrowed};
 ghost use Rattle.normalizer_replies.specs.Lines.{invalid_line, lines_of, told_unless};
 ghost use Rattle.normalizer_replies.specs.Making.{mapping_of, Mapping, Maps};
-ghost use Rattle.normalizer_replies.specs.Replies.{IsReplyOfLines, IsReplyOfMapper};
+ghost use Rattle.normalizer_replies.specs.Replies.{answer_of, lines_written, IsReplyOfMapper};
 ghost use Rattle.normalizer_replies.specs.inner.EachLine.{feed_unless, replies_to, reply_to};
 
 use crate::reply::{Answer, Reply};
+use icu_normalizer::IgnoredCharacters::Dropped;
 use icu_normalizer::uts46::{Uts46Mapper, Uts46MapperBorrowed};
-use normalizer_built::{is_valid, mapped};
-use normalizer_iterators::NormalizeError;
-use normalizer_streams::EncodingScheme;
-use normalizer_tables::characters::IgnoredCharacters::Dropped;
+use icu_normalizer::{NormalizeError, is_valid, mapped};
+use normalizer_streams::{EncodingScheme, Ending, ErrorMode, text_of};
 use std::alloc::{AllocError, Global};
 
 /// What is done with a file by the mapper.
@@ -29,47 +28,53 @@ impl MapperTask {
         self,
         alloc: Global,
         scheme: EncodingScheme,
+        mode: ErrorMode,
         mapper: &Uts46Mapper,
         name: &str,
         bytes: &[u8],
     ) -> Result<Reply, NormalizeError>
         ensures reply { (m : Mapping) → Maps (mapper_data_of mapper.now) m →
-            IfOk result (λ r. IsReplyOfMapper self scheme m name.now bytes.now r.answer r.output.items) }
+            IfOk result (λ r. IsReplyOfMapper self scheme mode m name.now bytes.now r.answer r.output.items) }
         ensures refused { IsOkUnless result NormalizeError.Memory }
     {
-        let text = scheme.decode(alloc, bytes)?;
-        self.reply_to_text(alloc, scheme, &mapper.as_borrowed(), name, &text)
+        let read = text_of(alloc, scheme, mode, bytes)?;
+        let text = scheme.decode(alloc, read.0)?;
+        let output = self.output_of(alloc, scheme, mapper, name, &text)?;
+        let answer = self.answer(scheme, read.1, &output);
+        Ok(Reply { answer, output })
     }
 
-    /// Returns the reply to a text, by the mapper's data.
-    fn reply_to_text(
+    /// What is written of the lines of a text.
+    fn output_of(
         self,
         alloc: Global,
         scheme: EncodingScheme,
-        mapper: &Uts46MapperBorrowed<'_>,
+        mapper: &Uts46Mapper,
         name: &str,
         text: &[char],
-    ) -> Result<Reply, NormalizeError>
-        ensures reply { IfOk result (λ r. IsReplyOfLines self scheme (mapping_of (mapper_data_of_borrowed mapper.now))
-            name.now (lines_of text.now) r.answer r.output.items) }
+    ) -> Result<Vec<u8>, NormalizeError>
+        ensures written { (m : Mapping) → Maps (mapper_data_of mapper.now) m → IfOk result (λ output.
+            output.items ≡ lines_written self scheme m name.now (lines_of text.now)) }
         ensures refused { IsOkUnless result NormalizeError.Memory }
     {
         let lines = lines(alloc, text)?;
-        let output = self.replies_to(alloc, scheme, mapper, name, &lines)?;
-        Ok(self.finished(output))
+        self.replies_to(alloc, scheme, &mapper.as_borrowed(), name, &lines)
     }
 
-    /// The reply with this output: yes if nothing is reported.
-    fn finished(self, output: Vec<u8>) -> Reply
-        ensures output { result.output.items ≡ output.items }
-        ensures mapped { self ≡ MapperTask.Map → result.answer ≡ Answer.Done }
-        ensures valid { self ≡ MapperTask.Validate → (result.answer ≡ Answer.Done) ↔ (output.items ≡ []) }
+    /// The answer for a text that ended so, by what is written.
+    fn answer(self, scheme: EncodingScheme, ending: Ending, output: &[u8]) -> Answer
+        ensures { result ≡ answer_of self scheme ending output.now }
     {
-        let answer = match self {
-            MapperTask::Validate if !output.is_empty() => Answer::No,
-            _ => Answer::Done,
-        };
-        Reply { answer, output }
+        match (self, ending) {
+            (MapperTask::Validate, Ending::Whole(_)) => {
+                if output.is_empty() {
+                    Answer::Done
+                } else {
+                    Answer::No
+                }
+            }
+            _ => Answer::Ended(scheme, ending),
+        }
     }
 
     /// What is written of the lines.

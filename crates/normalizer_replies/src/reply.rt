@@ -1,16 +1,10 @@
 //! What is done with a file.
-ghost use Rattle.std.specs.Prelude.{◌≡◌, ◌≢◌, IfOk, IsOkUnless, string_bytes};
-ghost use Rattle.normalizer_streams.specs.declared.ill_formed.ErrorMode.{ErrorMode};
+ghost use Rattle.std.specs.Prelude.{◌≡◌, IfOk, string_bytes};
 ghost use Rattle.normalizer_replies.specs.Lines.{line_of};
-ghost use Rattle.normalizer_replies.specs.Making.{Making, Makes};
-ghost use Rattle.normalizer_replies.specs.Mismatches.{TellsMismatch};
-ghost use Rattle.normalizer_replies.specs.Replies.{IsReplyOfForm};
+ghost use Rattle.normalizer_replies.specs.Mismatches.{told_of, TellsComparison};
 
 use crate::mismatch::mismatch_line;
-use icu_normalizer::Offence;
-use normalizer_built::Normalizer;
-use normalizer_iterators::NormalizeError;
-use normalizer_streams::{EncodingScheme, Ending, ErrorMode, first_offence, is_normalized};
+use normalizer_streams::{Comparison, EncodingScheme, Ending, Mismatch};
 use std::alloc::{AllocError, Global};
 
 /// What comes of a file.
@@ -28,7 +22,7 @@ pub enum Answer {
 #[derive(Clone, Copy, Debug, PartialEq, Eq)]
 pub enum Task {
     /// Its form is written.
-    Write(ErrorMode),
+    Write,
     /// Its name is written if it isn't in the form.
     Check,
     /// Its first mismatch with its form is written.
@@ -45,62 +39,44 @@ pub struct Reply {
 }
 
 impl Task {
-    /// Returns the reply to the bytes of a file, unless it is their form, which is written block by block.
-    pub(crate) fn reply(
+    /// Returns the reply to the comparison of a file with its form.
+    ///
+    /// # Errors
+    /// If an allocation was refused.
+    pub fn reply(
         self,
         alloc: Global,
         scheme: EncodingScheme,
-        normalizer: &Normalizer,
         name: &str,
-        bytes: &[u8],
-    ) -> Result<Reply, NormalizeError>
-        requires { (mode : ErrorMode) → self ≢ Task.Write mode }
-        ensures reply { (m : Making) → Makes normalizer.now m →
-            IfOk result (λ r. IsReplyOfForm self scheme m name.now bytes.now r.answer r.output.items) }
-        ensures refused { IsOkUnless result NormalizeError.Memory }
+        comparison: Comparison,
+    ) -> Result<Reply, AllocError>
+        ensures { IfOk result (λ r. TellsComparison self scheme name.now comparison r.answer r.output.items) }
     {
-        match self {
-            Task::Write(_) => unreachable!(),
-            Task::Check => {
-                if is_normalized(alloc, scheme, normalizer, bytes)? {
-                    Ok(Reply {
-                        answer: Answer::Done,
-                        output: Vec::new(alloc),
-                    })
-                } else {
-                    Ok(Reply {
-                        answer: Answer::No,
-                        output: line(alloc, name)?.into_bytes(),
-                    })
-                }
-            }
-            Task::Locate => {
-                let mismatch = first_offence(alloc, scheme, normalizer, bytes)?;
-                Ok(located(alloc, scheme, name, bytes, mismatch)?)
-            }
+        match comparison {
+            Comparison::Normalized => Ok(Reply {
+                answer: Answer::Done,
+                output: Vec::new(alloc),
+            }),
+            Comparison::Differs(mismatch) => Ok(Reply {
+                answer: Answer::No,
+                output: self.told_of(alloc, name, mismatch)?,
+            }),
+            Comparison::Stopped(position) => Ok(Reply {
+                answer: Answer::Ended(scheme, Ending::Stopped(position)),
+                output: Vec::new(alloc),
+            }),
         }
     }
-}
 
-/// No, with the line of the mismatch; yes, with nothing, if there is none.
-fn located(
-    alloc: Global,
-    scheme: EncodingScheme,
-    name: &str,
-    bytes: &[u8],
-    mismatch: Option<Offence>,
-) -> Result<Reply, AllocError>
-    ensures { IfOk result (λ r. TellsMismatch scheme name.now bytes.now mismatch r.answer r.output.items) }
-{
-    match mismatch {
-        Some(mismatch) => Ok(Reply {
-            answer: Answer::No,
-            output: mismatch_line(alloc, scheme, name, bytes, mismatch)?.into_bytes(),
-        }),
-        None => Ok(Reply {
-            answer: Answer::Done,
-            output: Vec::new(alloc),
-        }),
+    /// What is written of a mismatch.
+    fn told_of(self, alloc: Global, name: &str, mismatch: Mismatch) -> Result<Vec<u8>, AllocError>
+        ensures { IfOk result (λ output. output.items ≡ told_of self name.now mismatch) }
+    {
+        match self {
+            Task::Write => Ok(Vec::new(alloc)),
+            Task::Check => Ok(line(alloc, name)?.into_bytes()),
+            Task::Locate => Ok(mismatch_line(alloc, name, mismatch)?.into_bytes()),
+        }
     }
 }
 

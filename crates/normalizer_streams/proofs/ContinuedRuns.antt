@@ -4,10 +4,10 @@ use Rattle.std.specs.Prelude.{not, ◌||◌}
 use Rattle.std.proofs.lemmas.Bool.{cases_lt, true≢false}
 use Rattle.std.proofs.Common.{⊎_elim}
 use Rattle.std.proofs.lemmas.List.{drop-drop, drop-take}
-use Rattle.normalizer_tables.specs.declared.condition.Bounds.{Bounds}
-use Rattle.normalizer_tables.specs.Characters.{Characters, word_of}
-use Rattle.normalizer_tables.specs.Words.{is_backward_combining}
-use Rattle.normalizer_tables.specs.PairConditions.{is_taken_as_boundary}
+use Rattle.icu_normalizer.specs.Bounds.{Bounds}
+use Rattle.icu_normalizer.specs.Characters.{Characters, word_of}
+use Rattle.icu_normalizer.specs.Words.{is_backward_combining}
+use Rattle.icu_normalizer.specs.PairConditions.{is_taken_as_boundary}
 use Rattle.normalizer_streams.specs.declared.scheme.EncodingScheme.{EncodingScheme}
 use Rattle.normalizer_streams.specs.Schemes.{first_by, is_aligned}
 use Rattle.normalizer_streams.specs.Streams.{IsDivision, IsRun}

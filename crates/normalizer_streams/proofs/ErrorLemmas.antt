@@ -3,15 +3,14 @@ use Rattle.std.proofs.Common.{◌≡◌, ℕ, zero, suc, ◌+◌, ◌*◌, ◌-�
 use Rattle.std.specs.Prelude.{All, count_by, Option, Some, None, IfSome}
 use Rattle.std.proofs.lemmas.Bool.{cases_Bool}
 use Rattle.std.proofs.lemmas.List.{drop-drop, drop_all, take_all}
-use Rattle.std.proofs.lemmas.List.Elements.{All-nil, All-cons, All-head, All-same, All-tail}
+use Rattle.std.proofs.lemmas.List.Elements.{All-append, All-nil, All-cons, All-head, All-same, All-tail}
 use Rattle.std.proofs.lemmas.List.Sums.{sum_by-append, sum_by-cons}
-use Rattle.normalizer_text.specs.DecodingSteps.{steps, IsWellFormed}
-use Rattle.normalizer_text.specs.Encodings.{Encoding, first_in}
-use Rattle.normalizer_text.specs.InputCut.{IsErrorAt}
-use Rattle.normalizer_text.specs.declared.decoding_step.Step.{Step}
-use Rattle.normalizer_text.proofs.inputs.InputBoundaryLemmas.{IsWellFormed-append, IsWellFormed-nil}
-use Rattle.normalizer_text.proofs.rules.EncodingRules.{IsDecoding-first}
-use Rattle.normalizer_text.proofs.steps.StepLemmas.{IsRight, rest-shorter, steps-nil, steps-some, steps-take}
+use Rattle.icu_normalizer.specs.DecodingSteps.{steps, IsWellFormed}
+use Rattle.icu_normalizer.specs.Encodings.{Encoding, first_in}
+use Rattle.icu_normalizer.specs.InputCut.{IsErrorAt}
+use Rattle.icu_normalizer.specs.Step.{Step}
+use Rattle.icu_normalizer.proofs.EncodingRules.{IsDecoding-first}
+use Rattle.icu_normalizer.proofs.StepLemmas.{IsRight, rest-shorter, steps-append, steps-nil, steps-some, steps-take}
 use Rattle.normalizer_streams.specs.declared.scheme.EncodingScheme.{EncodingScheme}
 use Rattle.normalizer_streams.specs.declared.scheme.EncodingScheme.TheVariants.{Utf8, Utf16}
 use Rattle.normalizer_streams.specs.IllFormed.{steps_by, ill_formed, IsFirstIllFormed, IsWellFormedBy}
@@ -37,6 +36,12 @@ one-most true = omega arith
 one-most false = omega arith
 
 module _ (e : Encoding) where
+  pub IsWellFormed-nil : IsWellFormed (first_in e) []
+  IsWellFormed-nil = All-same IsRight _ _ (steps-nil e) (All-nil IsRight)
+
+  pub IsWellFormed-append : (front rest : List ℕ) → IsWellFormed (first_in e) front → IsWellFormed (first_in e) rest → IsWellFormed (first_in e) (front ++ rest)
+  IsWellFormed-append front rest a b = All-same IsRight _ _ (steps-append e front rest a) (All-append IsRight _ _ a b)
+
   -- the step in front alone
   one-step : (us : List ℕ) → 0 < length us → steps (first_in e) (take (first_in e us).width us) ≡ first_in e us ∷ []
   one-step us some =
@@ -51,7 +56,7 @@ module _ (e : Encoding) where
       let rest = drop n us in
       let some : 0 < length rest = omega (arith, length-drop n us) in
       let one = All-same IsRight _ _ (one-step rest some) (All-cons IsRight _ [] right (All-nil IsRight)) in
-      subst (IsWellFormed (first_in e)) (sym (take-sum n (first_in e rest).width us)) (IsWellFormed-append e (take n us) (take (first_in e rest).width rest) front one)
+      subst (IsWellFormed (first_in e)) (sym (take-sum n (first_in e rest).width us)) (IsWellFormed-append (take n us) (take (first_in e rest).width rest) front one)
 
   -- the errors from a place on are those of its step, and those after it
   pub errors-step : (us : List ℕ) (n : ℕ) (s : Step) → n < length us → s ≡ first_in e (drop n us)
@@ -73,24 +78,24 @@ module _ (e : Encoding) where
   find_error us = by (length us) us (omega arith)
     where
       by : (n : ℕ) (us : List ℕ) → length us ≤ n → IsWellFormed (first_in e) us ⊎ ((place : ℕ) × IsFirstErrorAt e us place)
-      by n [] h = inl (IsWellFormed-nil e)
+      by n [] h = inl (IsWellFormed-nil)
       by zero (u ∷ us) h = absurd (omega arith)
       by (suc n) (u ∷ us) h =
           let us' = u ∷ us in
           let w = (first_in e us').width in
           let some : 0 < length us' = omega arith in
           elim (cases_Bool (first_in e us').is_error) [
-            | inl error ↦ inr (0, record { before = IsWellFormed-nil e; here = record { within = some; error = error } })
+            | inl error ↦ inr (0, record { before = IsWellFormed-nil; here = record { within = some; error = error } })
             | inr right ↦
                 let front = All-same IsRight _ _ (one-step us' some) (All-cons IsRight _ [] right (All-nil IsRight)) in
                 elim (by n (drop w us') (rest-shorter e us' n some h)) [
-                  | inl rest ↦ inl (subst (IsWellFormed (first_in e)) (take-append-drop w us') (IsWellFormed-append e (take w us') (drop w us') front rest))
+                  | inl rest ↦ inl (subst (IsWellFormed (first_in e)) (take-append-drop w us') (IsWellFormed-append (take w us') (drop w us') front rest))
                   | inr found ↦
                       let place = found.0 in
                       let f = found.1 in inr (
                         w + place,
                         record {
-                          before = subst (IsWellFormed (first_in e)) (sym (take-sum w place us')) (IsWellFormed-append e (take w us') (take place (drop w us')) front f.before);
+                          before = subst (IsWellFormed (first_in e)) (sym (take-sum w place us')) (IsWellFormed-append (take w us') (take place (drop w us')) front f.before);
                           here = record {
                             within = omega (arith, f.here.within, length-drop w us');
                             error = ap (λ x. (first_in e x).is_error) (sym (drop-drop place w us')) ∙ f.here.error;

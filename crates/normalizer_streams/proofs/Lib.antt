@@ -1,3 +1,4 @@
+pub mod AgreementLemmas
 pub mod CarriedLemmas
 pub mod ErrorLemmas
 pub mod MoveLemmas
@@ -6,3 +7,4 @@ pub mod WatchLemmas
 pub mod ContinuedRuns
 pub mod SchemeLemmas
 pub mod SettledLemmas
+pub mod ComparisonLemmas

@@ -38,7 +38,7 @@ pub AppendsFront-after : (a b c : Option (List ℕ)) (xs ys : List ℕ) → Appe
 AppendsFront-after a b c xs ys p f = (length xs + f.0, subst (λ x. Appends a c x) (sym (take-append-add xs ys f.0)) (Appends-trans a b c xs (take f.0 ys) p f.1))
 
 -- what was read, and all that is left
-all_that_was_left : (l m : Option (List ℕ)) (read input : List ℕ) → Consumes l m read → IfSome m (λ all. input ≡ all) → IfSome l (λ all. read ++ input ≡ all)
+pub all_that_was_left : (l m : Option (List ℕ)) (read input : List ℕ) → Consumes l m read → IfSome m (λ all. input ≡ all) → IfSome l (λ all. read ++ input ≡ all)
 all_that_was_left None m read input p h = tt
 all_that_was_left (Some xs) None read input p h = absurd p
 all_that_was_left (Some xs) (Some ys) read input p h = ap (λ x. read ++ x) h ∙ sym p
@@ -49,7 +49,7 @@ read_is_within None m read n p h = tt
 read_is_within (Some xs) None read n p h = absurd p
 read_is_within (Some xs) (Some ys) read n p h = omega (arith, ap length p, length-append read ys)
 
-nothing_left : (l : Option (List ℕ)) → IsAtEnd l → IfSome l (λ all. [] ≡ all)
+pub nothing_left : (l : Option (List ℕ)) → IsAtEnd l → IfSome l (λ all. [] ≡ all)
 nothing_left None h = tt
 nothing_left (Some xs) h = sym h
 
@@ -58,7 +58,7 @@ abbrev pub rest_of : Option (List ℕ) → List ℕ
 rest_of None = []
 rest_of (Some xs) = xs
 
-rest_is : (l : Option (List ℕ)) → IfSome l (λ all. rest_of l ≡ all)
+pub rest_is : (l : Option (List ℕ)) → IfSome l (λ all. rest_of l ≡ all)
 rest_is None = tt
 rest_is (Some xs) = refl
 
@@ -73,6 +73,13 @@ module _ (scheme : EncodingScheme) (mode : ErrorMode) (form : List ℕ → List 
       (Stopped (record { line = counted (line_after (units_of scheme text)); byte = counted (byte_after scheme (units_of scheme text)) }))
   Ends-stopped all text fatal f = subst (λ m. Ends scheme m all text (Stopped (record { line = counted (line_after (units_of scheme text)); byte = counted (byte_after scheme (units_of scheme text)) })))
       (sym fatal) (f, record { line = refl; byte = refl })
+
+  -- bytes that were noted from the beginning
+  pub Ends-noted : (w : Watch) (bytes : List ℕ) (stop : Option Stop) (ending : Ending) → IfNone stop (ending ≡ Whole w.found) → IfSome stop (λ stop. ending ≡ Stopped stop.position)
+      → IsNoted scheme mode w [] bytes stop → Ends scheme mode bytes (text_in bytes stop) ending
+  Ends-noted w bytes None ending none some n = subst (Ends scheme mode bytes bytes) (sym none) (Ends-whole mode w bytes n)
+  Ends-noted w bytes (Some stop) ending none some n =
+      subst (Ends scheme mode bytes (take stop.place bytes)) (sym some) (subst (λ k. Ends scheme k bytes (take stop.place bytes) (Stopped stop.position)) (sym n.0) (n.3.first, n.3.position))
 
   -- nothing more is written
   pub IsCut-none : (m : ErrorMode) → m ≡ mode → (w : Watch) (t : Option (List ℕ)) (passed written carried next : List ℕ) → IsPassed scheme form passed written carried → Watches scheme m w passed

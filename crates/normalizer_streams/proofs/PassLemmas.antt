@@ -4,10 +4,10 @@ use Rattle.std.specs.Prelude.{All}
 use Rattle.std.proofs.Math.Seq.{drop-append_seam}
 use Rattle.std.proofs.lemmas.Bool.{true≢false}
 use Rattle.std.proofs.lemmas.List.Elements.{All-append, All-same}
-use Rattle.normalizer_text.specs.DecodingSteps.{steps}
-use Rattle.normalizer_text.specs.Encodings.{Encoding, first_in}
-use Rattle.normalizer_text.specs.declared.decoding_step.Step.{Step}
-use Rattle.normalizer_text.proofs.steps.StepLemmas.{IsRight, first-right, steps-append, steps-nil, steps-some}
+use Rattle.icu_normalizer.specs.DecodingSteps.{steps}
+use Rattle.icu_normalizer.specs.Encodings.{Encoding, first_in}
+use Rattle.icu_normalizer.specs.Step.{Step}
+use Rattle.icu_normalizer.proofs.StepLemmas.{IsRight, first-right, steps-append, steps-nil, steps-some}
 use Rattle.normalizer_streams.specs.declared.scheme.EncodingScheme.{EncodingScheme}
 use Rattle.normalizer_streams.specs.declared.scheme.EncodingScheme.TheVariants.{Utf8, Utf16}
 use Rattle.normalizer_streams.specs.IllFormed.{steps_by, IsFirstIllFormed, IsWellFormedBy}
@@ -48,7 +48,7 @@ module _ (scheme : EncodingScheme) where
       → IsWellFormedBy scheme front → IsWellFormedBy scheme rest → IsWellFormedBy scheme (front ++ rest)
   well_formed-joined front rest apart a b = All-same IsRight _ _ apart (All-append IsRight _ _ a b)
 
-  aligned-joined : (front rest : List ℕ) → is_aligned scheme (length front) ≡ true → is_aligned scheme (length rest) ≡ true → is_aligned scheme (length (front ++ rest)) ≡ true
+  pub aligned-joined : (front rest : List ℕ) → is_aligned scheme (length front) ≡ true → is_aligned scheme (length rest) ≡ true → is_aligned scheme (length (front ++ rest)) ≡ true
   aligned-joined front rest a b = ap (is_aligned scheme) (length-append front rest) ∙ aligned-sum scheme (length front) (length rest) a b
 
   -- ---- the first ill-formed sequence, with what is around it
@@ -111,6 +111,10 @@ module _ (scheme : EncodingScheme) where
 
   pub BeginsAs-less : (bytes next rest : List ℕ) → BeginsWhole scheme bytes → BeginsAs scheme (bytes ++ next) rest → BeginsAs scheme bytes rest
   BeginsAs-less bytes next rest b alike = record { some = alike.some; same = alike.same ∙ first-extends scheme bytes next b.some b.whole }
+
+  -- from the beginning
+  pub Joins-none : (bytes : List ℕ) → Joins scheme [] bytes
+  Joins-none bytes = record { aligned = aligned-zero scheme; apart = sym (ap (λ x. x ++ steps_by scheme bytes) (steps_by-nil scheme)) }
 
   module _ (form : List ℕ → List ℕ) where
     -- nothing was passed

@@ -6,9 +6,9 @@ use Rattle.std.proofs.Math.ListN.{drop_of_length-le}
 use Rattle.std.proofs.lemmas.List.{take_all}
 use Rattle.std.proofs.lemmas.List.Concat.{flat_map-append}
 use Rattle.std.proofs.lemmas.Bool.{eq-eqb, eqb-true, true≢false}
-use Rattle.normalizer_text.specs.Utf16.{first_of_utf16, is_high, is_single, unpaired_step}
-use Rattle.normalizer_text.proofs.rules.Utf16Lemmas.{first-single, first-unpaired}
-use Rattle.normalizer_text.proofs.rules.Utf8Lemmas.{IsDecoding-utf8, HasTrails-utf8}
+use Rattle.icu_normalizer.specs.Utf16.{first_of_utf16, is_high, is_single, unpaired_step}
+use Rattle.icu_normalizer.proofs.Utf16Lemmas.{first-single, first-unpaired}
+use Rattle.icu_normalizer.proofs.Utf8Lemmas.{IsDecoding-utf8, HasTrails-utf8}
 use Rattle.normalizer_streams.specs.declared.scheme.ByteOrder.{ByteOrder}
 use Rattle.normalizer_streams.specs.declared.scheme.EncodingScheme.{EncodingScheme}
 use Rattle.normalizer_streams.specs.declared.scheme.EncodingScheme.TheVariants.{Utf8, Utf16}

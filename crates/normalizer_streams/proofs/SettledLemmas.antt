@@ -3,17 +3,17 @@ use Rattle.std.proofs.Common.{◌≡◌, ℕ, ◌<◌, true, false, List, ◌++�
 use Rattle.std.specs.Prelude.{slice_index}
 use Rattle.std.proofs.Math.Seq.{drop-append_seam, take-append_seam}
 use Rattle.std.proofs.lemmas.Bool.{false_from_ne_true, true≢false}
-use Rattle.normal_forms.specs.Forms.{normal_form}
-use Rattle.normal_forms.specs.Reading.{Reading}
-use Rattle.normal_forms.specs.declared.Form.{Form}
-use Rattle.normalizer_text.specs.Encodings.{Encoding, first_in, decoded_in, encoded_in, trails_in}
-use Rattle.normalizer_text.proofs.rules.EncodingRules.{HasTrails-first}
-use Rattle.normalizer_text.proofs.rules.EncodingLemmas.{encoded_in-append}
-use Rattle.normalizer_text.proofs.steps.BackLemmas.{boundary-at}
-use Rattle.normalizer_text.proofs.steps.StepBoundaries.{decoded-take-drop, steps-take-drop}
-use Rattle.normalizer_text.proofs.steps.StepLemmas.{decoded-some}
-use Rattle.normalizer_text.specs.DecodingSteps.{steps}
-use Rattle.normalizer_text.specs.EncodedForm.{encoded_form}
+use Rattle.icu_normalizer.specs.NormalForms.{normal_form}
+use Rattle.icu_normalizer.specs.Reading.{Reading}
+use Rattle.icu_normalizer.specs.Form.{Form}
+use Rattle.icu_normalizer.specs.Encodings.{Encoding, first_in, decoded_in, encoded_in, trails_in}
+use Rattle.icu_normalizer.proofs.EncodingRules.{HasTrails-first}
+use Rattle.icu_normalizer.proofs.EncodingLemmas.{encoded_in-append}
+use Rattle.icu_normalizer.proofs.BackLemmas.{boundary-at}
+use Rattle.icu_normalizer.proofs.StepBoundaries.{decoded-take-drop, steps-take-drop}
+use Rattle.icu_normalizer.proofs.StepLemmas.{decoded-some}
+use Rattle.icu_normalizer.specs.DecodingSteps.{steps}
+use Rattle.icu_normalizer.specs.EncodedForm.{encoded_form}
 use Rattle.icu_normalizer.specs.BoundaryBefore.{HasBoundaryBefore}
 use Rattle.normalizer_streams.specs.declared.scheme.EncodingScheme.{EncodingScheme}
 use Rattle.normalizer_streams.specs.Schemes.{bytes_of, encoding_of, first_by, is_aligned, units_of}
@@ -21,7 +21,7 @@ use Rattle.normalizer_streams.specs.inner.Moves.{IsSettled}
 use Rattle.normalizer_streams.proofs.SchemeLemmas.{bytes-append, units-append, units-some}
 
 -- a unit that begins a whole character can't come after the first one of a step
-leads : (e : Encoding) (units : List ℕ) (place : ℕ) → place < length units → (first_in e (drop place units)).is_error ≡ false → trails_in e (slice_index units place) ≡ false
+pub leads : (e : Encoding) (units : List ℕ) (place : ℕ) → place < length units → (first_in e (drop place units)).is_error ≡ false → trails_in e (slice_index units place) ≡ false
 leads e units place within right = false_from_ne_true (trails_in e (slice_index units place)) (λ trail.
     let rest = drop place units in
     let some : 0 < length rest = omega (arith, length-drop place units) in
@@ -30,7 +30,7 @@ leads e units place within right = false_from_ne_true (trails_in e (slice_index 
     true≢false (sym (ap (λ s. s.is_error) one) ∙ right))
 
 -- so it begins a step
-steps-divided : (e : Encoding) (front rest : List ℕ) → 0 < length rest → (first_in e rest).is_error ≡ false → steps (first_in e) (front ++ rest) ≡ steps (first_in e) front ++ steps (first_in e) rest
+pub steps-divided : (e : Encoding) (front rest : List ℕ) → 0 < length rest → (first_in e rest).is_error ≡ false → steps (first_in e) (front ++ rest) ≡ steps (first_in e) front ++ steps (first_in e) rest
 steps-divided e front rest some right =
     let units = front ++ rest in
     let place = length front in

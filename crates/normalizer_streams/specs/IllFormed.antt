@@ -1,8 +1,8 @@
 -- Ill-formed sequences in bytes (The Unicode Standard, D84), and where a stream ends that has some.
 use Rattle.std.specs.Prelude.{◌≡◌, ℕ, ◌<◌, true, List, ◌++◌, count_by, length}
-use Rattle.normalizer_text.specs.DecodingSteps.{steps, IsWellFormed}
-use Rattle.normalizer_text.specs.Encodings.{first_in}
-use Rattle.normalizer_text.specs.declared.decoding_step.Step.{Step}
+use Rattle.icu_normalizer.specs.DecodingSteps.{steps, IsWellFormed}
+use Rattle.icu_normalizer.specs.Encodings.{first_in}
+use Rattle.icu_normalizer.specs.Step.{Step}
 use Rattle.normalizer_streams.specs.Positions.{counted, IsPositionAfter}
 use Rattle.normalizer_streams.specs.Schemes.{encoding_of, first_by, is_aligned, units_of}
 use Rattle.normalizer_streams.specs.declared.ill_formed.ErrorMode.{ErrorMode}

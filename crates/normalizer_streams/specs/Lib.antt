@@ -1,4 +1,5 @@
 pub mod IllFormed
+pub mod Mismatches
 pub mod Positions
 pub mod Schemes
 pub mod Streams

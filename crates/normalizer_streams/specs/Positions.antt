@@ -20,7 +20,11 @@ units_before front = length (take_while (λ u. not (u == 0x0A)) (reverse front))
 abbrev pub byte_after : EncodingScheme → List ℕ → ℕ
 byte_after s front = units_before front * unit_len s + 1
 
+-- the position after these units
+pub record IsPositionAfterUnits (scheme : EncodingScheme) (front : List ℕ) (p : Position) : Type 0 where
+  pub line : p.line ≡ counted (line_after front)
+  pub byte : p.byte ≡ counted (byte_after scheme front)
+
 -- the position after these bytes
-pub record IsPositionAfter (scheme : EncodingScheme) (front : List ℕ) (p : Position) : Type 0 where
-  pub line : p.line ≡ counted (line_after (units_of scheme front))
-  pub byte : p.byte ≡ counted (byte_after scheme (units_of scheme front))
+abbrev pub IsPositionAfter : EncodingScheme → (front : List ℕ) → Position → Type 0
+IsPositionAfter scheme front p = IsPositionAfterUnits scheme (units_of scheme front) p

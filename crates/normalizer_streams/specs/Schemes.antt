@@ -2,8 +2,8 @@
 use Rattle.std.specs.Prelude.{ℕ, ◌%◌, ◌==◌, Bool, true, List, [], ◌∷◌}
 use Rattle.std.specs.Int.{w16, from_be_bytes, from_le_bytes, to_be_bytes, to_le_bytes}
 use Rattle.std.specs.List.{flat_map}
-use Rattle.normalizer_text.specs.Encodings.{Encoding, decoded_in, encoded_in, first_in}
-use Rattle.normalizer_text.specs.declared.decoding_step.Step.{Step}
+use Rattle.icu_normalizer.specs.Encodings.{Encoding, decoded_in, encoded_in, first_in}
+use Rattle.icu_normalizer.specs.Step.{Step}
 use Rattle.normalizer_streams.specs.declared.scheme.ByteOrder.{ByteOrder}
 use Rattle.normalizer_streams.specs.declared.scheme.ByteOrder.TheVariants.{Big, Little}
 use Rattle.normalizer_streams.specs.declared.scheme.EncodingScheme.{EncodingScheme}

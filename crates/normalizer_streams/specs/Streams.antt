@@ -1,23 +1,23 @@
 -- What becomes of the form of a stream.
 use Rattle.std.specs.Prelude.{◌≡◌, ℕ, ◌-◌, ◌^◌, ◌<◌, ◌≤◌, Bool, true, false, List, ◌++◌, length, drop, Option, IfSome}
 use Rattle.std.specs.Io.KnownBytes.{Appends, Consumes}
-use Rattle.normalizer_text.specs.EncodedForm.{encoded_form}
-use Rattle.normalizer_tables.specs.Characters.{has_class_form, word_of}
-use Rattle.normalizer_tables.specs.Words.{is_backward_combining}
+use Rattle.icu_normalizer.specs.EncodedForm.{encoded_form}
+use Rattle.icu_normalizer.specs.Characters.{has_class_form, word_of}
+use Rattle.icu_normalizer.specs.Words.{is_backward_combining}
 use Rattle.icu_normalizer.specs.ComposingNormalizers.{composing_data_of}
 use Rattle.icu_normalizer.specs.Normalizers.{data_of}
-use Rattle.normalizer_built.specs.Normalizers.{kind_by, reading_of}
+use Rattle.icu_normalizer.specs.AnyNormalizers.{kind_by, reading_of}
 use Rattle.normalizer_io.specs.Transfer.{AppendsFront}
-use Rattle.normalizer_built.specs.declared.normalizer.Normalizer.{Normalizer}
+use Rattle.icu_normalizer.specs.declared.any_normalizer.AnyNormalizer.{AnyNormalizer}
 use Rattle.normalizer_streams.specs.IllFormed.{Ends}
 use Rattle.normalizer_streams.specs.declared.ill_formed.Ending.{Ending}
 use Rattle.normalizer_streams.specs.declared.ill_formed.ErrorMode.{ErrorMode}
 use Rattle.normalizer_streams.specs.Schemes.{bytes_of, encoding_of, first_by, is_aligned, units_of}
 use Rattle.normalizer_streams.specs.declared.scheme.EncodingScheme.{EncodingScheme}
-use Rattle.normalizer_built.specs.declared.normalizer.Normalizer.TheVariants as normalizer
+use Rattle.icu_normalizer.specs.declared.any_normalizer.AnyNormalizer.TheVariants as normalizer
 
 -- the bytes of the form of what bytes decode to
-abbrev pub form_by : EncodingScheme → Normalizer → List ℕ → List ℕ
+abbrev pub form_by : EncodingScheme → AnyNormalizer → List ℕ → List ℕ
 form_by scheme n bytes = bytes_of scheme (encoded_form (encoding_of scheme) (reading_of n) (kind_by n) (units_of scheme bytes))
 
 -- By the bytes that are left in a source, if it reports them, and by those that a target took before and after: the
@@ -41,7 +41,7 @@ pub record IsFormCutOff (scheme : EncodingScheme) (mode : ErrorMode) (form : Lis
   pub output : AppendsFront before after (form text)
 
 -- the character may continue what comes before it, as the words of a normalizer say
-abbrev pub may_continue : Normalizer → ℕ → Bool
+abbrev pub may_continue : AnyNormalizer → ℕ → Bool
 may_continue (normalizer.Decomposing n) c = has_class_form (data_of n) c
 may_continue (normalizer.Composing n) c = is_backward_combining (word_of (composing_data_of n) c)
 

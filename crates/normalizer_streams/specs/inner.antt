@@ -1,4 +1,5 @@
 -- What the contracts of private functions alone cite.
+pub mod Agreements
 pub mod Errors
 pub mod Moves
 pub mod Watches

@@ -1,18 +1,15 @@
 //! Normalizers over bytes in an encoding scheme.
-ghost use Rattle.std.specs.Prelude.{◌≡◌, ◌++◌, ◌↔◌, IfOk, IsOk, IsOkUnless, IsTrue, OnOk};
-ghost use Rattle.normalizer_text.specs.Encodings.{Encoding};
-ghost use Rattle.normalizer_text.specs.EncodedForm.{encoded_form};
-ghost use Rattle.normalizer_text.specs.InputCut.{IsInputNormalized};
-ghost use Rattle.normalizer_text.specs.InputOffence.{IsInputOffenceOf};
+ghost use Rattle.std.specs.Prelude.{◌≡◌, ◌++◌, IfOk, IsOk, IsOkUnless, OnOk};
+ghost use Rattle.icu_normalizer.specs.Encodings.{Encoding};
+ghost use Rattle.icu_normalizer.specs.EncodedForm.{encoded_form};
+ghost use Rattle.icu_normalizer.specs.Checks.{FindsOffence, IsLastingOffence};
 ghost use Rattle.icu_normalizer.specs.Forms.{HasShortUnits};
-ghost use Rattle.normalizer_built.specs.Normalizers.{kind_by, made_by, reading_of};
+ghost use Rattle.icu_normalizer.specs.AnyNormalizers.{kind_by, made_by, reading_of};
 ghost use Rattle.normalizer_streams.specs.Schemes.{encoding_of, units_of};
 ghost use Rattle.normalizer_streams.specs.Streams.{form_by};
 
 use crate::scheme::{ByteOrder, EncodingScheme};
-use icu_normalizer::Offence;
-use normalizer_built::Normalizer;
-use normalizer_iterators::NormalizeError;
+use icu_normalizer::{AnyNormalizer, NormalizeError, Offence};
 use std::alloc::Global;
 
 /// Buffers for the forms of bytes, used again for each.
@@ -45,7 +42,7 @@ impl FormBuffers {
     pub(crate) fn form_of(
         &mut self,
         scheme: EncodingScheme,
-        normalizer: &Normalizer,
+        normalizer: &AnyNormalizer,
         bytes: &[u8],
     ) -> Result<&[u8], NormalizeError>
         ensures form { IfOk result (λ form. form.now ≡ form_by scheme normalizer.now bytes.now) }
@@ -57,7 +54,11 @@ impl FormBuffers {
         }
     }
 
-    fn utf8_form(&mut self, normalizer: &Normalizer, bytes: &[u8]) -> Result<&[u8], NormalizeError>
+    fn utf8_form(
+        &mut self,
+        normalizer: &AnyNormalizer,
+        bytes: &[u8],
+    ) -> Result<&[u8], NormalizeError>
         ensures form { IfOk result (λ form. form.now ≡ form_by EncodingScheme.Utf8 normalizer.now bytes.now) }
         ensures refused { IsOkUnless result NormalizeError.Memory }
     {
@@ -69,7 +70,7 @@ impl FormBuffers {
     fn utf16_form(
         &mut self,
         order: ByteOrder,
-        normalizer: &Normalizer,
+        normalizer: &AnyNormalizer,
         bytes: &[u8],
     ) -> Result<&[u8], NormalizeError>
         ensures form { IfOk result (λ form. form.now ≡ form_by (EncodingScheme.Utf16 order) normalizer.now bytes.now) }
@@ -85,7 +86,7 @@ impl FormBuffers {
 
 /// Appends the form of 16-bit units.
 fn append_form_of_units(
-    normalizer: &Normalizer,
+    normalizer: &AnyNormalizer,
     units: &[u16],
     form: &mut Vec<u16>,
 ) -> Result<(), NormalizeError>
@@ -93,47 +94,10 @@ fn append_form_of_units(
         ++ encoded_form Encoding.Utf16 (reading_of normalizer.now) (kind_by normalizer.now) units.now) }
     ensures refused { IsOkUnless result NormalizeError.Memory }
 {
-    let written = match normalizer {
-        Normalizer::Decomposing(n) => n.as_borrowed().normalize_utf16_to(units, form),
-        Normalizer::Composing(n) => n.as_borrowed().normalize_utf16_to(units, form),
-    };
     // (Units in memory refuse a write only if an allocation is refused.)
-    match written {
+    match normalizer.as_borrowed().normalize_utf16_to(units, form) {
         Ok(()) => Ok(()),
         Err(_) => Err(NormalizeError::Memory),
-    }
-}
-
-/// Returns whether bytes are well-formed and already normalized.
-///
-/// # Errors
-/// `Memory` if an allocation was refused. In UTF-8 none is made unless more than 17 characters are buffered at a time.
-pub fn is_normalized(
-    alloc: Global,
-    scheme: EncodingScheme,
-    normalizer: &Normalizer,
-    bytes: &[u8],
-) -> Result<bool, NormalizeError>
-    ensures normalized { IfOk result (λ normalized. IsTrue normalized ↔ IsInputNormalized
-        (encoding_of scheme) (reading_of normalizer.now) (kind_by normalizer.now) (units_of scheme bytes.now)) }
-    ensures short { scheme ≡ EncodingScheme.Utf8 → HasShortUnits (made_by normalizer.now) Encoding.Utf8 bytes.now →
-        IsOk result }
-    ensures refused { IsOkUnless result NormalizeError.Memory }
-{
-    match scheme {
-        EncodingScheme::Utf8 => normalizer.is_normalized(bytes),
-        EncodingScheme::Utf16(order) => are_normalized(normalizer, &order.units(alloc, bytes)?),
-    }
-}
-
-fn are_normalized(normalizer: &Normalizer, units: &[u16]) -> Result<bool, NormalizeError>
-    ensures normalized { IfOk result (λ normalized. IsTrue normalized
-        ↔ IsInputNormalized Encoding.Utf16 (reading_of normalizer.now) (kind_by normalizer.now) units.now) }
-    ensures refused { IsOkUnless result NormalizeError.Memory }
-{
-    match normalizer {
-        Normalizer::Decomposing(n) => Ok(n.as_borrowed().is_normalized_utf16(units)?),
-        Normalizer::Composing(n) => Ok(n.as_borrowed().is_normalized_utf16(units)?),
     }
 }
 
@@ -141,31 +105,34 @@ fn are_normalized(normalizer: &Normalizer, units: &[u16]) -> Result<bool, Normal
 ///
 /// # Errors
 /// `Memory` if an allocation was refused. In UTF-8 none is made unless more than 17 characters are buffered at a time.
-pub fn first_offence(
+pub(crate) fn first_offence(
     alloc: Global,
     scheme: EncodingScheme,
-    normalizer: &Normalizer,
+    normalizer: &AnyNormalizer,
     bytes: &[u8],
 ) -> Result<Option<Offence>, NormalizeError>
-    ensures offence { IfOk result (IsInputOffenceOf
-        (encoding_of scheme) (reading_of normalizer.now) (kind_by normalizer.now) (units_of scheme bytes.now)) }
+    ensures offence { IfOk result (IsLastingOffence (made_by normalizer.now) (encoding_of scheme) (units_of scheme bytes.now)) }
     ensures short { scheme ≡ EncodingScheme.Utf8 → HasShortUnits (made_by normalizer.now) Encoding.Utf8 bytes.now →
         IsOk result }
     ensures refused { IsOkUnless result NormalizeError.Memory }
 {
     match scheme {
-        EncodingScheme::Utf8 => normalizer.first_offence(bytes),
-        EncodingScheme::Utf16(order) => offence_of(normalizer, &order.units(alloc, bytes)?),
+        EncodingScheme::Utf8 => utf8_offence(normalizer, bytes),
+        EncodingScheme::Utf16(order) => utf16_offence(normalizer, &order.units(alloc, bytes)?),
     }
 }
 
-fn offence_of(normalizer: &Normalizer, units: &[u16]) -> Result<Option<Offence>, NormalizeError>
-    ensures offence { IfOk result (λ offence.
-        IsInputOffenceOf Encoding.Utf16 (reading_of normalizer.now) (kind_by normalizer.now) units.now offence) }
-    ensures refused { IsOkUnless result NormalizeError.Memory }
+fn utf8_offence(normalizer: &AnyNormalizer, bytes: &[u8]) -> Result<Option<Offence>, NormalizeError>
+    ensures { FindsOffence (made_by normalizer.now) Encoding.Utf8 bytes.now result }
 {
-    match normalizer {
-        Normalizer::Decomposing(n) => Ok(n.as_borrowed().first_offence_utf16(units)?),
-        Normalizer::Composing(n) => Ok(n.as_borrowed().first_offence_utf16(units)?),
-    }
+    normalizer.as_borrowed().first_offence_utf8(bytes)
+}
+
+fn utf16_offence(
+    normalizer: &AnyNormalizer,
+    units: &[u16],
+) -> Result<Option<Offence>, NormalizeError>
+    ensures { FindsOffence (made_by normalizer.now) Encoding.Utf16 units.now result }
+{
+    normalizer.as_borrowed().first_offence_utf16(units)
 }

@@ -1,13 +1,13 @@
 //! Ill-formed sequences in bytes.
 ghost use Rattle.std.specs.Prelude.{◌≡◌, ◌≤◌, cond, count_by, length, take, IfNone, IfOk, IfSome};
-ghost use Rattle.normalizer_text.specs.DecodingSteps.{steps, IsWellFormed};
-ghost use Rattle.normalizer_text.specs.Encodings.{Encoding, first_in};
+ghost use Rattle.icu_normalizer.specs.DecodingSteps.{steps, IsWellFormed};
+ghost use Rattle.icu_normalizer.specs.Encodings.{Encoding, first_in};
 ghost use Rattle.normalizer_streams.specs.IllFormed.{ill_formed, IsFirstIllFormed, IsWellFormedBy};
 ghost use Rattle.normalizer_streams.specs.inner.Errors.{IsFirstErrorAt};
 
 use crate::position::Position;
 use crate::scheme::EncodingScheme;
-use normalizer_text::Units;
+use icu_normalizer::Units;
 use std::alloc::{AllocError, Global};
 use std::str;
 

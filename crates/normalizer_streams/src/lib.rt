@@ -1,18 +1,20 @@
-//! The normal forms of bytes in an encoding scheme. Of a stream, a source is read block by block, what no later byte can
-//! change is written, and only the rest is kept.
+//! The normal forms of bytes in an encoding scheme, and their comparison with them. A source is read block by block, what
+//! no later byte can change is written or compared, and only the rest is kept.
 #![tactic(auto)]
 
 mod carried;
 mod forms;
 mod ill_formed;
+mod mismatch;
 mod position;
 mod scheme;
 mod settled;
 mod stream;
 mod watch;
 
-pub use forms::{first_offence, is_normalized};
 pub use ill_formed::{Ending, ErrorMode};
+pub use mismatch::{Comparison, Mismatch, first_mismatch};
 pub use position::Position;
 pub use scheme::{ByteOrder, EncodingScheme};
 pub use stream::write_form;
+pub use watch::text_of;

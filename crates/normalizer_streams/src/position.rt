@@ -1,10 +1,11 @@
 //! Lines and bytes in a line, from 1, as reports name them.
-ghost use Rattle.std.specs.Prelude.{◌∷◌, ◌++◌, ℕ, List, []};
-ghost use Rattle.normalizer_streams.specs.Positions.{IsPositionAfter};
+ghost use Rattle.std.specs.Prelude.{◌≡◌, ◌≤◌, ◌==◌, ◌∷◌, ◌++◌, ℕ, List, [], count_by, length, OnOk};
+ghost use Rattle.normalizer_streams.specs.Positions.{units_before, IsPositionAfterUnits};
 ghost use Rattle.normalizer_streams.specs.Schemes.{units_of};
 ghost use Rattle.normalizer_streams.specs.inner.Watches.{IsCursorAfter};
 
 use crate::scheme::EncodingScheme;
+use std::alloc::{AllocError, Global};
 
 /// U+000A as a unit.
 const LINE_FEED: u16 = 0x0A;
@@ -55,9 +56,39 @@ impl Cursor {
         }
     }
 
+    /// Goes past the units that bytes spell.
+    pub(crate) fn advance_over(
+        &mut self,
+        alloc: Global,
+        scheme: EncodingScheme,
+        bytes: &[u8],
+    ) -> Result<(), AllocError>
+        ensures { OnOk result ((front : List ℕ) → IsCursorAfter front self.old →
+            IsCursorAfter (front ++ units_of scheme bytes.now) self.new) }
+    {
+        match scheme {
+            EncodingScheme::Utf8 => self.advance_over_utf8(bytes),
+            EncodingScheme::Utf16(order) => self.advance(&order.units(alloc, bytes)?),
+        }
+        Ok(())
+    }
+
+    /// Goes past bytes, many at a time.
+    fn advance_over_utf8(&mut self, bytes: &[u8])
+        ensures { (front : List ℕ) → IsCursorAfter front self.old → IsCursorAfter (front ++ bytes.now) self.new }
+    {
+        let last = bytes_before(bytes);
+        self.line = self.line.saturating_add(feeds(bytes));
+        if last < bytes.len() {
+            self.units = last;
+        } else {
+            self.units = self.units.saturating_add(last);
+        }
+    }
+
     /// The position there.
     pub(crate) fn position(self, scheme: EncodingScheme) -> Position
-        ensures { (front : List ℕ) → IsCursorAfter (units_of scheme front) self → IsPositionAfter scheme front result }
+        ensures { (front : List ℕ) → IsCursorAfter front self → IsPositionAfterUnits scheme front result }
     {
         let bytes = match scheme {
             EncodingScheme::Utf8 => self.units,
@@ -68,4 +99,19 @@ impl Cursor {
             byte: bytes.saturating_add(1),
         }
     }
+}
+
+/// How many line feeds bytes have.
+fn feeds(bytes: &[u8]) -> usize
+    ensures { result ≡ count_by (λ b. b == 0x0A) bytes.now }
+{
+    bytes.iter().filter(|b| **b == b'\n').count()
+}
+
+/// How many bytes come after the last line feed.
+fn bytes_before(bytes: &[u8]) -> usize
+    ensures value { result ≡ units_before bytes.now }
+    ensures within { result ≤ length bytes.now }
+{
+    bytes.iter().rev().take_while(|b| **b != b'\n').count()
 }

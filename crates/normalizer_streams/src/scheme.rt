@@ -1,8 +1,8 @@
 //! Bytes in an encoding scheme (The Unicode Standard, section 3.10).
 ghost use Rattle.std.specs.Prelude.{◌≡◌, ◌+◌, ◌∷◌, ◌<◌, drop, encode_utf8_all, length, min, string_bytes, take, IfOk};
 ghost use Rattle.std.specs.List.{flat_map};
-ghost use Rattle.normalizer_text.specs.Encodings.{decoded_in};
-ghost use Rattle.normalizer_text.specs.Utf16.{encode_utf16_all, first_of_utf16};
+ghost use Rattle.icu_normalizer.specs.Encodings.{decoded_in};
+ghost use Rattle.icu_normalizer.specs.Utf16.{encode_utf16_all, first_of_utf16};
 ghost use Rattle.normalizer_streams.specs.Schemes.{
   bytes_of_unit,
   decoded_by,
@@ -14,7 +14,7 @@ ghost use Rattle.normalizer_streams.specs.Schemes.{
   units_of_pairs,
 };
 
-use normalizer_text::{Chars, Step, Units};
+use icu_normalizer::{Chars, Step, Units};
 use std::alloc::{AllocError, Global};
 
 /// What a byte that is left at the end reads as: a high surrogate, which is ill-formed there.

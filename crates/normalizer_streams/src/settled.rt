@@ -1,23 +1,25 @@
 //! Places at which the form of bytes may be divided, whatever comes after them.
-ghost use Rattle.std.specs.Prelude.{◌≡◌, ℕ, ◌<◌, ◌≤◌, true, false, length, IfNone, IfSome};
+ghost use Rattle.std.specs.Prelude.{◌≡◌, ℕ, ◌<◌, ◌≤◌, true, false, drop, length, IfNone, IfSome};
 ghost use Rattle.icu_normalizer.specs.BoundaryBefore.{HasBoundaryBefore};
-ghost use Rattle.normalizer_built.specs.Normalizers.{kind_by, reading_of};
+ghost use Rattle.icu_normalizer.specs.AnyNormalizers.{kind_by, made_by, reading_of};
 ghost use Rattle.normalizer_streams.specs.Schemes.{is_aligned};
 ghost use Rattle.normalizer_streams.specs.Streams.{form_by, may_continue, IsDivision};
+ghost use Rattle.normalizer_streams.specs.inner.Agreements.{BeginsPartBy};
 ghost use Rattle.normalizer_streams.specs.inner.Moves.{IsSettled};
 
 use crate::scheme::EncodingScheme;
-use normalizer_built::Normalizer;
+use icu_normalizer::AnyNormalizer;
 
 /// Returns the last settled place that isn't among the first `from` bytes or at the beginning, if there is one.
 pub(crate) fn last_settled(
     scheme: EncodingScheme,
-    normalizer: &Normalizer,
+    normalizer: &AnyNormalizer,
     bytes: &[u8],
     from: usize,
 ) -> Option<usize>
     ensures settled { IfSome result (IsSettled scheme (form_by scheme normalizer.now) bytes.now) }
     ensures aligned { IfSome result (λ place. is_aligned scheme place ≡ true) }
+    ensures part { IfSome result (λ place. BeginsPartBy scheme (made_by normalizer.now) (drop place bytes.now)) }
     ensures none { IfNone result ((place : ℕ) → 0 < place → from ≤ place →
         IsDivision scheme (may_continue normalizer.now) bytes.now place → ⊥) }
     ensures last { IfSome result (λ last. (place : ℕ) → last < place →
@@ -34,11 +36,17 @@ pub(crate) fn last_settled(
 }
 
 /// Whether a whole character is at the place, with a boundary before it.
-fn is_settled(scheme: EncodingScheme, normalizer: &Normalizer, bytes: &[u8], place: usize) -> bool
+fn is_settled(
+    scheme: EncodingScheme,
+    normalizer: &AnyNormalizer,
+    bytes: &[u8],
+    place: usize,
+) -> bool
     requires positive { 0 < place }
     requires within { place < length bytes.now }
     ensures settled { result ≡ true → IsSettled scheme (form_by scheme normalizer.now) bytes.now place }
     ensures aligned { result ≡ true → is_aligned scheme place ≡ true }
+    ensures part { result ≡ true → BeginsPartBy scheme (made_by normalizer.now) (drop place bytes.now) }
     ensures missed { result ≡ false → IsDivision scheme (may_continue normalizer.now) bytes.now place → ⊥ }
 {
     if !scheme.is_aligned(place) {
@@ -49,12 +57,12 @@ fn is_settled(scheme: EncodingScheme, normalizer: &Normalizer, bytes: &[u8], pla
 }
 
 /// Whether a text may be divided before the character.
-fn has_boundary_before(normalizer: &Normalizer, character: char) -> bool
+fn has_boundary_before(normalizer: &AnyNormalizer, character: char) -> bool
     ensures apart { result ≡ true → HasBoundaryBefore (reading_of normalizer.now) (kind_by normalizer.now) character }
     ensures continues { result ≡ false → may_continue normalizer.now character ≡ true }
 {
     match normalizer {
-        Normalizer::Decomposing(n) => n.as_borrowed().has_boundary_before(character),
-        Normalizer::Composing(n) => n.as_borrowed().has_boundary_before(character),
+        AnyNormalizer::Decomposing(n) => n.as_borrowed().has_boundary_before(character),
+        AnyNormalizer::Composing(n) => n.as_borrowed().has_boundary_before(character),
     }
 }

@@ -46,7 +46,7 @@ use crate::ill_formed::{Ending, ErrorMode};
 use crate::scheme::EncodingScheme;
 use crate::settled::last_settled;
 use crate::watch::{Stop, Watch};
-use normalizer_built::Normalizer;
+use icu_normalizer::AnyNormalizer;
 use normalizer_io::{Source, Target, TransferError, write_all};
 use std::alloc::Global;
 
@@ -69,7 +69,7 @@ pub fn write_form<R: Source, W: Target>(
     alloc: Global,
     scheme: EncodingScheme,
     mode: ErrorMode,
-    normalizer: &Normalizer,
+    normalizer: &AnyNormalizer,
     reader: &mut R,
     writer: &mut W,
 ) -> Result<Ending, TransferError>
@@ -124,7 +124,7 @@ pub fn write_form<R: Source, W: Target>(
 /// but for the last few have been searched. Returns the place at which the text ends, if it does.
 fn write_settled<W: Target>(
     scheme: EncodingScheme,
-    normalizer: &Normalizer,
+    normalizer: &AnyNormalizer,
     carried: &mut Carried,
     searched: usize,
     watch: &mut Watch,
@@ -162,7 +162,7 @@ fn write_settled<W: Target>(
 /// Writes the form of a piece, up to where the text ends, which it returns.
 fn write_piece<W: Target>(
     scheme: EncodingScheme,
-    normalizer: &Normalizer,
+    normalizer: &AnyNormalizer,
     piece: &[u8],
     watch: &mut Watch,
     buffers: &mut FormBuffers,
@@ -188,7 +188,7 @@ fn write_piece<W: Target>(
 }
 
 /// The part of a piece whose form is written.
-fn text_in(piece: &[u8], stop: Option<Stop>) -> &[u8]
+pub(crate) fn text_in(piece: &[u8], stop: Option<Stop>) -> &[u8]
     requires { IfSome stop (λ stop. stop.place ≤ length piece.now) }
     ensures { result.now ≡ text_in piece.now stop }
 {
@@ -201,7 +201,7 @@ fn text_in(piece: &[u8], stop: Option<Stop>) -> &[u8]
 /// Writes the form of some bytes.
 fn write_form_of<W: Target>(
     scheme: EncodingScheme,
-    normalizer: &Normalizer,
+    normalizer: &AnyNormalizer,
     bytes: &[u8],
     buffers: &mut FormBuffers,
     writer: &mut W,

@@ -102,6 +102,8 @@ impl Inputs for Named<'_> {
 
     ghost bytes_of = { λ _ _. None };
 
+    ghost can_open = { λ _ _. ⊤ };
+
     ghost cannot_open = { λ _ _ _. ⊤ };
 
     ghost unrefused = { λ _ _. ⊤ };

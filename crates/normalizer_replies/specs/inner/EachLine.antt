@@ -4,7 +4,7 @@ use Rattle.normalizer_streams.specs.declared.scheme.EncodingScheme.{EncodingSche
 use Rattle.normalizer_streams.specs.Schemes.{encoded_by}
 use Rattle.normalizer_replies.specs.declared.mapping.MapperTask.{MapperTask}
 use Rattle.normalizer_replies.specs.declared.mapping.MapperTask.TheVariants.{Map, Validate}
-use Rattle.normalizer_built.specs.Mapping.{is_valid_by}
+use Rattle.icu_normalizer.specs.Mapping.{is_valid_by}
 use Rattle.normalizer_replies.specs.Lines.{line_feed, told_unless}
 use Rattle.normalizer_replies.specs.Making.{Mapping}
 

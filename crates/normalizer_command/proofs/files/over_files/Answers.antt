@@ -7,12 +7,13 @@ use Rattle.normalizer_command.proofs.files.over_files.Goals as goal
 pub returns-then-is_refused_write : goal.returns-then-is_refused_write
 returns-then-is_refused_write g c = λ w does.
     let outcome = c.over_file-outcome.result in
-    let d = devices (g.I.Inputs.bytes_of c.args.inputs.now) (g.I.Inputs.cannot_open c.args.inputs.now)
+    let d = devices (g.I.Inputs.bytes_of c.args.inputs.now) (g.I.Inputs.can_open c.args.inputs.now) (g.I.Inputs.cannot_open c.args.inputs.now)
     (g.I.Inputs.unrefused c.args.inputs.now) (g.I.Inputs.read_refused c.args.inputs.now) g.W.Target.bytes_taken g.W.Target.refusal in
     let done : IsDone d w (name_at c.args.names.now c.loop-name.name-index)
     (state c.loop-name.writer (g.R.Reports.reports c.loop-name.reports) c.loop-name.status)
     (state c.over_file-outcome.new.writer (g.R.Reports.reports c.tell.new.reports) c.greater-status.result) outcome
     = record {
+      opened = c.over_file-outcome.ensures.opened;
       done = c.over_file-outcome.ensures.done w does;
       why = c.over_file-outcome.ensures.why;
       left = c.over_file-outcome.ensures.left w does;
@@ -26,12 +27,13 @@ returns-then-is_refused_write g c = λ w does.
 pub loop-name-preserved : goal.loop-name-preserved
 loop-name-preserved g c = λ w does end rest.
     let outcome = c.over_file-outcome.result in
-    let d = devices (g.I.Inputs.bytes_of c.args.inputs.now) (g.I.Inputs.cannot_open c.args.inputs.now)
+    let d = devices (g.I.Inputs.bytes_of c.args.inputs.now) (g.I.Inputs.can_open c.args.inputs.now) (g.I.Inputs.cannot_open c.args.inputs.now)
     (g.I.Inputs.unrefused c.args.inputs.now) (g.I.Inputs.read_refused c.args.inputs.now) g.W.Target.bytes_taken g.W.Target.refusal in
     let done : IsDone d w (name_at c.args.names.now c.loop-name.name-index)
     (state c.loop-name.writer (g.R.Reports.reports c.loop-name.reports) c.loop-name.status)
     (state c.over_file-outcome.new.writer (g.R.Reports.reports c.tell.new.reports) c.greater-status.result) outcome
     = record {
+      opened = c.over_file-outcome.ensures.opened;
       done = c.over_file-outcome.ensures.done w does;
       why = c.over_file-outcome.ensures.why;
       left = c.over_file-outcome.ensures.left w does;

@@ -1,5 +1,5 @@
 use Rattle.std.proofs.Common.{◌<◌, length, arith}
-use Rattle.normalizer_text.proofs.steps.StepBoundaries.{step-some}
+use Rattle.icu_normalizer.proofs.StepBoundaries.{step-some}
 use Rattle.normalizer_streams.proofs.ErrorLemmas.{errors-end, errors-step, one-most}
 use Rattle.normalizer_streams.proofs.ill_formed.errors.Goals as goal
 

@@ -1,6 +1,6 @@
 use Rattle.std.proofs.Common.{◌≡◌, ◌+◌, ◌-◌, ◌≤◌, drop, length}
-use Rattle.normalizer_text.specs.DecodingSteps.{steps}
-use Rattle.normalizer_text.specs.Encodings.{first_in}
+use Rattle.icu_normalizer.specs.DecodingSteps.{steps}
+use Rattle.icu_normalizer.specs.Encodings.{first_in}
 use Rattle.normalizer_streams.proofs.ErrorLemmas.{count_errors}
 use Rattle.normalizer_streams.proofs.ill_formed.errors.Given as goal
 

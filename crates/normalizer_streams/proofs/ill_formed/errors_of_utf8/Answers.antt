@@ -1,5 +1,5 @@
 use Rattle.std.proofs.Common.{sym}
-use Rattle.normalizer_text.proofs.rules.StrLemmas.{IsWellFormed-IsUtf8}
+use Rattle.icu_normalizer.proofs.StrLemmas.{IsWellFormed-IsUtf8}
 use Rattle.normalizer_streams.proofs.ErrorLemmas.{no_errors}
 use Rattle.normalizer_streams.proofs.ill_formed.errors_of_utf8.Goals as goal
 

@@ -1,10 +1,9 @@
 use Rattle.std.proofs.Common.{◌<◌, ◌+◌, length, arith, ap, subst, sym, take, ◌∙◌}
 use Rattle.std.proofs.lemmas.List.{take_all}
-use Rattle.normalizer_text.specs.DecodingSteps.{IsWellFormed}
-use Rattle.normalizer_text.specs.Encodings.{first_in}
-use Rattle.normalizer_text.proofs.inputs.InputBoundaryLemmas.{IsWellFormed-nil}
-use Rattle.normalizer_text.proofs.steps.StepBoundaries.{step-some}
-use Rattle.normalizer_streams.proofs.ErrorLemmas.{well_formed-more}
+use Rattle.icu_normalizer.specs.DecodingSteps.{IsWellFormed}
+use Rattle.icu_normalizer.specs.Encodings.{first_in}
+use Rattle.icu_normalizer.proofs.StepBoundaries.{step-some}
+use Rattle.normalizer_streams.proofs.ErrorLemmas.{well_formed-more, IsWellFormed-nil}
 use Rattle.normalizer_streams.proofs.ill_formed.first_error.Goals as goal
 
 pub loop-place-init : goal.loop-place-init

@@ -1,6 +1,6 @@
 use Rattle.std.proofs.Common.{◌-◌, ◌≤◌, length, take}
-use Rattle.normalizer_text.specs.DecodingSteps.{IsWellFormed}
-use Rattle.normalizer_text.specs.Encodings.{first_in}
+use Rattle.icu_normalizer.specs.DecodingSteps.{IsWellFormed}
+use Rattle.icu_normalizer.specs.Encodings.{first_in}
 use Rattle.normalizer_streams.proofs.ill_formed.first_error.Given as goal
 
 abbrev pub invariant-loop-place : goal.invariant-loop-place

@@ -1,4 +1,4 @@
-use Rattle.normalizer_text.proofs.rules.StrLemmas.{IsWellFormed-IsUtf8}
+use Rattle.icu_normalizer.proofs.StrLemmas.{IsWellFormed-IsUtf8}
 use Rattle.normalizer_streams.proofs.ill_formed.first_error_of_utf8.Goals as goal
 
 pub returns-in-Ok-clause-none : goal.returns-in-Ok-clause-none

@@ -1,5 +1,5 @@
 use Rattle.std.proofs.Common.{arith, subst, ◌∙◌}
-use Rattle.normalizer_text.specs.Encodings.{Encoding}
+use Rattle.icu_normalizer.specs.Encodings.{Encoding}
 use Rattle.normalizer_streams.specs.declared.scheme.EncodingScheme.TheVariants.{Utf16}
 use Rattle.normalizer_streams.specs.inner.Errors.{IsFirstErrorAt}
 use Rattle.normalizer_streams.proofs.ErrorLemmas.{first_ill_formed-at, first_ill_formed-utf8}

@@ -1,6 +1,6 @@
 use Rattle.std.proofs.lemmas.Iterator.{items_from_collect}
-use Rattle.normalizer_text.specs.Encodings.{first_in}
-use Rattle.normalizer_text.specs.DecodingSteps.{TakesFirst}
+use Rattle.icu_normalizer.specs.Encodings.{first_in}
+use Rattle.icu_normalizer.specs.DecodingSteps.{TakesFirst}
 use Rattle.normalizer_streams.proofs.scheme.characters.Goals as goal
 
 pub returns : goal.returns

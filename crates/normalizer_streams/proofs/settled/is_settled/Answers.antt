@@ -1,6 +1,6 @@
 use Rattle.std.proofs.Common.{sym, subst, ap, ◌∙◌}
 use Rattle.std.proofs.lemmas.Bool.{not-true}
-use Rattle.normalizer_built.specs.Normalizers.{kind_by, reading_of}
+use Rattle.icu_normalizer.specs.AnyNormalizers.{kind_by, reading_of}
 use Rattle.icu_normalizer.specs.BoundaryBefore.{HasBoundaryBefore}
 use Rattle.normalizer_streams.proofs.SettledLemmas.{IsSettled-character}
 use Rattle.normalizer_streams.proofs.settled.is_settled.Goals as goal

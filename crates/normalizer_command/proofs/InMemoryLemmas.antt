@@ -1,0 +1,272 @@
+-- A run over files in memory, by what it does over devices.
+use Rattle.std.proofs.Common.{◌≡◌, ◌≢◌, ◌⊎◌, inl, inr, ℕ, ◌+◌, ◌<◌, ◌≤◌, Bool, true, false, List, [], ◌∷◌, ◌++◌, Option, Some, None, Result, Ok, Err, IfSome, MatchOption, refl, sym, ap, subst, ◌∙◌, arith, append_assoc, append-nil, length}
+use Rattle.std.specs.Prelude.{All, IsErrOf, IsSomeAnd, nat_lt, if◌then◌else◌, ⊤}
+use Rattle.std.specs.Option.{option_map, option_to_list}
+use Rattle.std.specs.Io.KnownBytes.{Appends}
+use Rattle.std.proofs.Math.Seq.{drop-append_seam, take-append_seam}
+use Rattle.std.proofs.lemmas.Bool.{ltb-false, ltb-true, true≢false}
+use Rattle.std.proofs.lemmas.List.Elements.{All-drop, All-head, All-take}
+use Rattle.std.specs.declared.io.ErrorKind.{ErrorKind}
+use Rattle.std.specs.declared.io.ErrorKind.TheVariants.{NotFound}
+use Rattle.normalizer_ucd.specs.declared.error.UcdFile.{UcdFile}
+use Rattle.normalizer_replies.specs.declared.mapping.MapperTask.TheVariants as mapper
+use Rattle.normalizer_replies.specs.declared.reply.Answer.{Answer}
+use Rattle.normalizer_replies.specs.declared.reply.Task.TheVariants as task
+use Rattle.normalizer_replies.specs.declared.worker.Command.{Command}
+use Rattle.normalizer_replies.specs.Replies.{IsReply}
+use Rattle.normalizer_replies.specs.Works.{Work, OfForm, OfMapper, work_by}
+use Rattle.normalizer_command.specs.Devices.{Devices, devices}
+use Rattle.normalizer_command.specs.FileReports.{Report, Tells}
+use Rattle.normalizer_command.specs.InMemory.{bytes_in, reports_of, AreHandled, Effect, IsEffectOf, IsFaultInMemory, IsHandled, IsThere, LacksDataInMemory, NamedBytes, RunsInMemory}
+use Rattle.normalizer_command.specs.Outcomes.{fault_told, greater, status_of, AreDone, IsDone, Leaves, State, state}
+use Rattle.normalizer_command.specs.Runs.{IsRun, LacksData, RunsByFiles}
+use Rattle.normalizer_command.specs.UnicodeFiles.{path_of, IsDataFault, IsReadFault}
+use Rattle.normalizer_command.specs.inner.Kept.{is_refusal, IsOfData}
+use Rattle.normalizer_command.specs.declared.fault.Fault.{Fault}
+use Rattle.normalizer_command.specs.declared.fault.Fault.TheVariants.{Open, Read, Write, Memory, Line, Records, IllFormed, Replaced}
+
+-- ---- the greatest of statuses
+
+greater-nil : (a : ℕ) → a ≡ greater a 0
+greater-nil a = by (nat_lt a 0) refl
+  where
+    by : (b : Bool) → nat_lt a 0 ≡ b → a ≡ greater a 0
+    by false is = rw is refl
+    by true is = absurd (omega (arith, ltb-true a 0 is))
+
+-- ---- reports that are known
+
+last-of-data : (told : List Report) (report : Report) → All IsOfData (told ++ report ∷ []) → IsOfData report
+last-of-data told report all = All-head IsOfData report [] (subst (All IsOfData) (drop-append_seam told (report ∷ [])) (All-drop IsOfData (length told) (told ++ report ∷ []) all))
+
+front-of-data : (told more : List Report) → All IsOfData (told ++ more) → All IsOfData told
+front-of-data told more all = subst (All IsOfData) (take-append_seam told more) (All-take IsOfData (length told) (told ++ more) all)
+
+-- the reports were known before, and there are those of one file more
+record Told (before : Option (List Report)) (name : List ℕ) (fault : Option Fault) (after : List Report) : Type 0 where
+  told : List Report
+  was : before ≡ Some told
+  parts : after ≡ told ++ option_to_list (option_map (λ fault. (name, fault)) fault)
+
+told-before : (before : Option (List Report)) (name : List ℕ) (fault : Fault) (after : List Report) → Tells before (Some after) (name, fault) → Told before name (Some fault) after
+told-before None name fault after h = absurd h
+told-before (Some told) name fault after h = record { told = told; was = refl; parts = h }
+
+told-of : (before now : Option (List Report)) (name : List ℕ) (fault : Option Fault) (after : List Report) → now ≡ Some after → MatchOption fault (now ≡ before) (λ fault. Tells before now (name, fault))
+    → Told before name fault after
+told-of before now name None after known h = record { told = after; was = sym h ∙ known; parts = sym (append-nil after) }
+told-of before now name (Some fault) after known h = told-before before name fault after (subst (λ x. Tells before x (name, fault)) known h)
+
+-- nothing is written for a file that can't be opened
+unwritten-open : (w : Work) (kind : ErrorKind) (Unwritten CutOff : Type 0) → Leaves w (Open kind) Unwritten CutOff → Unwritten
+unwritten-open (OfForm task.Write s mode m) kind Unwritten CutOff h = h
+unwritten-open (OfForm task.Check s mode m) kind Unwritten CutOff h = h
+unwritten-open (OfForm task.Locate s mode m) kind Unwritten CutOff h = h
+unwritten-open (OfMapper t s mode m) kind Unwritten CutOff h = h
+
+module _ {W : Type 0} (taken : W → Option (List ℕ)) (items : W → List ℕ) (known : (x : W) → taken x ≡ Some (items x)) (write_refused : W → W → Type 0) (files : List NamedBytes) where
+  abbrev pub d : Devices W
+  d = devices (bytes_in files) (IsThere files) (λ name kind. (bytes_in files name ≡ None) × (kind ≡ NotFound)) (λ _. ⊤) (λ _. ⊤) taken write_refused
+
+  appended : (x y : W) (output : List ℕ) → Appends (taken x) (taken y) output → items y ≡ items x ++ output
+  appended x y output a = by (taken x) (taken y) (known x) (known y) a
+    where
+      by : (t u : Option (List ℕ)) → t ≡ Some (items x) → u ≡ Some (items y) → Appends t u output → items y ≡ items x ++ output
+      by t u e f h = let h : Appends (Some (items x)) (Some (items y)) output = subst (λ t. Appends t (Some (items y)) output) e (subst (λ u. Appends t u output) f h) in h
+
+  module _ (w : Work) where
+    -- ---- one file
+
+    record One (name : List ℕ) (s next : State W) (outcome : Result Answer Fault) (after : List Report) : Type 0 where
+      told : Told s.told name (fault_told outcome) after
+      output : List ℕ
+      written : items next.writer ≡ items s.writer ++ output
+      handled : IsHandled w name (bytes_in files name) outcome output
+      goes_on : IsErrOf outcome Write → ⊥
+
+    one-refused : {A : Type 0} (name : List ℕ) (s next : State W) (fault : Fault) (after : List Report) → Told s.told name (Some fault) after → All IsOfData after → is_refusal fault ≡ true → A
+    one-refused name s next fault after t of_data refused =
+        absurd (true≢false (sym refused ∙ last-of-data t.told (name, fault) (subst (All IsOfData) t.parts of_data)))
+
+    one-replied : (name : List ℕ) (bytes : Option (List ℕ)) → (given : (b : List ℕ) × (bytes ≡ Some b)) → (answer : Answer) (input output : List ℕ) → IfSome bytes (λ all. input ≡ all)
+        → IsReply w name input answer output → IsHandled w name bytes (Ok answer) output
+    one-replied name None given answer input output whole reply = let never = given.1 in cc
+    one-replied name (Some all) given answer input output whole reply = (answer, refl, subst (λ x. IsReply w name x answer output) whole reply)
+
+    one-missing : (name : List ℕ) (bytes : Option (List ℕ)) (kind : ErrorKind) → bytes ≡ None → kind ≡ NotFound → IsHandled w name bytes (Err (Open kind)) []
+    one-missing name None kind none not_found = (ap (λ k. Err (Open k)) not_found, refl)
+    one-missing name (Some all) kind none not_found = cc
+
+    one : (name : List ℕ) (s next : State W) (outcome : Result Answer Fault) (after : List Report) → IsDone d w name s next outcome → next.told ≡ Some after → All IsOfData after → One name s next outcome after
+    one name s next (Ok answer) after done now of_data =
+        let r = done.done.1 in
+        record {
+          told = told-of s.told next.told name (fault_told (Ok answer)) after now done.told;
+          output = done.done.0;
+          written = appended s.writer next.writer done.done.0 done.done.2;
+          handled = one-replied name (bytes_in files name) done.opened answer r.input done.done.0 r.whole r.reply;
+          goes_on = λ refused. cc;
+        }
+    one name s next (Err (Open kind)) after done now of_data = record {
+      told = told-of s.told next.told name (Some (Open kind)) after now done.told;
+      output = [];
+      written = ap items (unwritten-open w kind (next.writer ≡ s.writer) _ done.left) ∙ sym (append-nil (items s.writer));
+      handled = one-missing name (bytes_in files name) kind done.why.0 done.why.1;
+      goes_on = λ refused. cc;
+    }
+    one name s next (Err Read) after done now of_data = one-refused name s next Read after (told-of s.told next.told name (Some Read) after now done.told) of_data refl
+    one name s next (Err Write) after done now of_data = one-refused name s next Write after (told-of s.told next.told name (Some Write) after now done.told) of_data refl
+    one name s next (Err Memory) after done now of_data = one-refused name s next Memory after (told-of s.told next.told name (Some Memory) after now done.told) of_data refl
+    one name s next (Err (Line fault)) after done now of_data = absurd done.why
+    one name s next (Err (Records error)) after done now of_data = absurd done.why
+    one name s next (Err (IllFormed scheme at)) after done now of_data = absurd done.why
+    one name s next (Err (Replaced count)) after done now of_data = absurd done.why
+
+    -- ---- files, one after another
+
+    record Handled (names : List (List ℕ)) (s t : State W) (after : List Report) : Type 0 where
+      told : List Report
+      was : s.told ≡ Some told
+      effect : Effect
+      reported : after ≡ told ++ effect.reports
+      written : items t.writer ≡ items s.writer ++ effect.output
+      status : t.status ≡ greater s.status effect.status
+      handled : AreHandled files w names effect
+
+    nothing : (s t : State W) (after : List Report) → s ≡ t → t.told ≡ Some after → Handled [] s t after
+    nothing s t after same now = record {
+      told = after;
+      was = ap (λ x. x.told) same ∙ now;
+      effect = record { output = []; reports = []; status = 0 };
+      reported = sym (append-nil after);
+      written = ap (λ x. items x.writer) (sym same) ∙ sym (append-nil (items s.writer));
+      status = ap (λ x. x.status) (sym same) ∙ greater-nil s.status;
+      handled = refl;
+    }
+
+    greater-after : (a b c : ℕ) → greater (greater a b) c ≡ greater a (greater b c)
+    greater-after a b c = by (nat_lt a b) (nat_lt b c) (nat_lt a c) refl refl refl
+      where
+        by : (x y z : Bool) → nat_lt a b ≡ x → nat_lt b c ≡ y → nat_lt a c ≡ z → greater (greater a b) c ≡ greater a (greater b c)
+        by true true true p q r = rw (p, q, r) refl
+        by true true false p q r = absurd (omega (arith, ltb-true a b p, ltb-true b c q, ltb-false a c r))
+        by true false z p q r = rw (p, q, p) refl
+        by false true z p q r = rw (p, q) refl
+        by false false true p q r = absurd (omega (arith, ltb-false a b p, ltb-false b c q, ltb-true a c r))
+        by false false false p q r = rw (p, q, r, p) refl
+
+    joined : (name : List ℕ) (names : List (List ℕ)) (s next t : State W) (outcome : Result Answer Fault) (after : List Report) → (rest : Handled names next t after) → One name s next outcome rest.told
+        → next.status ≡ greater s.status (status_of outcome) → Handled (name ∷ names) s t after
+    joined name names s next t outcome after rest first status = record {
+      told = first.told.told;
+      was = first.told.was;
+      effect = record {
+        output = first.output ++ rest.effect.output;
+        reports = reports_of name outcome ++ rest.effect.reports;
+        status = greater (status_of outcome) rest.effect.status;
+      };
+      reported = rest.reported ∙ ap (λ x. x ++ rest.effect.reports) first.told.parts ∙ append_assoc first.told.told (reports_of name outcome) rest.effect.reports;
+      written = rest.written ∙ ap (λ x. x ++ rest.effect.output) first.written ∙ append_assoc (items s.writer) first.output rest.effect.output;
+      status = rest.status ∙ ap (λ x. greater x rest.effect.status) status ∙ greater-after s.status (status_of outcome) rest.effect.status;
+      handled = (outcome, first.output, rest.effect, first.handled, rest.handled, refl);
+    }
+
+    -- the last file, whose write is refused, is none that is handled
+    last-write : {A : Type 0} (name : List ℕ) (s next t : State W) (after : List Report) → IsDone d w name s next (Err Write) → next ≡ t → t.told ≡ Some after → All IsOfData after → A
+    last-write name s next t after done same now of_data =
+        let first = one name s next (Err Write) after done (ap (λ x. x.told) same ∙ now) of_data in absurd (first.goes_on refl)
+
+    is-write : (outcome : Result Answer Fault) → (outcome ≡ Err Write) ⊎ (IsErrOf outcome Write → ⊥)
+    is-write (Ok answer) = inr (λ refused. cc)
+    is-write (Err (Open kind)) = inr (λ refused. cc)
+    is-write (Err Read) = inr (λ refused. cc)
+    is-write (Err Write) = inl refl
+    is-write (Err Memory) = inr (λ refused. cc)
+    is-write (Err (Line fault)) = inr (λ refused. cc)
+    is-write (Err (Records error)) = inr (λ refused. cc)
+    is-write (Err (IllFormed scheme at)) = inr (λ refused. cc)
+    is-write (Err (Replaced count)) = inr (λ refused. cc)
+
+    handled : (names : List (List ℕ)) (s t : State W) → AreDone d w names s t → (after : List Report) → t.told ≡ Some after → All IsOfData after → Handled names s t after
+    unfolding AreDone
+    handled [] s t same after now of_data = nothing s t after same now
+    handled (name ∷ names) s t done after now of_data =
+        let outcome = done.0 in
+        let next = done.1 in
+        elim (is-write outcome) [
+          | inl write ↦
+              let here = subst (IsDone d w name s next) write done.2 in
+              last-write name s next t after here (done.3 (subst (λ o. IsErrOf o Write) (sym write) refl)) now of_data
+          | inr other ↦
+              let rest = handled names next t (done.4 other) after now of_data in
+              joined name names s next t outcome after rest
+              (one name s next outcome rest.told done.2 rest.was (front-of-data rest.told rest.effect.reports (subst (All IsOfData) rest.reported of_data))) done.2.status
+        ]
+
+  -- ---- a run
+
+  some-same : (a b : List Report) → Some a ≡ Some b → a ≡ b
+  some-same a b e = cc
+
+  effect-same : (o o' : List ℕ) (r r' : List Report) (n n' : ℕ) → o ≡ o' → r ≡ r' → n ≡ n'
+      → (let e : Effect = record { output = o; reports = r; status = n } in e) ≡ (let e : Effect = record { output = o'; reports = r'; status = n' } in e)
+  effect-same o o' r r' n n' a b c = rw (a, b, c) refl
+
+  runs : (command : Command) (directory : List ℕ) (names : List (List ℕ)) (s t : State W) (after : List Report) → s.told ≡ Some [] → items s.writer ≡ [] → s.status ≡ 0 → t.told ≡ Some after
+      → All IsOfData after → RunsByFiles d command directory names s t → RunsInMemory files command directory names (record { output = items t.writer; reports = after; status = t.status })
+  runs command directory names s t after none empty zero now of_data r =
+      let h = handled (work_by r.records r.uts46 command) names s t r.done after now of_data in
+      let told : h.told ≡ [] = some-same h.told [] (sym h.was ∙ none) in
+      let output : items t.writer ≡ h.effect.output = h.written ∙ ap (λ x. x ++ h.effect.output) empty in
+      let reports : after ≡ h.effect.reports = h.reported ∙ ap (λ x. x ++ h.effect.reports) told in
+      let status : t.status ≡ h.effect.status = h.status ∙ ap (λ x. greater x h.effect.status) zero ∙ zero-greater h.effect.status in
+      record {
+        unicode_data = r.unicode_data;
+        exclusions = r.exclusions;
+        table = r.table;
+        are_files = r.files;
+        records = r.records;
+        uts46 = r.uts46;
+        recorded = r.recorded;
+        handled = subst (AreHandled files (work_by r.records r.uts46 command) names) (sym (effect-same (items t.writer) h.effect.output after h.effect.reports t.status h.effect.status output reports status)) h.handled;
+      }
+    where
+      zero-greater : (n : ℕ) → greater 0 n ≡ n
+      zero-greater n = by (nat_lt 0 n) refl
+        where
+          by : (b : Bool) → nat_lt 0 n ≡ b → greater 0 n ≡ n
+          by true is = rw is refl
+          by false is = rw is (omega (arith, ltb-false 0 n is))
+
+  read-fault : (directory : List ℕ) (command : Command) (file : UcdFile) (fault : Fault) → is_refusal fault ≡ false → IsReadFault d directory file fault → IsFaultInMemory files command directory file fault
+  read-fault directory command file (Open kind) of_data why = inl (why.0, ap Open why.1)
+  read-fault directory command file Read of_data why = cc
+  read-fault directory command file Write of_data why = cc
+  read-fault directory command file Memory of_data why = cc
+  read-fault directory command file (Line fault) of_data why = absurd why
+  read-fault directory command file (Records error) of_data why = absurd why
+  read-fault directory command file (IllFormed scheme at) of_data why = absurd why
+  read-fault directory command file (Replaced count) of_data why = absurd why
+
+  lacks : (command : Command) (directory : List ℕ) (s t : State W) (after : List Report) → s.told ≡ Some [] → items s.writer ≡ [] → t.told ≡ Some after → All IsOfData after
+      → LacksData d command directory s t → LacksDataInMemory files command directory (record { output = items t.writer; reports = after; status = t.status })
+  lacks command directory s t after none empty now of_data l =
+      let report : Report = (path_of directory l.file, l.fault) in
+      let told = told-before s.told (path_of directory l.file) l.fault after (subst (λ x. Tells s.told x report) now l.told) in
+      let parts : after ≡ report ∷ [] = told.parts ∙ ap (λ x. x ++ report ∷ []) (some-same told.told [] (sym told.was ∙ none)) in
+      let fine : is_refusal l.fault ≡ false = last-of-data [] report (subst (All IsOfData) parts of_data) in
+      let output : items t.writer ≡ [] = ap items l.unwritten ∙ empty in
+      record {
+        file = l.file;
+        fault = l.fault;
+        why = elim l.why [ inl read ↦ read-fault directory command l.file l.fault fine read | inr data_fault ↦ inr data_fault ];
+        of_data = λ memory. true≢false (sym (ap is_refusal memory) ∙ fine);
+        effect = effect-same (items t.writer) [] after (report ∷ []) t.status 2 output parts l.status;
+      }
+
+  pub effect-of-run : (command : Command) (directory : List ℕ) (names : List (List ℕ)) (s t : State W) (after : List Report) → s.told ≡ Some [] → items s.writer ≡ [] → s.status ≡ 0 → t.told ≡ Some after
+      → All IsOfData after → IsRun d command directory names s t → IsEffectOf files command directory names (record { output = items t.writer; reports = after; status = t.status })
+  effect-of-run command directory names s t after none empty zero now of_data run = elim run [
+    | inl r ↦ inl (runs command directory names s t after none empty zero now of_data r)
+    | inr l ↦ inr (lacks command directory s t after none empty now of_data l)
+  ]

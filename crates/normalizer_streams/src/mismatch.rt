@@ -1,0 +1,215 @@
+//! The first place at which a source isn't its own form.
+ghost use Rattle.std.specs.Prelude.{
+  ◌≡◌,
+  ◌⊎◌,
+  ◌≤◌,
+  ◌++◌,
+  ℕ,
+  List,
+  length,
+  take,
+  unwrap_or,
+  IfErr,
+  IfNone,
+  IfOk,
+  IfSome,
+  IsErrOf,
+  MatchOption,
+};
+ghost use Rattle.icu_normalizer.specs.AnyNormalizers.{kind_by, made_by, reading_of};
+ghost use Rattle.normalizer_io.specs.Transfer.{IsUnrefused};
+ghost use Rattle.normalizer_streams.specs.IllFormed.{Ends, IsFirstIllFormed};
+ghost use Rattle.normalizer_streams.specs.Mismatches.{Compares, IsComparison, IsTextOf};
+ghost use Rattle.normalizer_streams.specs.Streams.{IsEndless};
+ghost use Rattle.normalizer_streams.specs.declared.ill_formed.ErrorMode.{ErrorMode};
+ghost use Rattle.normalizer_streams.specs.inner.Agreements.{Agrees, AgreesFurther, IsPieceCompared};
+ghost use Rattle.normalizer_streams.specs.inner.Watches.{IsCursorAfter};
+
+use crate::carried::Carried;
+use crate::forms::first_offence;
+use crate::ill_formed::{ErrorMode, first_ill_formed};
+use crate::position::{Cursor, Position};
+use crate::scheme::EncodingScheme;
+use crate::settled::last_settled;
+use icu_normalizer::AnyNormalizer;
+use normalizer_io::{Source, TransferError};
+use std::alloc::{AllocError, Global};
+
+/// What is cut short of a character has fewer bytes.
+const LONGEST_SEQUENCE: usize = 4;
+
+/// The first place at which a text differs from its form.
+#[derive(Clone, Copy, Debug, PartialEq, Eq)]
+pub struct Mismatch {
+    /// Where it is.
+    pub position: Position,
+    /// The character there: U+FFFD if it is an ill-formed sequence.
+    pub found: char,
+    /// The character of the form that is wanted there.
+    pub wanted: char,
+}
+
+/// How a text compares with its form.
+#[derive(Clone, Copy, Debug, PartialEq, Eq)]
+pub enum Comparison {
+    /// It is well-formed and already normalized.
+    Normalized,
+    /// It isn't, from here on.
+    Differs(Mismatch),
+    /// An ill-formed sequence, which is fatal, begins there. What comes before it is already normalized.
+    Stopped(Position),
+}
+
+/// Reads up to the first block that isn't well-formed and already normalized, and returns the first mismatch. If
+/// ill-formed input is fatal, the text ends before the first ill-formed sequence. Only a run of characters without a
+/// boundary between them takes more memory than a block of 32 KiB.
+///
+/// # Errors
+/// - `Read` if a read was refused, or the source has no end: after 2^64 - 1 blocks.
+/// - `Memory` if an allocation was refused.
+pub fn first_mismatch<R: Source>(
+    alloc: Global,
+    scheme: EncodingScheme,
+    mode: ErrorMode,
+    normalizer: &AnyNormalizer,
+    reader: &mut R,
+) -> Result<Comparison, TransferError>
+    ensures compared { IfOk result (IsComparison scheme mode (reading_of normalizer.now) (kind_by normalizer.now)
+        (R.bytes_left reader.old)) }
+    ensures errors { IfErr result (λ error. (error ≡ TransferError.Read) ⊎ (error ≡ TransferError.Memory)) }
+    ensures read { IsErrOf result TransferError.Read →
+        R.refusal reader.old reader.new ⊎ IsEndless (R.bytes_left reader.old) }
+    ensures read_ahead { ¬ IsErrOf result TransferError.Read → IsUnrefused R.refusal reader.old reader.new }
+{
+    let mut carried = Carried::new(alloc);
+    let mut cursor = Cursor::new();
+    // A loop is proved to end, so this one counts its blocks.
+    for _ in 0..u64::MAX {
+        let searched = carried.bytes().len();
+        if !carried.read_block(reader)? {
+            return compare_last(
+                alloc,
+                scheme,
+                mode,
+                normalizer,
+                carried.bytes(),
+                &mut cursor,
+            );
+        }
+        let found = compare_settled(
+            alloc,
+            scheme,
+            mode,
+            normalizer,
+            &mut carried,
+            searched,
+            &mut cursor,
+        )?;
+        if let Some(found) = found {
+            return Ok(found);
+        }
+    }
+    Err(TransferError::Read)
+}
+
+/// Compares the last bytes with their form.
+fn compare_last(
+    alloc: Global,
+    scheme: EncodingScheme,
+    mode: ErrorMode,
+    normalizer: &AnyNormalizer,
+    bytes: &[u8],
+    cursor: &mut Cursor,
+) -> Result<Comparison, TransferError>
+    ensures compared { IfOk result (λ found. (passed : List ℕ) →
+        Agrees scheme (made_by normalizer.now) passed bytes.now cursor.old →
+        Compares scheme mode (reading_of normalizer.now) (kind_by normalizer.now) (passed ++ bytes.now) found) }
+    ensures errors { IfErr result (λ error. error ≡ TransferError.Memory) }
+{
+    let found = compare_piece(alloc, scheme, mode, normalizer, bytes, cursor)?;
+    Ok(found.unwrap_or(Comparison::Normalized))
+}
+
+/// Compares what is settled of the bytes that are carried with its form, and keeps the rest. All places up to `searched`
+/// but for the last few have been searched.
+fn compare_settled(
+    alloc: Global,
+    scheme: EncodingScheme,
+    mode: ErrorMode,
+    normalizer: &AnyNormalizer,
+    carried: &mut Carried,
+    searched: usize,
+    cursor: &mut Cursor,
+) -> Result<Option<Comparison>, TransferError>
+    ensures compared { IfOk result (λ found. (passed : List ℕ) →
+        Agrees scheme (made_by normalizer.now) passed carried.old cursor.old → MatchOption found
+        (AgreesFurther scheme (made_by normalizer.now) passed carried.old carried.new cursor.new)
+        (λ found. (next : List ℕ) → Compares scheme mode (reading_of normalizer.now) (kind_by normalizer.now)
+        (passed ++ (carried.old ++ next)) found)) }
+    ensures errors { IfErr result (λ error. error ≡ TransferError.Memory) }
+{
+    let from = searched.saturating_sub(LONGEST_SEQUENCE);
+    let bytes = carried.bytes();
+    let Some(place) = last_settled(scheme, normalizer, bytes, from) else {
+        return Ok(None);
+    };
+    let found = compare_piece(alloc, scheme, mode, normalizer, &bytes[..place], cursor)?;
+    carried.remove_front(place);
+    Ok(found)
+}
+
+/// Compares a piece with its form, and goes past it. Returns where it differs, or where its text ends.
+fn compare_piece(
+    alloc: Global,
+    scheme: EncodingScheme,
+    mode: ErrorMode,
+    normalizer: &AnyNormalizer,
+    piece: &[u8],
+    cursor: &mut Cursor,
+) -> Result<Option<Comparison>, TransferError>
+    ensures compared { IfOk result (λ found. (units : List ℕ) → IsCursorAfter units cursor.old →
+        IsPieceCompared scheme mode (made_by normalizer.now) units piece.now found cursor.new) }
+    ensures errors { IfErr result (λ error. error ≡ TransferError.Memory) }
+{
+    let end = end_of_text(alloc, scheme, mode, piece)?;
+    let text = &piece[..end.unwrap_or(piece.len())];
+    let Ok(offence) = first_offence(alloc, scheme, normalizer, text) else {
+        return Err(TransferError::Memory);
+    };
+    match (offence, end) {
+        (Some(offence), _) => {
+            cursor.advance_over(alloc, scheme, scheme.front(text, offence.place))?;
+            Ok(Some(Comparison::Differs(Mismatch {
+                position: cursor.position(scheme),
+                found: offence.found,
+                wanted: offence.wanted,
+            })))
+        }
+        (None, Some(_)) => {
+            cursor.advance_over(alloc, scheme, text)?;
+            Ok(Some(Comparison::Stopped(cursor.position(scheme))))
+        }
+        (None, None) => {
+            cursor.advance_over(alloc, scheme, text)?;
+            Ok(None)
+        }
+    }
+}
+
+/// Where the text of a piece ends, if an ill-formed sequence is in it and is fatal.
+fn end_of_text(
+    alloc: Global,
+    scheme: EncodingScheme,
+    mode: ErrorMode,
+    piece: &[u8],
+) -> Result<Option<usize>, AllocError>
+    ensures within { IfOk result (λ end. IfSome end (λ end. end ≤ length piece.now)) }
+    ensures text { IfOk result (λ end. IsTextOf scheme mode piece.now (take (unwrap_or end (length piece.now)) piece.now)) }
+    ensures fatal { IfOk result (λ end. IfSome end (λ end. mode ≡ ErrorMode.Fatal)) }
+    ensures first { IfOk result (λ end. IfSome end (λ end. IsFirstIllFormed scheme piece.now (take end piece.now))) }
+{
+    match mode {
+        ErrorMode::Replacement => Ok(None),
+        ErrorMode::Fatal => first_ill_formed(alloc, scheme, piece),
+    }
+}
