@@ -1,5 +1,5 @@
 //! Prepared data that were read: a provider of all markers.
-ghost use Rattle.std.specs.Prelude.{◌≡◌, ◌≢◌, ◌↔◌, Ok, Some, IfErr, IfOk, IsTrue};
+ghost use Rattle.std.specs.Prelude.{◌≡◌, ◌↔◌, Ok, Some, IfErr, IfOk, IsTrue};
 ghost use Rattle.normalizer_prepared.specs.Prepared.{prepared_in};
 ghost use Rattle.normalizer_tables.specs.declared.provider.DataError.TheVariants.{Memory};
 
@@ -26,12 +26,11 @@ impl Drop for PreparedData {
 }
 
 impl PreparedData {
-    /// Returns whether the mapper's data are others than the canonical ones. If not, the mapper maps a text to its NFC:
-    /// built data are such if no record of the mapper says anything else.
-    pub fn has_mapper(&self) -> bool
-        ensures { IsTrue result ↔ ((prepared_in self.now).mapper ≢ (prepared_in self.now).canonical) }
+    /// Returns whether the mapper's data are the canonical ones. A mapper over them maps a text to its NFC.
+    pub fn has_canonical_mapper(&self) -> bool
+        ensures { IsTrue result ↔ ((prepared_in self.now).mapper ≡ (prepared_in self.now).canonical) }
     {
-        self.packed.mapper != self.packed.canonical
+        self.packed.mapper == self.packed.canonical
     }
 }
 
