@@ -279,7 +279,7 @@ static void parts_of_files(icu_normalizer *normalizer) {
     wrong_line(normalizer, "", end, "", 1, ICU_NORMALIZER_UNICODE_DATA, 21);
     wrong_line(normalizer, end, end, "0000..0040 ; valid\n0042..10FFFF ; valid\n", 2,
         ICU_NORMALIZER_IDNA_MAPPING_TABLE, 22);
-    wrong_line(normalizer, end, end, "\n", 2, ICU_NORMALIZER_IDNA_MAPPING_TABLE, 23);
+    wrong_line(normalizer, end, end, "\n", 1, ICU_NORMALIZER_IDNA_MAPPING_TABLE, 23);
     wrong_line(normalizer, end, end, "0000..10FFFE ; valid\n", 1, ICU_NORMALIZER_IDNA_MAPPING_TABLE, 23);
     wrong_line(normalizer, "# 17.0.0\n# EOF\n", "# 18.0.0\n# EOF\n", "", 1, ICU_NORMALIZER_UNICODE_DATA, 24);
     wrong_line(normalizer, "# 18.0.0\n# EOF\n", "# 18.0.0\n# EOF\n", "#\n# 17.0.0\n0000..10FFFF ; valid\n", 2,
