@@ -1,8 +1,8 @@
 -- Reading from left to right: a value and the bytes after it, or the first fault that is met.
 use Rattle.std.specs.Prelude.{◌≡◌, ℕ, zero, suc, ◌+◌, ◌*◌, ◌==◌, nat_lt, List, [], ◌∷◌, length, Result, Ok, Err}
-use Rattle.std.specs.Prelude.{if◌then◌else◌}
+use Rattle.std.specs.Prelude.{Option, Some, None, if◌then◌else◌}
 use lib.Utf8.{scalar}
-use Rattle.normalizer_tables.specs.Table.{Table}
+use Rattle.normalizer_tables.specs.Table.{Table, code_points}
 use Rattle.normalizer_tables.specs.Pairs.{Pair}
 use Rattle.normalizer_tables.specs.Data.{Decompositions, Lists, Supplement}
 use Rattle.normalizer_prepared.specs.declared.fault.Fault.{Fault}
@@ -10,7 +10,7 @@ use Rattle.normalizer_prepared.specs.declared.fault.Fault.TheVariants.{Short, Co
 use Rattle.normalizer_prepared.specs.declared.fault.ReadError.{ReadError}
 use Rattle.normalizer_prepared.specs.declared.fault.ReadError.TheVariants as errors
 use Rattle.normalizer_prepared.specs.declared.run.Run.{Run}
-use Rattle.normalizer_prepared.specs.Runs.{run, words_of, are_runs}
+use Rattle.normalizer_prepared.specs.Runs.{run, words_of, is_next}
 
 -- what is wrong, and how many bytes are left there
 abbrev pub Wrong : Type 0
@@ -90,11 +90,25 @@ run_at bytes = do
   word ← number_at 4 count.1
   Ok (run count.0 word.0, word.1)
 
+-- a run that goes on from this code point, after a run of this word
+unfoldable pub next_run_at : ℕ → Option ℕ → List ℕ → Read Run
+next_run_at n before bytes = do
+  r ← run_at bytes
+  if is_next n before r.0 then Ok r else Err (Runs, length bytes)
+
+-- this many runs, each of which goes on after the one before it, up to the last code point
+unfoldable pub runs_from : ℕ → Option ℕ → ℕ → List ℕ → Read (List Run)
+runs_from n before zero bytes = if n == code_points then Ok ([], bytes) else Err (Runs, length bytes)
+runs_from n before (suc count) bytes = do
+  first ← next_run_at n before bytes
+  others ← runs_from (n + first.0.count) (Some first.0.word) count first.1
+  Ok (first.0 ∷ others.0, others.1)
+
 -- the runs of all code points, and the bytes after them
 unfoldable pub runs_at : List ℕ → Read (List Run)
 runs_at bytes = do
-  rs ← list_at run_at bytes
-  if are_runs rs.0 then Ok rs else Err (Runs, length bytes)
+  count ← number_at 4 bytes
+  runs_from 0 None count.0 count.1
 
 unfoldable pub table_at : List ℕ → Read Table
 table_at bytes = do

@@ -18,22 +18,29 @@ pub(crate) trait Item: Copy {
     /// What is written.
     ghost item_bytes: { Self → List ℕ };
 
+    /// What its bytes have room for.
+    ghost fits: { Self → Type 0 };
+
     /// The first item of these bytes, and the bytes after it.
     fn read(bytes: &[u8]) -> Result<(Self, &[u8]), ReadError>
         ensures { Gives (λ x. (x.0, x.1.now)) result (item_at bytes.now) };
 
     /// Appends the item.
     fn append(self, out: &mut Vec<u8>) -> Result<(), AllocError>
-        ensures { OnOk result (out.new.items ≡ out.old.items ++ item_bytes self) };
+        ensures bytes { OnOk result (out.new.items ≡ out.old.items ++ item_bytes self) }
+        ensures room { fits self };
 }
 
 impl Item for u16 {
+    ghost use Rattle.std.specs.Prelude.{◌<◌, ◌^◌};
     ghost use Rattle.normalizer_prepared.specs.Bytes.{number_bytes};
     ghost use Rattle.normalizer_prepared.specs.Reading.{number_at};
 
     ghost item_at = { number_at 2 };
 
     ghost item_bytes = { number_bytes 2 };
+
+    ghost fits = { λ n. n < 2 ^ 16 };
 
     #[inline(always)]
     fn read(bytes: &[u8]) -> Result<(u16, &[u8]), ReadError> {
@@ -46,12 +53,15 @@ impl Item for u16 {
 }
 
 impl Item for char {
+    ghost use Rattle.std.specs.Char.{IsScalar};
     ghost use Rattle.normalizer_prepared.specs.Bytes.{number_bytes};
     ghost use Rattle.normalizer_prepared.specs.Reading.{scalar_at};
 
     ghost item_at = { scalar_at };
 
     ghost item_bytes = { number_bytes 3 };
+
+    ghost fits = { IsScalar };
 
     #[tactic(auto, unfolding(crate::specs::Reading::scalar_at))]
     #[inline(always)]
@@ -69,12 +79,14 @@ impl Item for char {
 }
 
 impl Item for (char, char, char) {
-    ghost use Rattle.normalizer_prepared.specs.Prepared.{pair_bytes};
+    ghost use Rattle.normalizer_prepared.specs.Prepared.{pair_bytes, IsPair};
     ghost use Rattle.normalizer_prepared.specs.Reading.{pair_at};
 
     ghost item_at = { pair_at };
 
     ghost item_bytes = { pair_bytes };
+
+    ghost fits = { IsPair };
 
     #[tactic(auto, unfolding(crate::specs::Reading::pair_at))]
     #[inline(always)]
@@ -95,12 +107,15 @@ impl Item for (char, char, char) {
 }
 
 impl Item for Run {
+    ghost use Rattle.std.specs.Prelude.{◌<◌, ◌^◌};
     ghost use Rattle.normalizer_prepared.specs.Runs.{run_bytes};
     ghost use Rattle.normalizer_prepared.specs.Reading.{run_at};
 
     ghost item_at = { run_at };
 
     ghost item_bytes = { run_bytes };
+
+    ghost fits = { λ r. r.word < 2 ^ 32 };
 
     #[tactic(auto, unfolding(crate::specs::Reading::run_at))]
     #[inline(always)]

@@ -1,6 +1,6 @@
 //! Files of prepared data, as they are written.
-ghost use Rattle.std.specs.Prelude.{◌≡◌, ◌++◌, IfOk, IsOkUnless, OnOk, Some};
-ghost use Rattle.normalizer_builder.specs.Built.{data_in};
+ghost use Rattle.std.specs.Prelude.{◌≡◌, ◌++◌, All, IfOk, IsOkUnless, OnOk, Some};
+ghost use Rattle.normalizer_builder.specs.Built.{AreBuilt, data_in};
 ghost use Rattle.normalizer_prepared.specs.Bytes.{list_bytes};
 ghost use Rattle.normalizer_prepared.specs.Prepared.{
   data_bytes,
@@ -10,7 +10,11 @@ ghost use Rattle.normalizer_prepared.specs.Prepared.{
   pair_bytes,
   prepared_bytes,
   supplement_bytes,
+  Fits,
+  FitsDecompositions,
+  IsPair,
 };
+ghost use Rattle.normalizer_prepared.specs.inner.Typed.{AreTyped, AreTypedLists, IsTypedSupplement};
 
 use crate::sums::sums;
 use crate::writing::{
@@ -30,8 +34,12 @@ use std::alloc::{AllocError, Global};
 ///
 /// # Errors
 /// `Memory` if an allocation was refused.
+#[tactic(auto, using(crate::proofs::decoding::FitLemmas::built_fits))]
 pub fn prepared_data(alloc: Global, built: &Built) -> Result<Vec<u8>, DataError>
     ensures bytes { IfOk result (λ v. v.items ≡ prepared_bytes (data_in built.now)) }
+
+    // What was built fits, so it is read again.
+    ensures fits { AreBuilt (data_in built.now) → IfOk result (λ _. Fits (data_in built.now)) }
     ensures refused { IsOkUnless result DataError.Memory }
 {
     match file_of_built(alloc, built) {
@@ -42,7 +50,8 @@ pub fn prepared_data(alloc: Global, built: &Built) -> Result<Vec<u8>, DataError>
 
 #[tactic(auto, unfolding(crate::specs::Prepared::prepared_bytes))]
 fn file_of_built(alloc: Global, built: &Built) -> Result<Vec<u8>, AllocError>
-    ensures { IfOk result (λ v. v.items ≡ prepared_bytes (data_in built.now)) }
+    ensures bytes { IfOk result (λ v. v.items ≡ prepared_bytes (data_in built.now)) }
+    ensures typed { IfOk result (λ _. AreTyped (data_in built.now)) }
 {
     let bytes = data_of(alloc, built)?;
     file_of(alloc, &bytes)
@@ -67,7 +76,8 @@ fn file_of(alloc: Global, bytes: &[u8]) -> Result<Vec<u8>, AllocError>
 /// The data of all markers.
 #[tactic(auto, unfolding(crate::specs::Prepared::data_bytes))]
 fn data_of(alloc: Global, built: &Built) -> Result<Vec<u8>, AllocError>
-    ensures { IfOk result (λ v. v.items ≡ data_bytes (data_in built.now)) }
+    ensures bytes { IfOk result (λ v. v.items ≡ data_bytes (data_in built.now)) }
+    ensures typed { IfOk result (λ _. AreTyped (data_in built.now)) }
 {
     let mut out = Vec::new(alloc);
     append_kinds(&mut out, built)?;
@@ -79,10 +89,13 @@ fn data_of(alloc: Global, built: &Built) -> Result<Vec<u8>, AllocError>
 
 /// Appends the decomposition data of each kind.
 fn append_kinds(out: &mut Vec<u8>, built: &Built) -> Result<(), AllocError>
-    ensures { OnOk result (out.new.items ≡ out.old.items
+    ensures bytes { OnOk result (out.new.items ≡ out.old.items
         ++ decompositions_bytes (data_in built.now).canonical
         ++ decompositions_bytes (data_in built.now).compatibility
         ++ decompositions_bytes (data_in built.now).mapper) }
+    ensures canonical { OnOk result (FitsDecompositions (data_in built.now).canonical) }
+    ensures compatibility { OnOk result (FitsDecompositions (data_in built.now).compatibility) }
+    ensures mapper { OnOk result (FitsDecompositions (data_in built.now).mapper) }
 {
     let canonical = held::<NormalizerNfdDataV1, Built>(built)?;
     append_decompositions(out, &canonical)?;
@@ -94,9 +107,11 @@ fn append_kinds(out: &mut Vec<u8>, built: &Built) -> Result<(), AllocError>
 
 /// Appends the tables of lists.
 fn append_tables(out: &mut Vec<u8>, built: &Built) -> Result<(), AllocError>
-    ensures { OnOk result (out.new.items ≡ out.old.items
+    ensures bytes { OnOk result (out.new.items ≡ out.old.items
         ++ lists_bytes (data_in built.now).tables
         ++ lists_bytes (data_in built.now).supplementary_tables) }
+    ensures typed { OnOk result (AreTypedLists (data_in built.now).tables) }
+    ensures further { OnOk result (AreTypedLists (data_in built.now).supplementary_tables) }
 {
     let tables = held::<NormalizerNfdTablesV1, Built>(built)?;
     append_lists(out, &tables)?;
@@ -106,8 +121,9 @@ fn append_tables(out: &mut Vec<u8>, built: &Built) -> Result<(), AllocError>
 
 /// Appends the composing pairs.
 fn append_compositions(out: &mut Vec<u8>, built: &Built) -> Result<(), AllocError>
-    ensures { OnOk result (out.new.items ≡ out.old.items
+    ensures bytes { OnOk result (out.new.items ≡ out.old.items
         ++ list_bytes pair_bytes (data_in built.now).compositions) }
+    ensures typed { OnOk result (All IsPair (data_in built.now).compositions) }
 {
     let compositions = held::<NormalizerNfcV1, Built>(built)?;
     let pairs = pairs_of(*out.allocator(), &compositions)?;
@@ -116,8 +132,9 @@ fn append_compositions(out: &mut Vec<u8>, built: &Built) -> Result<(), AllocErro
 
 /// Appends the supplement for single decomposition steps.
 fn append_steps(out: &mut Vec<u8>, built: &Built) -> Result<(), AllocError>
-    ensures { OnOk result (out.new.items ≡ out.old.items
+    ensures bytes { OnOk result (out.new.items ≡ out.old.items
         ++ supplement_bytes (data_in built.now).supplement) }
+    ensures typed { OnOk result (IsTypedSupplement (data_in built.now).supplement) }
 {
     let supplement = held::<NormalizerNfdSupplementV1, Built>(built)?;
     append_supplement(out, &supplement)

@@ -1,5 +1,6 @@
 //! Prepared data that were read: a provider of all markers.
-ghost use Rattle.std.specs.Prelude.{◌≡◌, Ok, Some, IfErr, IfOk};
+ghost use Rattle.std.specs.Prelude.{◌≡◌, ◌↔◌, Ok, Some, IfErr, IfOk, IsTrue};
+ghost use Rattle.normalizer_prepared.specs.Prepared.{prepared_in};
 ghost use Rattle.normalizer_tables.specs.declared.provider.DataError.TheVariants.{Memory};
 
 use normalizer_packing::Packed;
@@ -21,6 +22,15 @@ pub struct PreparedData {
 impl Drop for PreparedData {
     fn drop(self) {
         let PreparedData { packed: _packed } = self;
+    }
+}
+
+impl PreparedData {
+    /// Returns whether the mapper's data are the canonical ones. A mapper over them maps a text to its NFC.
+    pub fn has_canonical_mapper(&self) -> bool
+        ensures { IsTrue result ↔ ((prepared_in self.now).mapper ≡ (prepared_in self.now).canonical) }
+    {
+        self.packed.mapper == self.packed.canonical
     }
 }
 

@@ -1,13 +1,22 @@
 //! Tables of words, as they are read.
-ghost use Rattle.std.specs.Prelude.{◌≡◌, ◌≤◌, IfOk, MatchResult};
-ghost use Rattle.std.specs.Option.{option_map};
+ghost use Rattle.std.specs.Prelude.{◌≡◌, ◌+◌, ◌<◌, ◌≤◌, [], None, IfOk, IsTrue, MatchResult};
 ghost use Rattle.normalizer_tables.specs.Table.{code_points};
-ghost use Rattle.normalizer_prepared.specs.Reading.{decompositions_at, lists_at, runs_at, supplement_at, table_at, Fails, Gives};
+ghost use Rattle.normalizer_prepared.specs.Reading.{
+  decompositions_at,
+  lists_at,
+  next_run_at,
+  runs_at,
+  runs_from,
+  supplement_at,
+  table_at,
+  Fails,
+  Gives,
+};
 ghost use Rattle.normalizer_prepared.specs.Runs.{is_next, is_other};
-ghost use Rattle.normalizer_prepared.specs.inner.Ranges.{AreRangesOf, IsReadOf};
+ghost use Rattle.normalizer_prepared.specs.inner.Ranges.{with_ranges, IsReadOf};
 
 use crate::fault::{Fault, ReadError};
-use crate::items::list_at;
+use crate::items::{Item, list_at};
 use crate::numbers::{u16_at, u32_at};
 use crate::run::Run;
 use normalizer_tables::characters::CODE_POINTS;
@@ -15,7 +24,7 @@ use normalizer_tables::{
     CodePointTable, DecompositionData, DecompositionTables, NonRecursiveDecompositionSupplement,
     Scalars16, Scalars24, TableError,
 };
-use std::alloc::{AllocError, Global};
+use std::alloc::Global;
 
 /// A table of words.
 #[tactic(auto, using(crate::proofs::decoding::RunRanges::table_rules), unfolding(crate::specs::Reading::table_at))]
@@ -32,36 +41,53 @@ fn table_at(alloc: Global, bytes: &[u8]) -> Result<(CodePointTable, &[u8]), Read
 }
 
 /// The ranges of the runs of all code points.
-#[tactic(auto, unfolding(crate::specs::Reading::runs_at))]
+#[tactic(auto, using(crate::proofs::decoding::RunReading::read_rules), unfolding(crate::specs::Reading::runs_at))]
 fn ranges_at(alloc: Global, bytes: &[u8]) -> Result<(Vec<(u32, u32, u32)>, &[u8]), ReadError>
     ensures { MatchResult result (λ x. IsReadOf x.0.items x.1.now (runs_at bytes.now)) (λ e. Fails e (runs_at bytes.now)) }
 {
-    let (runs, rest) = list_at::<Run>(alloc, bytes)?;
-    match ranges_of(alloc, &runs)? {
-        Some(ranges) => Ok((ranges, rest)),
-        None => Err(ReadError::Wrong(Fault::Runs, bytes.len())),
-    }
+    let (count, rest) = u32_at(bytes)?;
+    let (ranges, rest) = ranges_of(alloc, count, rest)?;
+    Ok((ranges, rest))
 }
 
-/// The ranges of runs, if they are those of all code points.
-fn ranges_of(alloc: Global, runs: &[Run]) -> Result<Option<Vec<(u32, u32, u32)>>, AllocError>
-    ensures { IfOk result (λ ranges. AreRangesOf runs.now (option_map (λ v. v.items) ranges)) }
+/// The ranges of this many runs, which must be those of all code points.
+fn ranges_of(
+    alloc: Global,
+    count: u32,
+    bytes: &[u8],
+) -> Result<(Vec<(u32, u32, u32)>, &[u8]), ReadError>
+    ensures { Gives (λ x. (x.0.items, x.1.now)) result (with_ranges [] 0 (runs_from 0 None count bytes.now)) }
 {
-    let mut ranges = Vec::with_capacity(alloc, runs.len())?;
+    let mut ranges = Vec::new(alloc);
+    let mut rest = bytes;
     let mut next = 0;
     let mut before = None;
-    for run in runs {
-        if !goes_on(next, before, *run) {
-            return Ok(None);
-        }
+    for _ in 0..count {
+        let (run, after) = next_run_at(next, before, rest)?;
         ranges.push((next, next + run.count - 1, run.word))?;
         next += run.count;
         before = Some(run.word);
+        rest = after;
     }
     if next != CODE_POINTS {
-        return Ok(None);
+        return Err(ReadError::Wrong(Fault::Runs, rest.len()));
     }
-    Ok(Some(ranges))
+    Ok((ranges, rest))
+}
+
+/// A run that goes on from a code point, after a run of a word.
+#[tactic(auto, unfolding(crate::specs::Reading::next_run_at))]
+#[inline(always)]
+fn next_run_at(next: u32, before: Option<u32>, bytes: &[u8]) -> Result<(Run, &[u8]), ReadError>
+    requires { next ≤ code_points }
+    ensures run { Gives (λ x. (x.0, x.1.now)) result (next_run_at next before bytes.now) }
+    ensures within { IfOk result (λ x. (0 < x.0.count) × (next + x.0.count ≤ code_points)) }
+{
+    let (run, rest) = Run::read(bytes)?;
+    if !goes_on(next, before, run) {
+        return Err(ReadError::Wrong(Fault::Runs, bytes.len()));
+    }
+    Ok((run, rest))
 }
 
 /// Whether a run goes on from a code point, after a run of a word.
@@ -69,7 +95,8 @@ fn ranges_of(alloc: Global, runs: &[Run]) -> Result<Option<Vec<(u32, u32, u32)>>
 #[inline(always)]
 fn goes_on(next: u32, before: Option<u32>, run: Run) -> bool
     requires { next ≤ code_points }
-    ensures { result ≡ is_next next before run }
+    ensures is { result ≡ is_next next before run }
+    ensures within { IsTrue result → (0 < run.count) × (next + run.count ≤ code_points) }
 {
     0 < run.count && run.count <= CODE_POINTS - next && is_other(before, run.word)
 }

@@ -7,6 +7,7 @@ ghost use Rattle.std.specs.Prelude.{
   ◌<◌,
   ◌≤◌,
   ◌^◌,
+  All,
   IfOk,
   OnOk,
   flat_map,
@@ -16,8 +17,15 @@ ghost use Rattle.std.specs.Prelude.{
 };
 ghost use Rattle.normalizer_tables.specs.Table.{code_points};
 ghost use Rattle.normalizer_prepared.specs.Bytes.{list_bytes, number_bytes};
-ghost use Rattle.normalizer_prepared.specs.Prepared.{decompositions_bytes, lists_bytes, supplement_bytes};
+ghost use Rattle.normalizer_prepared.specs.Prepared.{
+  decompositions_bytes,
+  lists_bytes,
+  supplement_bytes,
+  FitsDecompositions,
+  FitsTable,
+};
 ghost use Rattle.normalizer_prepared.specs.Runs.{count_bytes, joined, runs, table_bytes};
+ghost use Rattle.normalizer_prepared.specs.inner.Typed.{AreTypedLists, IsTypedSupplement};
 
 use crate::items::Item;
 use crate::run::Run;
@@ -58,14 +66,17 @@ pub(crate) fn append_count(out: &mut Vec<u8>, count: u32) -> Result<(), AllocErr
 
 /// Appends how many items there are, and the items.
 pub(crate) fn append_list<T: Item>(out: &mut Vec<u8>, items: &[T]) -> Result<(), AllocError>
-    ensures { OnOk result (out.new.items ≡ out.old.items ++ list_bytes T.item_bytes items.now) }
+    ensures bytes { OnOk result (out.new.items ≡ out.old.items ++ list_bytes T.item_bytes items.now) }
+    ensures room { OnOk result (All T.fits items.now) }
 {
     append_number(out, 4, items.len())?;
     append_items(out, items)
 }
 
+#[tactic(auto, using(crate::proofs::decoding::Loops::item_rules))]
 fn append_items<T: Item>(out: &mut Vec<u8>, items: &[T]) -> Result<(), AllocError>
-    ensures { OnOk result (out.new.items ≡ out.old.items ++ flat_map T.item_bytes items.now) }
+    ensures bytes { OnOk result (out.new.items ≡ out.old.items ++ flat_map T.item_bytes items.now) }
+    ensures room { OnOk result (All T.fits items.now) }
 {
     for item in items {
         item.append(out)?;
@@ -74,11 +85,13 @@ fn append_items<T: Item>(out: &mut Vec<u8>, items: &[T]) -> Result<(), AllocErro
 }
 
 /// Appends a table of words.
-#[tactic(auto, unfolding(crate::specs::Runs::table_bytes))]
+#[tactic(auto, using(crate::proofs::decoding::FitLemmas::table_fits), unfolding(crate::specs::Runs::table_bytes, normalizer_tables::specs::Table::code_points))]
 fn append_table(out: &mut Vec<u8>, table: &CodePointTable) -> Result<(), AllocError>
-    ensures { OnOk result (out.new.items ≡ out.old.items ++ table_bytes table.now) }
+    ensures bytes { OnOk result (out.new.items ≡ out.old.items ++ table_bytes table.now) }
+    ensures fits { OnOk result (FitsTable table.now) }
 {
     let runs = runs_of(table)?;
+    word_of(table, 0);
     append_list(out, runs.as_slice())?;
     append_number(out, 4, past_of(table) as usize)
 }
@@ -143,7 +156,8 @@ pub(crate) fn append_decompositions(
     out: &mut Vec<u8>,
     decompositions: &DecompositionData,
 ) -> Result<(), AllocError>
-    ensures { OnOk result (out.new.items ≡ out.old.items ++ decompositions_bytes decompositions.now) }
+    ensures bytes { OnOk result (out.new.items ≡ out.old.items ++ decompositions_bytes decompositions.now) }
+    ensures fits { OnOk result (FitsDecompositions decompositions.now) }
 {
     append_table(out, &decompositions.table)?;
     append_number(out, 2, decompositions.passthrough_cap as usize)
@@ -155,7 +169,8 @@ pub(crate) fn append_lists(
     out: &mut Vec<u8>,
     tables: &DecompositionTables,
 ) -> Result<(), AllocError>
-    ensures { OnOk result (out.new.items ≡ out.old.items ++ lists_bytes tables.now) }
+    ensures bytes { OnOk result (out.new.items ≡ out.old.items ++ lists_bytes tables.now) }
+    ensures typed { OnOk result (AreTypedLists tables.now) }
 {
     append_list(out, tables.scalars16.as_slice())?;
     append_list(out, tables.scalars24.as_slice())
@@ -167,7 +182,8 @@ pub(crate) fn append_supplement(
     out: &mut Vec<u8>,
     supplement: &NonRecursiveDecompositionSupplement,
 ) -> Result<(), AllocError>
-    ensures { OnOk result (out.new.items ≡ out.old.items ++ supplement_bytes supplement.now) }
+    ensures bytes { OnOk result (out.new.items ≡ out.old.items ++ supplement_bytes supplement.now) }
+    ensures typed { OnOk result (IsTypedSupplement supplement.now) }
 {
     append_table(out, &supplement.table)?;
     append_list(out, supplement.scalars24.as_slice())

@@ -132,7 +132,7 @@ data_again p rest fits =
 
 -- ---- headers
 
-length_number : (width n : ℕ) → length (number_bytes width n) ≡ width
+pub length_number : (width n : ℕ) → length (number_bytes width n) ≡ width
 unfolding number_bytes
 length_number zero n = refl
 length_number (suc width) n = ap suc (length_number width (n / 256))
@@ -155,11 +155,11 @@ fixed_again : (fault : Fault) (wanted : ℕ) (rest : List ℕ) → wanted < 2 ^ 
 unfolding fixed_at
 fixed_again fault wanted rest below = rw (four.again wanted rest below, eq-eqb wanted wanted refl) refl
 
-abbrev header : ℕ → ℕ × ℕ → List ℕ
+abbrev pub header : ℕ → ℕ × ℕ → List ℕ
 header long s =
     number_bytes 4 magic ++ number_bytes 4 version ++ number_bytes 4 long ++ number_bytes 4 s.0 ++ number_bytes 4 s.1
 
-length_header : (long : ℕ) (s : ℕ × ℕ) → length (header long s) ≡ header_length
+pub length_header : (long : ℕ) (s : ℕ × ℕ) → length (header long s) ≡ header_length
 length_header long s =
     let a = length_number 4 magic in
     let b = length_number 4 version in

@@ -3,6 +3,7 @@ use Rattle.std.proofs.Common.{◌≡◌, ℕ, zero, suc, ◌+◌, ◌^◌, ◌<�
 use Rattle.std.proofs.Common.{List, [], ◌∷◌, ◌++◌, length, Result, Ok, Err, refl, sym, ap, subst, ◌∙◌, inl, inr}
 use Rattle.std.proofs.Common.{append_assoc, arith, All, replicate, get_or, ◌%◌}
 use Rattle.std.proofs.lemmas.List.{get_or_append_left, get_or-append-add, get_or-replicate, length-append, length-replicate}
+use Rattle.std.proofs.lemmas.List.Concat.{flat_map-cons}
 use Rattle.std.proofs.lemmas.List.Elements.{All-append, All-cons, All-head, All-nil, All-replicate, All-tail}
 use Rattle.std.specs.List.{flat_map}
 use Rattle.std.specs.Char.{IsScalar}
@@ -14,12 +15,14 @@ use Rattle.normalizer_tables.specs.Data.{Decompositions, Lists, Supplement}
 use Rattle.normalizer_prepared.specs.declared.fault.Fault.TheVariants.{Count, Runs, Scalar}
 use Rattle.normalizer_prepared.specs.declared.run.Run.{Run}
 use Rattle.normalizer_prepared.specs.Bytes.{number_bytes, list_bytes}
-use Rattle.normalizer_prepared.specs.Runs.{run, runs, words_of, count_bytes, run_bytes, table_bytes, are_runs, are_runs_from}
+use Rattle.normalizer_prepared.specs.Runs.{run, runs, words_of, count_bytes, run_bytes, table_bytes, are_runs, are_runs_from, is_next}
 use Rattle.normalizer_prepared.specs.Prepared.{decompositions_bytes, lists_bytes, pair_bytes, supplement_bytes}
 use Rattle.normalizer_prepared.specs.Prepared.{FitsTable, FitsDecompositions, FitsList, FitsLists, FitsSupplement, IsPair}
 use Rattle.normalizer_prepared.specs.Reading.{◌>>=◌, Read, Wrong, byte_at, number_at, list_at, scalar_at, pair_at}
+use Rattle.normalizer_prepared.specs.Reading.{next_run_at, runs_from}
 use Rattle.normalizer_prepared.specs.Reading.{long_count_at, count_at, run_at, runs_at, table_at, decompositions_at, lists_at, supplement_at}
-use Rattle.normalizer_prepared.proofs.decoding.RunLemmas.{run_goes_on, length_words, runs-are, runs-words, words-runs}
+use Rattle.normalizer_prepared.proofs.decoding.RunLemmas.{both, run_goes_on, length_words, runs-are, runs-words, words-runs}
+use Rattle.normalizer_prepared.proofs.decoding.RunReading.{after_first, are-read, next_holds}
 use Rattle.normalizer_prepared.proofs.decoding.Fields.{IsBytes, IsField, IsField-list, IsField-number, Takes, Takes-then}
 use Rattle.normalizer_prepared.proofs.decoding.Fields.{bind_ok, guard_false, guard_true, ok_is}
 
@@ -199,19 +202,63 @@ run_field = record { takes = run_takes; again = run_again }
 abbrev AreRuns : List Run → Type 0
 AreRuns rs = (are_runs rs ≡ true) × FitsList IsRun rs
 
+abbrev AreTaken : (count : ℕ) (bytes : List ℕ) → List Run × List ℕ → Type 0
+AreTaken count bytes x = Takes bytes (flat_map run_bytes x.0) x.1 × (length x.0 ≡ count) × All IsRun x.0
+
+from_takes : (n : ℕ) (before : Option ℕ) (count : ℕ) (bytes : List ℕ) (x : List Run × List ℕ) → IsBytes bytes
+    → runs_from n before count bytes ≡ Ok x → AreTaken count bytes x
+unfolding runs_from
+from_takes n before zero bytes x fits e =
+    let g = guard_true (eqb n code_points) (Runs, length bytes) ([], bytes) x e in
+    subst (λ (y : List Run × List ℕ). AreTaken 0 bytes y) g.1 (record { parts = refl; rest_fits = fits }, refl, All-nil IsRun)
+from_takes n before (suc count) bytes x fits e =
+    let a = bind_ok (next_run_at n before bytes) (after_first n count) x e in
+    let b = bind_ok (runs_from (n + a.0.0.count) (Some a.0.0.word) count a.0.1) (λ others. Ok (a.0.0 ∷ others.0, others.1)) x a.2 in
+    let first = run_takes bytes a.0 fits (next_holds n before bytes a.0 a.1).0 in
+    let others = from_takes (n + a.0.0.count) (Some a.0.0.word) count a.0.1 b.0 first.0.rest_fits b.1 in
+    let both = Takes-then bytes (run_bytes a.0.0) a.0.1 (flat_map run_bytes b.0.0) b.0.1 first.0 others.0 in
+    subst (λ (y : List Run × List ℕ). AreTaken (suc count) bytes y) (ok_is (a.0.0 ∷ b.0.0, b.0.1) x b.2)
+    (rw flat_map-cons both, ap suc others.1, All-cons IsRun a.0.0 b.0.0 first.1 others.2)
+
 runs_take : (bytes : List ℕ) (x : List Run × List ℕ) → IsBytes bytes → runs_at bytes ≡ Ok x
     → Takes bytes (list_bytes run_bytes x.0) x.1 × AreRuns x.0
 unfolding runs_at
 runs_take bytes x fits e =
-    let a = bind_ok (list_at run_at bytes) (λ rs. cond (are_runs rs.0) (Ok rs) (Err (Runs, length bytes))) x e in
-    let g = guard_true (are_runs a.0.0) (Runs, length bytes) a.0 x a.2 in
-    let t = (IsField-list run_at run_bytes IsRun run_field).takes bytes a.0 fits a.1 in
-    subst (λ (y : List Run × List ℕ). Takes bytes (list_bytes run_bytes y.0) y.1 × AreRuns y.0) g.1 (t.0, (g.0, t.1))
+    let a = bind_ok (number_at 4 bytes) (λ n. runs_from 0 None n.0 n.1) x e in
+    let count = four.takes bytes a.0 fits a.1 in
+    let items = from_takes 0 None a.0.0 a.0.1 x count.0.rest_fits a.2 in
+    let all = Takes-then bytes (number_bytes 4 a.0.0) a.0.1 (flat_map run_bytes x.0) x.1 count.0 items.0 in (
+      subst (λ (k : ℕ). Takes bytes (number_bytes 4 k ++ flat_map run_bytes x.0) x.1) (sym items.1) all,
+      (are-read 0 None a.0.0 a.0.1 x a.2, (omega (arith, items.1, count.1), items.2)),
+    )
+
+next_again : (n : ℕ) (before : Option ℕ) (r : Run) (rest : List ℕ) → IsRun r → is_next n before r ≡ true
+    → next_run_at n before (run_bytes r ++ rest) ≡ Ok (r, rest)
+unfolding next_run_at
+next_again n before r rest fits next = rw (run_again r rest fits) (ap (λ (b : Bool). cond b (Ok (r, rest)) (Err (Runs, length (run_bytes r ++ rest)))) next)
+
+from_again : (n : ℕ) (before : Option ℕ) (rs : List Run) (rest : List ℕ) → are_runs_from n before rs ≡ true → All IsRun rs
+    → runs_from n before (length rs) (flat_map run_bytes rs ++ rest) ≡ Ok (rs, rest)
+unfolding runs_from are_runs_from
+from_again n before [] rest are fits = rw are refl
+from_again n before (r ∷ rs) rest are fits =
+    let parts = both (is_next n before r) (are_runs_from (n + r.count) (Some r.word) rs) are in
+    let regrouped : flat_map run_bytes (r ∷ rs) ++ rest ≡ run_bytes r ++ (flat_map run_bytes rs ++ rest) =
+    ap (λ (t : List ℕ). t ++ rest) (flat_map-cons run_bytes r rs) ∙ append_assoc (run_bytes r) (flat_map run_bytes rs) rest in
+    ap (runs_from n before (suc (length rs))) regrouped
+    ∙ rw (
+      next_again n before r (flat_map run_bytes rs ++ rest) (All-head IsRun r rs fits) parts.0,
+      from_again (n + r.count) (Some r.word) rs rest parts.1 (All-tail IsRun r rs fits),
+    ) refl
 
 runs_again : (rs : List Run) (rest : List ℕ) → AreRuns rs → runs_at (list_bytes run_bytes rs ++ rest) ≡ Ok (rs, rest)
 unfolding runs_at
 runs_again rs rest fits =
-    rw ((IsField-list run_at run_bytes IsRun run_field).again rs rest fits.1, fits.0) refl
+    ap runs_at (append_assoc (number_bytes 4 (length rs)) (flat_map run_bytes rs) rest)
+    ∙ rw (
+      four.again (length rs) (flat_map run_bytes rs ++ rest) fits.1.0,
+      from_again 0 None rs rest fits.0 fits.1.1,
+    ) refl
 
 runs_field : IsField runs_at (list_bytes run_bytes) AreRuns
 runs_field = record { takes = runs_take; again = runs_again }
@@ -219,7 +266,7 @@ runs_field = record { takes = runs_take; again = runs_again }
 -- ---- tables
 
 module _ (P : ℕ → Type 0) where
-  words_hold : (rs : List Run) → All (λ r. P r.word) rs → All P (words_of rs)
+  pub words_hold : (rs : List Run) → All (λ r. P r.word) rs → All P (words_of rs)
   words_hold [] h = All-nil P
   words_hold (r ∷ rs) h =
       All-append P (replicate r.count r.word) (words_of rs)

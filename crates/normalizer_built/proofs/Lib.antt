@@ -1,2 +1,0 @@
-pub mod MemoryAlone
-pub mod FormsOfData

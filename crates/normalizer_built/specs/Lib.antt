@@ -1,4 +1,0 @@
-pub mod Mapping
-pub mod Normalizers
-pub mod Providers
-pub mod RecordedForms
