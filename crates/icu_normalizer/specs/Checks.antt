@@ -23,7 +23,7 @@ pub record AnswersOf {A : Type 0} (m : MadeForm) (x : List ℕ) (Is : A → Type
   pub room : HasShortRuns m.has_class_form m.reading x → IsOk result
   pub refused : IsOkUnless result Memory
 
--- true exactly if the units are well-formed and normalized
+-- true if and only if the units are well-formed and normalized
 abbrev pub ChecksForm : MadeForm → Encoding → List ℕ → Result Bool NormalizeError → Type 0
 ChecksForm m e units result =
     AnswersOf m (decoded_in e units) (λ yes. IsTrue yes ↔ IsInputNormalized e m.reading m.form units) result
@@ -54,7 +54,7 @@ pub record IsSplitAtCut (m : MadeForm) (e : Encoding) (units prefix rest : List 
 
 -- ---- a `str`, by its characters
 
--- true exactly if the text is normalized
+-- true if and only if the text is normalized
 abbrev pub ChecksText : MadeForm → List ℕ → Result Bool NormalizeError → Type 0
 ChecksText m x result = AnswersOf m x (λ yes. IsTrue yes ↔ IsNormalized m.reading m.form x) result
 

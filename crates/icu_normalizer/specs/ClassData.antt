@@ -12,7 +12,7 @@ use Rattle.normalizer_conditions.specs.Refusals.{RefusesFirstFailing}
 use Rattle.normalizer_tables.specs.Table.{word_at}
 use Rattle.normalizer_tables.specs.Words.{is_class_form}
 
--- the class that data have of a number, 0 if it is no scalar value; it doesn't depend on the tables
+-- the class that data have of a number, 0 if it isn't a scalar value; it doesn't depend on the tables
 abbrev pub combining_class : Decompositions → ℕ → ℕ
 combining_class d n = class_of (characters_from d (lists_or_none None) None) n
 

@@ -31,6 +31,7 @@ pub use Rattle.normal_forms.specs.Order
 pub use Rattle.normal_forms.specs.Reading
 pub use Rattle.normal_forms.specs.ShortRuns
 pub use Rattle.normal_forms.specs.declared.Form
+pub use Rattle.normalizer_builder.specs.AtFault
 pub use Rattle.normalizer_builder.specs.Building
 pub use Rattle.normalizer_builder.specs.Built
 pub use Rattle.normalizer_builder.specs.RecordedClasses
@@ -43,6 +44,7 @@ pub use Rattle.normalizer_packing.specs.declared.Packed
 pub use Rattle.normalizer_records.specs.Meaning
 pub use Rattle.normalizer_records.specs.RecordValue
 pub use Rattle.normalizer_records.specs.Statuses
+pub use Rattle.normalizer_records.specs.declared.at_fault.RecordAtFault
 pub use Rattle.normalizer_records.specs.declared.records.BuildError
 pub use Rattle.normalizer_records.specs.declared.records.Mappings
 pub use Rattle.normalizer_tables.specs.Characters

@@ -27,7 +27,7 @@ pub record IsEncodedFormOf (m : MadeForm) (e : Encoding) (units content : List �
   pub encoded : content ≡ encoded_form e m.reading m.form units
   pub text : IsFormOf m (decoded_in e units) (decoded_in e content)
 
--- The form of the units was returned, borrowed exactly if they are well-formed and normalized. `Memory` is the only
+-- The form of the units was returned, borrowed if and only if they are well-formed and normalized. `Memory` is the only
 -- error, and if they are, it never comes over short runs.
 pub record ReturnsForm {A : Type 0} (content : A → List ℕ) (IsBorrowed : A → Type 0) (m : MadeForm) (e : Encoding)
     (units : List ℕ) (result : Result A NormalizeError) : Type 0 where
@@ -37,7 +37,7 @@ pub record ReturnsForm {A : Type 0} (content : A → List ℕ) (IsBorrowed : A �
       → IsOk result
   pub refused : IsOkUnless result Memory
 
--- The form of a text was returned, borrowed exactly if the text is normalized. `Memory` is the only error, and if the
+-- The form of a text was returned, borrowed if the text is normalized. `Memory` is the only error, and if the
 -- text is normalized, it never comes over short runs.
 pub record ReturnsFormOfText (m : MadeForm) (x : List ℕ) (result : Result (CowStr Global) NormalizeError)
     : Type 0 where

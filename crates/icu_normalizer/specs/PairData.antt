@@ -7,6 +7,6 @@ use Rattle.normalizer_tables.specs.PairConditions.{AreSoundPairs}
 use Rattle.normalizer_tables.specs.Pairs.{Pair}
 use Rattle.normalizer_conditions.specs.Refusals.{refusal_of}
 
--- pairs that don't rise, or have a second of the Hangul arithmetic, break condition 11
+-- pairs that aren't sorted, or have a second of the Hangul arithmetic, break condition 11
 abbrev pub RefusesPairs : DataMarkerInfo → List Pair → DataError → Type 0
 RefusesPairs kind pairs e = (¬ AreSoundPairs pairs) × (e ≡ refusal_of kind PairOrder)

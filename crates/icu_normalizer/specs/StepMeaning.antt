@@ -11,7 +11,7 @@ use Rattle.normalizer_tables.specs.Steps.{step_of}
 use Rattle.normalizer_tables.specs.Readings.{reading_by}
 use Rattle.normalizer_tables.specs.declared.characters.IgnoredCharacters.TheVariants.{Dropped}
 
--- a step of n is `Default` exactly if the list of n is n alone; a singleton has the list of its part; the list of an
+-- a step of n is `Default` if the list of n is n alone; a singleton has the list of its part; the list of an
 -- expansion is the lists of its parts in canonical order
 pub record MeansInLists (s : Characters) (n : ℕ) (step : Step) : Type 0 where
   pub default : step ≡ Default ↔ (list_of s [] n ≡ n ∷ [])

@@ -73,7 +73,7 @@ impl AnyNormalizer {
     /// Returns the form of the text that bytes decode to, in UTF-8.
     ///
     /// # Errors
-    /// `Memory` if an allocation was refused.
+    /// `Memory` if an allocation failed.
     pub fn form_of(&self, alloc: Global, bytes: &[u8]) -> Result<String, NormalizeError>
         ensures form { IfOk result (λ text. string_bytes text
             ≡ encoded_form Encoding.Utf8 (reading_of self.now) (kind_by self.now) bytes.now) }
@@ -87,13 +87,13 @@ impl AnyNormalizer {
     /// Appends the form of the text that bytes decode to.
     ///
     /// # Errors
-    /// `Memory` if an allocation was refused. A beginning of the form may be appended then.
+    /// `Memory` if an allocation failed. A beginning of the form may be appended then.
     pub fn append_form(&self, bytes: &[u8], text: &mut String) -> Result<(), NormalizeError>
         ensures form { OnOk result (string_bytes text.new ≡ string_bytes text.old
             ++ encoded_form Encoding.Utf8 (reading_of self.now) (kind_by self.now) bytes.now) }
         ensures refused { IsOkUnless result NormalizeError.Memory }
     {
-        // (A text in memory refuses a write only if an allocation is refused.)
+        // (A text in memory refuses a write only if an allocation fails.)
         match self.as_borrowed().normalize_utf8_to(bytes, text) {
             Ok(()) => Ok(()),
             Err(_) => Err(NormalizeError::Memory),
@@ -103,7 +103,7 @@ impl AnyNormalizer {
     /// Returns whether bytes are well-formed and already normalized.
     ///
     /// # Errors
-    /// `Memory` if an allocation was refused. None is made unless more than 17 characters are buffered at a time.
+    /// `Memory` if an allocation failed. None is made unless more than 17 characters are buffered at a time.
     pub fn is_normalized(&self, bytes: &[u8]) -> Result<bool, NormalizeError>
         ensures normalized { IfOk result (λ normalized. IsTrue normalized
             ↔ IsInputNormalized Encoding.Utf8 (reading_of self.now) (kind_by self.now) bytes.now) }
@@ -116,7 +116,7 @@ impl AnyNormalizer {
     /// Returns the first place at which the bytes are ill-formed or not normalized.
     ///
     /// # Errors
-    /// `Memory` if an allocation was refused. None is made unless more than 17 characters are buffered at a time.
+    /// `Memory` if an allocation failed. None is made unless more than 17 characters are buffered at a time.
     pub fn first_offence(&self, bytes: &[u8]) -> Result<Option<Offence>, NormalizeError>
         ensures offence { IfOk result (λ offence.
             IsInputOffenceOf Encoding.Utf8 (reading_of self.now) (kind_by self.now) bytes.now offence) }
@@ -332,7 +332,7 @@ impl<'a> AnyNormalizerBorrowed<'a> {
     /// Returns the form of the text that an iterator yields.
     ///
     /// # Errors
-    /// `Memory` if an allocation was refused.
+    /// `Memory` if an allocation failed.
     #[tactic(auto, unfolding(normal_forms::specs::Forms::normal_form))]
     pub fn form_of_characters<I: Iterator<Item = char> + Drop>(
         &self,

@@ -21,7 +21,7 @@ use normalizer_tables::DataError;
 /// Returns the normalizer to a form over built data. It makes the form that the records mean.
 ///
 /// # Errors
-/// `Memory` if an allocation was refused.
+/// `Memory` if an allocation failed.
 ///
 /// # Examples
 /// ```rust
@@ -60,7 +60,7 @@ fn want_of_memory(error: DataError) -> NormalizeError
 /// Returns the mapper over built data. It maps and validates as the records mean.
 ///
 /// # Errors
-/// `Memory` if an allocation was refused.
+/// `Memory` if an allocation failed.
 pub fn built_mapper(built: &Built) -> Result<Uts46Mapper, DataError>
     requires { AreBuilt (data_in built.now) }
     ensures held { IfOk result (λ m. mapper_data_of m ≡

@@ -27,7 +27,7 @@ impl<F: Forming> NormalizerBorrowed<F> {
     /// Returns whether `text` is already in its normal form. There is no 'maybe'.
     ///
     /// # Errors
-    /// `Memory` if an allocation was refused. None is made unless more than 17 characters are buffered at a time.
+    /// `Memory` if an allocation failed. None is made unless more than 17 characters are buffered at a time.
     ///
     /// # Examples
     /// ```rust
@@ -43,7 +43,7 @@ impl<F: Forming> NormalizerBorrowed<F> {
     /// Returns whether `bytes` are well-formed UTF-8 that is already in its normal form.
     ///
     /// # Errors
-    /// `Memory` if an allocation was refused. None is made unless more than 17 characters are buffered at a time.
+    /// `Memory` if an allocation failed. None is made unless more than 17 characters are buffered at a time.
     pub fn is_normalized_utf8(&self, bytes: &[u8]) -> Result<bool, NormalizeError>
         ensures { ChecksForm (F.made_form self.now.form) Encoding.Utf8 bytes.now result }
     {
@@ -53,7 +53,7 @@ impl<F: Forming> NormalizerBorrowed<F> {
     /// Returns whether 16-bit units are well-formed UTF-16 that is already in its normal form.
     ///
     /// # Errors
-    /// `Memory` if an allocation was refused. None is made unless more than 17 characters are buffered at a time.
+    /// `Memory` if an allocation failed. None is made unless more than 17 characters are buffered at a time.
     pub fn is_normalized_utf16(&self, units: &[u16]) -> Result<bool, NormalizeError>
         ensures { ChecksForm (F.made_form self.now.form) Encoding.Utf16 units.now result }
     {
@@ -66,7 +66,7 @@ impl<F: Forming> NormalizerBorrowed<F> {
     /// Appending to `text` never removes the mismatch, and never moves it to a later offset.
     ///
     /// # Errors
-    /// `Memory` if an allocation was refused. None is made unless more than 17 characters are buffered at a time.
+    /// `Memory` if an allocation failed. None is made unless more than 17 characters are buffered at a time.
     ///
     /// # Examples
     /// ```rust
@@ -87,7 +87,7 @@ impl<F: Forming> NormalizerBorrowed<F> {
     /// Appending to well-formed bytes never removes the mismatch, and never moves it to a later offset.
     ///
     /// # Errors
-    /// `Memory` if an allocation was refused. None is made unless more than 17 characters are buffered at a time.
+    /// `Memory` if an allocation failed. None is made unless more than 17 characters are buffered at a time.
     pub fn first_offence_utf8(&self, bytes: &[u8]) -> Result<Option<Offence>, NormalizeError>
         ensures { FindsOffence (F.made_form self.now.form) Encoding.Utf8 bytes.now result }
     {
@@ -101,7 +101,7 @@ impl<F: Forming> NormalizerBorrowed<F> {
     /// Appending to well-formed units never removes the mismatch, and never moves it to a later offset.
     ///
     /// # Errors
-    /// `Memory` if an allocation was refused. None is made unless more than 17 characters are buffered at a time.
+    /// `Memory` if an allocation failed. None is made unless more than 17 characters are buffered at a time.
     pub fn first_offence_utf16(&self, units: &[u16]) -> Result<Option<Offence>, NormalizeError>
         ensures { FindsOffence (F.made_form self.now.form) Encoding.Utf16 units.now result }
     {

@@ -50,7 +50,7 @@ impl CanonicalCombiningClassMap {
     /// # Errors
     /// - `Provider` if the provider holds nothing for the marker.
     /// - `Invalid`, with the lowest-numbered condition that fails, if the data break one (`docs/CONDITIONS.md`).
-    /// - `Memory` if a load was refused memory.
+    /// - `Memory` if a load ran out of memory.
     ///
     /// # Examples
     /// ```rust
@@ -108,7 +108,7 @@ impl<'a> CanonicalCombiningClassMapBorrowed<'a> {
         CanonicalCombiningClass(self.get_u8(character))
     }
 
-    /// Returns the class of a code point: 0 for a number that is no scalar value.
+    /// Returns the class of a code point: 0 for a number that isn't a scalar value.
     pub fn get32(&self, number: u32) -> CanonicalCombiningClass
         ensures { result.0 ≡ combining_class (classes_of_borrowed self.now) number }
     {
@@ -122,7 +122,7 @@ impl<'a> CanonicalCombiningClassMapBorrowed<'a> {
         self.get32_u8(character as u32)
     }
 
-    /// Returns the class of a code point, as a number: 0 for a number that is no scalar value.
+    /// Returns the class of a code point, as a number: 0 for a number that isn't a scalar value.
     pub fn get32_u8(&self, number: u32) -> u8
         ensures { result ≡ combining_class (classes_of_borrowed self.now) number }
     {

@@ -41,7 +41,7 @@ impl ComposingNormalizer {
     ///   first.
     /// - `FutureExtension` if the tables have more items than the limit.
     /// - `Invalid`, with the lowest-numbered condition that fails, if the data break one (`docs/CONDITIONS.md`).
-    /// - `Memory` if a load was refused memory. The check itself takes none.
+    /// - `Memory` if a load ran out of memory. The check itself takes none.
     ///
     /// # Examples
     /// ```rust
@@ -76,7 +76,7 @@ impl ComposingNormalizer {
     ///   first.
     /// - `FutureExtension` if the tables have more items than the limit.
     /// - `Invalid`, with the lowest-numbered condition that fails, if the data break one (`docs/CONDITIONS.md`).
-    /// - `Memory` if a load was refused memory. The check itself takes none.
+    /// - `Memory` if a load ran out of memory. The check itself takes none.
     pub fn try_new_nfkc_unstable<P>(provider: &P) -> Result<Self, DataError>
     where
         P: DataProvider<NormalizerNfkdDataV1>

@@ -28,7 +28,7 @@ impl CanonicalComposition {
     /// # Errors
     /// - `Provider` if the provider holds nothing for the marker.
     /// - `Invalid`, with the lowest-numbered condition that fails, if the data break one (`docs/CONDITIONS.md`).
-    /// - `Memory` if a load was refused memory.
+    /// - `Memory` if a load ran out of memory.
     ///
     /// # Examples
     /// ```rust

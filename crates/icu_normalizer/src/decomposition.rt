@@ -39,7 +39,7 @@ impl CanonicalDecomposition {
     /// # Errors
     /// - `Provider` if the provider holds nothing for one of the markers; the data are loaded first.
     /// - `Invalid`, with the lowest-numbered condition that fails, if the data break one (`docs/CONDITIONS.md`).
-    /// - `Memory` if a load was refused memory.
+    /// - `Memory` if a load ran out of memory.
     /// - `FutureExtension` if the tables have more items than the limit.
     ///
     /// # Examples

@@ -76,7 +76,7 @@ pub trait Forming {
     fn begins(&self, character: char) -> bool
         ensures { result ≡ beginning self.now character };
 
-    /// Returns the segment in front of the units, if it is seen to be well-formed and normalized, or to become one
+    /// Returns the segment in beginning of the units, if it is seen to be well-formed and normalized, or to become one
     /// character, while it is read.
     fn seen_segment<U: Units>(&self, units: U) -> Option<SeenSegment>
         requires { 0 < length (U.units units) }

@@ -31,7 +31,7 @@ pub trait FormData {
     /// Returns the normalizer to a form, over what is held.
     ///
     /// # Errors
-    /// Which data are missing or break a condition, or `Memory` if an allocation was refused.
+    /// Which data are missing or break a condition, or `Memory` if an allocation failed.
     fn normalizer(&self, form: NormalForm) -> Result<AnyNormalizer, DataError>
         ensures made { IfOk result (λ n. IsMadeOf form (held_for_forms self.now) (made_by n)) }
         ensures errors { IfErr result (λ e. (e ≡ DataError.Memory) ⊎ RefusesForm form (held_for_forms self.now) e) };
@@ -45,7 +45,7 @@ pub trait MappingData {
     /// Returns the mapper over what is held.
     ///
     /// # Errors
-    /// Which data are missing or break a condition, or `Memory` if an allocation was refused.
+    /// Which data are missing or break a condition, or `Memory` if an allocation failed.
     fn mapper(&self) -> Result<Uts46Mapper, DataError>
         ensures data { IfOk result (λ m. AcceptsHeld SuitsComposing (held_for_mapper self.now) (mapper_data_of m)) }
         ensures errors { IfErr result (λ e. (e ≡ DataError.Memory) ⊎ RefusesMapper (held_for_mapper self.now) e) };

@@ -134,7 +134,7 @@ fn joined_segment<U: Units>(
     })
 }
 
-/// Returns the starter of a step, if that is no error and the starter composes to itself.
+/// Returns the starter of a step, if that isn't an error and the starter composes to itself.
 #[inline(always)]
 fn kept_starter(form: &ComposingForm<'_>, step: Step) -> Option<KeptStarter>
     ensures { IfSome result

@@ -73,7 +73,7 @@ pub use normalizer_conditions::check_nfd_data;
 pub use normalizer_iterators::{
     Composition, Decomposition, NormalizeError, collected, laws as iterator_laws,
 };
-pub use normalizer_records::{BuildError, Record, Uts46Record, Uts46Status};
+pub use normalizer_records::{BuildError, Record, RecordAtFault, Uts46Record, Uts46Status};
 pub use normalizer_tables::characters::IgnoredCharacters;
 pub use normalizer_tables::{
     CanonicalCompositions, CodePointTable, DataError, DataMarker, DataMarkerInfo, DataProvider,

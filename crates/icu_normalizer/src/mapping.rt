@@ -15,7 +15,7 @@ use std::alloc::Global;
 /// to validate it.
 ///
 /// # Errors
-/// `Memory` if an allocation was refused.
+/// `Memory` if an allocation failed.
 pub fn mapped<I: Iterator<Item = char> + Drop>(
     alloc: Global,
     mapper: &Uts46MapperBorrowed<'_>,
@@ -37,7 +37,7 @@ pub fn mapped<I: Iterator<Item = char> + Drop>(
 /// Returns whether validation leaves a text as it is, and the text has no U+FFFD.
 ///
 /// # Errors
-/// `Memory` if an allocation was refused.
+/// `Memory` if an allocation failed.
 pub fn is_valid(
     alloc: Global,
     mapper: &Uts46MapperBorrowed<'_>,

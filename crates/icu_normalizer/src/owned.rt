@@ -121,7 +121,7 @@ fn write_from_place<U: Units, N: Forming, O: Growing<U>>(
     write_changed(normalizer, units.after(place), None, output)
 }
 
-/// Writes the form of the units, unless they are well-formed and normalized. A refused write is reported as `Memory`.
+/// Writes the form of the units, unless they are well-formed and normalized. A failed write is reported as `Memory`.
 fn write_unless_own<U: Expected, N: Forming, O: Growing<U>>(
     normalizer: &N,
     units: U,
@@ -191,11 +191,11 @@ fn form_of_utf16<'t, N: Forming>(
 }
 
 impl<F: Forming> NormalizerBorrowed<F> {
-    /// Returns the normal form of `text`. It borrows from `text` exactly if `text` is already normalized. Exactly
+    /// Returns the normal form of `text`. It borrows from `text` if and only if `text` is already normalized. Exactly
     /// the texts equivalent to `text` have this form.
     ///
     /// # Errors
-    /// `Memory` if an allocation was refused. If `text` is normalized and at most 17 characters are buffered at a
+    /// `Memory` if an allocation failed. If `text` is normalized and at most 17 characters are buffered at a
     /// time, none is made.
     ///
     /// # Examples
@@ -209,11 +209,11 @@ impl<F: Forming> NormalizerBorrowed<F> {
         form_of_utf8(&self.form, text)
     }
 
-    /// Returns the normal form of what `bytes` decode to, in UTF-8. It borrows from `bytes` exactly if they are
+    /// Returns the normal form of what `bytes` decode to, in UTF-8. It borrows from `bytes` if and only if they are
     /// well-formed and already normalized. Each maximal ill-formed subpart reads as U+FFFD.
     ///
     /// # Errors
-    /// `Memory` if an allocation was refused. If `bytes` are normalized and at most 17 characters are buffered at a
+    /// `Memory` if an allocation failed. If `bytes` are normalized and at most 17 characters are buffered at a
     /// time, none is made.
     pub fn normalize_utf8<'t>(&self, bytes: &'t [u8]) -> Result<CowStr<'t, Global>, NormalizeError>
         ensures { ReturnsForm cow_str_bytes IsBorrowedStr (F.made_form self.now.form) Encoding.Utf8 bytes.now result }
@@ -221,11 +221,11 @@ impl<F: Forming> NormalizerBorrowed<F> {
         form_of_bytes(&self.form, bytes)
     }
 
-    /// Returns the normal form of what 16-bit units decode to, in UTF-16. It borrows from `units` exactly if they
+    /// Returns the normal form of what 16-bit units decode to, in UTF-16. It borrows from `units` if and only if they
     /// are well-formed and already normalized. Each unpaired surrogate reads as U+FFFD.
     ///
     /// # Errors
-    /// `Memory` if an allocation was refused. If `units` are normalized and at most 17 characters are buffered at a
+    /// `Memory` if an allocation failed. If `units` are normalized and at most 17 characters are buffered at a
     /// time, none is made.
     pub fn normalize_utf16<'t>(
         &self,

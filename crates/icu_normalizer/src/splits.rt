@@ -1,4 +1,4 @@
-//! Text, bytes and 16-bit units in two parts: the longest front that the form leaves as it is, and the
+//! Text, bytes and 16-bit units in two parts: the longest prefix that the form leaves as it is, and the
 //! rest.
 ghost use Rattle.std.specs.Prelude.{chars};
 ghost use Rattle.normalizer_text.specs.Encodings.{Encoding, decoded_in};
@@ -47,7 +47,7 @@ impl<F: Forming> NormalizerBorrowed<F> {
     /// normalized.
     ///
     /// # Errors
-    /// `Memory` if an allocation was refused. None is made unless more than 17 characters are buffered at a time.
+    /// `Memory` if an allocation failed. None is made unless more than 17 characters are buffered at a time.
     ///
     /// # Examples
     /// ```rust
@@ -63,10 +63,10 @@ impl<F: Forming> NormalizerBorrowed<F> {
     }
 
     /// Splits `bytes` so that the first part is well-formed and their form is the first part followed by the form of
-    /// the second, as late as possible. The second part is empty exactly if `bytes` are normalized.
+    /// the second, as late as possible. The second part is empty if and only if `bytes` are normalized.
     ///
     /// # Errors
-    /// `Memory` if an allocation was refused. None is made unless more than 17 characters are buffered at a time.
+    /// `Memory` if an allocation failed. None is made unless more than 17 characters are buffered at a time.
     pub fn split_normalized_utf8<'t>(
         &self,
         bytes: &'t [u8],
@@ -79,10 +79,10 @@ impl<F: Forming> NormalizerBorrowed<F> {
     }
 
     /// Splits 16-bit units so that the first part is well-formed and their form is the first part followed by the form
-    /// of the second, as late as possible. The second part is empty exactly if the units are normalized.
+    /// of the second, as late as possible. The second part is empty if and only if the units are normalized.
     ///
     /// # Errors
-    /// `Memory` if an allocation was refused. None is made unless more than 17 characters are buffered at a time.
+    /// `Memory` if an allocation failed. None is made unless more than 17 characters are buffered at a time.
     pub fn split_normalized_utf16<'t>(
         &self,
         units: &'t [u16],

@@ -16,7 +16,7 @@ impl<F: Forming> NormalizerBorrowed<F> {
     ///
     /// # Errors
     /// - `Sink` if the sink refused a call.
-    /// - `Memory` if an allocation was refused. None is made unless more than 17 characters are buffered at a time.
+    /// - `Memory` if an allocation failed. None is made unless more than 17 characters are buffered at a time.
     ///
     /// After either, a beginning of the form was written, if refused calls of the sink take nothing. The normalizer is
     /// unchanged.
@@ -39,7 +39,7 @@ impl<F: Forming> NormalizerBorrowed<F> {
     ///
     /// # Errors
     /// - `Sink` if the sink refused a call.
-    /// - `Memory` if an allocation was refused. None is made unless more than 17 characters are buffered at a time.
+    /// - `Memory` if an allocation failed. None is made unless more than 17 characters are buffered at a time.
     ///
     /// After either, a beginning of the form was written, if refused calls of the sink take nothing. The normalizer is
     /// unchanged.
@@ -66,7 +66,7 @@ impl<F: Forming> NormalizerBorrowed<F> {
     ///
     /// # Errors
     /// - `Sink` if the sink refused a call.
-    /// - `Memory` if an allocation was refused. None is made unless more than 17 characters are buffered at a time.
+    /// - `Memory` if an allocation failed. None is made unless more than 17 characters are buffered at a time.
     ///
     /// After either, a beginning of the form was written, if refused calls of the sink take nothing. The normalizer is
     /// unchanged.

@@ -46,7 +46,7 @@ impl Uts46Mapper {
     ///   first.
     /// - `FutureExtension` if the tables have more items than the limit.
     /// - `Invalid`, with the lowest-numbered condition that fails, if the data break one (`docs/CONDITIONS.md`).
-    /// - `Memory` if a load was refused memory. The check itself takes none.
+    /// - `Memory` if a load ran out of memory. The check itself takes none.
     pub fn try_new<P>(provider: &P) -> Result<Self, DataError>
     where
         P: DataProvider<NormalizerUts46DataV1>

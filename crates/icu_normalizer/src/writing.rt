@@ -185,7 +185,7 @@ fn write_run<U: Units, N: Forming, O: Output<U>>(
     Ok(kept)
 }
 
-/// Returns the segment in front of the units: the one that was seen, or else up to its end.
+/// Returns the segment in beginning of the units: the one that was seen, or else up to its end.
 #[inline(always)]
 fn segment_ahead<U: Units, N: Forming>(
     normalizer: &N,
@@ -211,7 +211,7 @@ fn segment_ahead<U: Units, N: Forming>(
     }
 }
 
-/// Writes the form of the segment at the front of the units, and returns that.
+/// Writes the form of the segment at the beginning of the units, and returns that.
 #[inline(always)]
 fn write_front_segment<U: Units, N: Forming, O: Output<U>>(
     normalizer: &N,

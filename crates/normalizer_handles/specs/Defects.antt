@@ -4,8 +4,8 @@ use Rattle.icu_normalizer.specs.BuildError.{BuildError}
 use Rattle.icu_normalizer.specs.BuildError.TheVariants as errors
 use Rattle.normalizer_prepared.specs.declared.fault.Fault.{Fault as FileFault}
 use Rattle.normalizer_prepared.specs.declared.fault.Fault.TheVariants as file_fault
-use Rattle.normalizer_records.specs.declared.at_fault.RecordAtFault.{RecordAtFault}
-use Rattle.normalizer_records.specs.declared.at_fault.RecordAtFault.TheVariants.{OfCharacter, OfMapper}
+use Rattle.icu_normalizer.specs.RecordAtFault.{RecordAtFault}
+use Rattle.icu_normalizer.specs.RecordAtFault.TheVariants.{OfCharacter, OfMapper}
 use Rattle.normalizer_ucd.specs.declared.error.Problem.{Problem}
 use Rattle.normalizer_ucd.specs.declared.error.Problem.TheVariants as problems
 use Rattle.normalizer_ucd.specs.declared.error.UcdFile.{UcdFile}

@@ -4,9 +4,9 @@ use Rattle.std.specs.Option.{option_and_then, option_map}
 use Rattle.icu_normalizer.specs.BuildError.TheVariants as errors
 use Rattle.icu_normalizer.specs.Building.{IsSmallest}
 use Rattle.icu_normalizer.specs.RecordValue.{RecordValue, Uts46RecordValue}
-use Rattle.normalizer_builder.specs.AtFault.{IsFirstAtFault}
-use Rattle.normalizer_records.specs.declared.at_fault.RecordAtFault.{RecordAtFault}
-use Rattle.normalizer_records.specs.declared.at_fault.RecordAtFault.TheVariants.{OfCharacter, OfMapper}
+use Rattle.icu_normalizer.specs.AtFault.{IsFirstAtFault}
+use Rattle.icu_normalizer.specs.RecordAtFault.{RecordAtFault}
+use Rattle.icu_normalizer.specs.RecordAtFault.TheVariants.{OfCharacter, OfMapper}
 use Rattle.normalizer_ucd.specs.declared.error.LineFault.{LineFault}
 use Rattle.normalizer_ucd.specs.declared.idna_table.Disallowed.TheVariants.{RangesUpTo}
 use Rattle.normalizer_ucd.specs.IdnaTable.{uts46_records_beside}

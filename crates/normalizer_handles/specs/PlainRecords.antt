@@ -2,7 +2,7 @@
 use Rattle.std.specs.Prelude.{ℕ, ◌-◌, ◌==◌, nat_lt, Bool, true, not, ◌||◌, List, [], length, take, drop, map}
 use Rattle.std.specs.Prelude.{position, Option, Some, None, Result, Ok, Err, unwrap_or, if◌then◌else◌}
 use Rattle.std.specs.List.{list_all}
-use Rattle.normalizer_records.specs.RecordValue.{RecordValue, Uts46RecordValue, Status, MapsTo, IsIgnored, IsDisallowed}
+use Rattle.icu_normalizer.specs.RecordValue.{RecordValue, Uts46RecordValue, Status, MapsTo, IsIgnored, IsDisallowed}
 use Rattle.normalizer_ucd.specs.Fields.{is_scalar_value}
 use Rattle.normalizer_handles.specs.declared.fault.Fault.{Fault}
 use Rattle.normalizer_handles.specs.declared.fault.Fault.TheVariants.{Record, MapperRecord}

@@ -15,9 +15,8 @@ ghost use Rattle.normalizer_handles.specs.Defects.{
 ghost use Rattle.normalizer_handles.specs.Status.{status_of};
 
 use crate::fault::{Fault, RecordPlace, RecordsFault, status};
-use icu_normalizer::BuildError;
+use icu_normalizer::{BuildError, RecordAtFault};
 use normalizer_prepared::Fault as FileFault;
-use normalizer_records::RecordAtFault;
 use normalizer_ucd::{Problem, UcdFile};
 
 /// Where data are wrong, and what is wrong there.

@@ -2,9 +2,8 @@
 ghost use Rattle.std.specs.Prelude.{◌≡◌};
 ghost use Rattle.normalizer_handles.specs.Status.{fault_of_data, fault_of_file, fault_of_prepared, number_of, status_of};
 
-use icu_normalizer::{BuildError, DataError, NormalizeError};
+use icu_normalizer::{BuildError, DataError, NormalizeError, RecordAtFault};
 use normalizer_prepared::{Fault as FileFault, PreparedError};
-use normalizer_records::RecordAtFault;
 use normalizer_ucd::{LineFault, Place, UcdError};
 use std::alloc::{AllocError, AllocFailed};
 

@@ -4,7 +4,7 @@ ghost use Rattle.std.specs.Option.{option_and_then};
 ghost use Rattle.icu_normalizer.specs.Building.{Builds, IsSmallest};
 ghost use Rattle.icu_normalizer.specs.Packed.{Packed};
 ghost use Rattle.icu_normalizer.specs.RecordValue.{RecordValue, Uts46RecordValue};
-ghost use Rattle.normalizer_builder.specs.AtFault.{IsFirstAtFault};
+ghost use Rattle.icu_normalizer.specs.AtFault.{IsFirstAtFault};
 ghost use Rattle.normalizer_handles.specs.Handles.{held_normalizers};
 ghost use Rattle.normalizer_handles.specs.Made.{AreReadBy, MakeBy, MapBy};
 ghost use Rattle.normalizer_handles.specs.Opening.{

@@ -16,7 +16,7 @@ ghost use Rattle.normalizer_handles.specs.PlainRecords.{
   status_in,
 };
 ghost use Rattle.normalizer_handles.specs.Opening.{Reads};
-ghost use Rattle.normalizer_records.specs.Statuses.{status_of};
+ghost use Rattle.icu_normalizer.specs.Statuses.{status_of};
 
 use crate::fault::Fault;
 use icu_normalizer::{Record, Uts46Record, Uts46Status};

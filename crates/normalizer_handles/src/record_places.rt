@@ -3,8 +3,7 @@ ghost use Rattle.std.specs.Prelude.{◌≡◌, ◌==◌, position};
 ghost use Rattle.normalizer_handles.specs.Opening.{indices_in, lines_of};
 
 use crate::fault::RecordPlace;
-use icu_normalizer::{Record, Uts46Record};
-use normalizer_records::RecordAtFault;
+use icu_normalizer::{Record, RecordAtFault, Uts46Record};
 use normalizer_ucd::place_of_record;
 use std::alloc::{AllocError, Global};
 

@@ -20,7 +20,7 @@ pub record IsKeptCharacter (d : Reading) (c : ℕ) (r : KeptStarter) : Type 0 wh
   pub stable : IsStableStarter d c r.last
   pub base : IfSome r.base (HasBase d c r.last)
 
--- the step is no error, and its character is such a starter
+-- the step isn't an error, and its character is such a starter
 pub record IsKeptStarter (d : Reading) (s : Step) (r : KeptStarter) : Type 0 where
   pub right : s.is_error ≡ false
   pub kept : IsKeptCharacter d s.character r

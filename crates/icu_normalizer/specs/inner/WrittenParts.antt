@@ -33,7 +33,7 @@ module _ {S U : Type 0} (e : Encoding) (into : Target S U) where
     pub known : into.refuses before (encoded_in e piece)
     pub leaves : into.refusal_effect before new
 
-  -- a text was written, or the output refused a piece, or memory was refused
+  -- a text was written, or the output refused a piece, or memory ran out
   pub record WritesText (offered : List ℕ → List ℕ → Type 0) (text : List ℕ) (old : S)
       (result : Result ⊤ NormalizeError) (new : S) : Type 0 where
     pub written : OnOk result (into.text_taken new ≡ into.text_taken old ++ encoded_in e text)
@@ -42,7 +42,7 @@ module _ {S U : Type 0} (e : Encoding) (into : Target S U) where
     pub refusal : IsErrOf result Sink → WasRefusedPiece offered text old new
     pub begun : IsErrOf result Memory → TookBeginning e into.text_taken text old new
 
-  -- the form of the units was written, or the output refused a piece of them or of it, or memory was refused
+  -- the form of the units was written, or the output refused a piece of them or of it, or memory ran out
   abbrev pub WritesUnits : MadeForm → List ℕ → S → Result ⊤ NormalizeError → S → Type 0
   WritesUnits m units = WritesText (StandsInInput e m.reading m.form units) (form_in m e units)
 
