@@ -1,6 +1,6 @@
-//! `nfc 0061 0308 = 00E4`: the form of an input. `is nfc 0061 0308 = no`: whether it is normalized. `split nfc 00E4
-//! 0308 = 00E4 | 0308`: its two parts. `offence nfd 0061 1EC7 = 1 1EC7 0065`: the first mismatch: its place in bytes or
-//! 16-bit units, the character found, the one expected; else `none`. `owned nfc 0308 0061 = borrowed 0308 0061`: the
+//! `nfc 0061 0308 = 00E4`: the form of an input. `is nfc 0061 0308 = no`: whether it is normalized. `split nfc 00E4 0061
+//! 0308 = 00E4 | 0061 0308`: its two parts. `offence nfd 0061 1EC7 = 1 1EC7 0065`: the first mismatch: its place in bytes
+//! or 16-bit units, the character found, the one expected; else `none`. `owned nfc 0308 0061 = borrowed 0308 0061`: the
 //! form as it is returned. Each makes all calls, which must agree, and characters are checked in all three encodings.
 use crate::encoded::{Results, results_of_input};
 use icu_normalizer::{AnyNormalizer, Offence};
