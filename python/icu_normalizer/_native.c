@@ -41,19 +41,36 @@ static PyObject *failed_to_open(icu_normalizer_status status, const icu_normaliz
     if (status == ICU_NORMALIZER_WRONG_LINE && defect->source < 3)
         return PyErr_Format(PyExc_ValueError, "%s:%zu: %s", files[defect->source], defect->place,
             icu_normalizer_reason_text(defect->reason));
+    if (status == ICU_NORMALIZER_WRONG_RECORDS && defect->source < 3)
+        return PyErr_Format(PyExc_ValueError, "%s:%zu: U+%04X: %s", files[defect->source], defect->place,
+            (unsigned)defect->character, icu_normalizer_reason_text(defect->reason));
     if (status == ICU_NORMALIZER_WRONG_RECORDS)
-        return PyErr_Format(PyExc_ValueError, "%s: %s (%zu)", icu_normalizer_status_text(status),
-            icu_normalizer_reason_text(defect->reason), defect->place);
+        return PyErr_Format(PyExc_ValueError, "%s: %s", icu_normalizer_status_text(status),
+            icu_normalizer_reason_text(defect->reason));
+    if (status == ICU_NORMALIZER_WRONG_PREPARED && defect->condition)
+        return PyErr_Format(PyExc_ValueError, "%s: condition %u", icu_normalizer_reason_text(defect->reason),
+            (unsigned)defect->condition);
+    if (status == ICU_NORMALIZER_WRONG_PREPARED)
+        return PyErr_Format(PyExc_ValueError, "%s at byte %zu", icu_normalizer_reason_text(defect->reason),
+            defect->place);
     return failed(status);
 }
 
-static bool opened(Normalizer *self) {
-    PyObject *data = PyObject_CallNoArgs(self->read);
-    if (!data) return false;
+/* By the bytes of a file of prepared data. */
+static bool opened_prepared(Normalizer *self, PyObject *data) {
+    icu_normalizer_defect defect = {0};
+    icu_normalizer_status status = icu_normalizer_open_prepared(&self->handle,
+        (const uint8_t *)PyBytes_AS_STRING(data), (size_t)PyBytes_GET_SIZE(data), &defect);
+    if (status) failed_to_open(status, &defect);
+    return !status;
+}
+
+/* By the bytes of three files, and the limit of disallowed ranges. */
+static bool opened_files(Normalizer *self, PyObject *data) {
     const char *unicode_data, *exclusions, *table;
     Py_ssize_t unicode_data_length, exclusions_length, table_length;
     unsigned int limit;
-    icu_normalizer_defect defect = {0, 0, 0};
+    icu_normalizer_defect defect = {0};
     icu_normalizer_status status = ICU_NORMALIZER_NOT_OPEN;
     bool is_read = PyArg_ParseTuple(data, "y#y#y#I", &unicode_data, &unicode_data_length, &exclusions,
         &exclusions_length, &table, &table_length, &limit);
@@ -63,8 +80,15 @@ static bool opened(Normalizer *self) {
             &defect);
         if (status) failed_to_open(status, &defect);
     }
-    Py_DECREF(data);
     return is_read && !status;
+}
+
+static bool opened(Normalizer *self) {
+    PyObject *data = PyObject_CallNoArgs(self->read);
+    if (!data) return false;
+    bool is = PyBytes_Check(data) ? opened_prepared(self, data) : opened_files(self, data);
+    Py_DECREF(data);
+    return is;
 }
 
 static inline bool is_open(Normalizer *self) {

@@ -76,6 +76,13 @@ def mapping():
     small = icu_normalizer.Normalizer(pathlib.Path(__file__).parents[2] / "crates/uninorm/data")
     assert small.map("A\u0308\u00AD\u0323") == "\u1EA1\u0308"
     assert small.map("A\u0308\u00AD\u0323".encode()) == "\u1EA1\u0308".encode()
+    prepared = pathlib.Path(__file__).parents[2] / "crates/icu_normalizer_c/examples/tests/small.prepared"
+    assert icu_normalizer.Normalizer(prepared=prepared).map("A\u0308\u00AD\u0323") == "\u1EA1\u0308"
+    with tempfile.NamedTemporaryFile() as file:
+        file.write(prepared.read_bytes()[:-1])
+        file.flush()
+        wrong = icu_normalizer.Normalizer(prepared=file.name)
+        assert "at byte 8" in str(refused(ValueError, wrong.normalize, "NFC", "a"))
     assert small.share().validate("\u1EA1") == "\u1EA1" and small.validate("\u00AD") == "\uFFFD"
 
 

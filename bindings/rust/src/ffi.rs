@@ -23,6 +23,8 @@ pub struct Defect {
     pub place: usize,
     pub source: u32,
     pub reason: u32,
+    pub character: u32,
+    pub condition: u32,
 }
 
 pub const OK: u32 = 0;
@@ -31,6 +33,7 @@ pub const OUT_OF_MEMORY: u32 = 2;
 pub const WRONG_LINE: u32 = 5;
 pub const WRONG_RECORDS: u32 = 6;
 pub const NO_MAPPER: u32 = 7;
+pub const WRONG_PREPARED: u32 = 10;
 
 extern "C" {
     pub fn icu_normalizer_open_files(
@@ -42,6 +45,12 @@ extern "C" {
         idna_table: *const u8,
         idna_table_length: usize,
         disallowed_limit: u32,
+        defect: *mut Defect,
+    ) -> u32;
+    pub fn icu_normalizer_open_prepared(
+        handle: *mut Handle,
+        prepared: *const u8,
+        prepared_length: usize,
         defect: *mut Defect,
     ) -> u32;
     pub fn icu_normalizer_share(from: *mut Handle, to: *mut Handle) -> u32;
@@ -72,29 +81,11 @@ extern "C" {
         output_length: usize,
         needed: *mut usize,
     ) -> u32;
-    pub fn icu_normalizer_is_normalized_utf8(
-        h: *mut Handle,
-        f: u32,
-        i: *const u8,
-        n: usize,
-        r: *mut bool,
-    ) -> u32;
-    pub fn icu_normalizer_is_normalized_utf16(
-        h: *mut Handle,
-        f: u32,
-        i: *const u16,
-        n: usize,
-        r: *mut bool,
-    ) -> u32;
+    pub fn icu_normalizer_is_normalized_utf8(h: *mut Handle, f: u32, i: *const u8, n: usize, r: *mut bool) -> u32;
+    pub fn icu_normalizer_is_normalized_utf16(h: *mut Handle, f: u32, i: *const u16, n: usize, r: *mut bool) -> u32;
     pub fn icu_normalizer_split_utf8(h: *mut Handle, f: u32, i: *const u8, n: usize, r: *mut usize) -> u32;
     pub fn icu_normalizer_split_utf16(h: *mut Handle, f: u32, i: *const u16, n: usize, r: *mut usize) -> u32;
-    pub fn icu_normalizer_first_mismatch_utf8(
-        h: *mut Handle,
-        f: u32,
-        i: *const u8,
-        n: usize,
-        r: *mut Mismatch,
-    ) -> u32;
+    pub fn icu_normalizer_first_mismatch_utf8(h: *mut Handle, f: u32, i: *const u8, n: usize, r: *mut Mismatch) -> u32;
     pub fn icu_normalizer_map_utf8(
         handle: *mut Handle,
         input: *const u8,

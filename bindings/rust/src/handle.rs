@@ -5,9 +5,6 @@ use std::cell::RefCell;
 use std::fmt;
 use std::sync::{Mutex, OnceLock, PoisonError};
 
-/// A table by which there is no mapper.
-pub(crate) const NO_TABLE: &[u8] = b"0000..10FFFF ; valid\n";
-
 const UNICODE_DATA: &[u8] = include_bytes!(concat!(env!("ICU_NORMALIZER_DATA"), "/UnicodeData.txt"));
 const EXCLUSIONS: &[u8] = include_bytes!(concat!(env!("ICU_NORMALIZER_DATA"), "/CompositionExclusions.txt"));
 
@@ -47,10 +44,23 @@ pub enum Error {
     },
     /// The lines, together, can't be built into tables.
     Records {
+        /// The line that states the first record at fault, if one does.
+        line: Option<(&'static str, usize)>,
+        /// The character of that record, if there is one.
+        character: Option<char>,
         /// The number of the reason.
         reason: u32,
         /// The written condition that the tables break, or 0.
-        condition: usize,
+        condition: u32,
+    },
+    /// A file of prepared data is wrong.
+    Prepared {
+        /// How many bytes come before the first fault.
+        offset: usize,
+        /// The number of the reason.
+        reason: u32,
+        /// The written condition that its data break, or 0.
+        condition: u32,
     },
 }
 
@@ -58,10 +68,31 @@ impl fmt::Display for Error {
     fn fmt(&self, f: &mut fmt::Formatter<'_>) -> fmt::Result {
         match self {
             Error::Line { file, line, reason } => write!(f, "{file}:{line}: the line is wrong, by reason {reason}"),
-            Error::Records { reason, condition } => {
+            Error::Records {
+                line,
+                character,
+                reason,
+                condition,
+            } => {
+                if let Some((file, line)) = line {
+                    write!(f, "{file}:{line}: ")?;
+                }
+                if let Some(character) = character {
+                    write!(f, "U+{:04X}: ", *character as u32)?;
+                }
                 write!(
                     f,
                     "the records can't be built into tables, by reason {reason}, condition {condition}"
+                )
+            }
+            Error::Prepared {
+                offset,
+                reason,
+                condition,
+            } => {
+                write!(
+                    f,
+                    "byte {offset}: the file is wrong, by reason {reason}, condition {condition}"
                 )
             }
         }
@@ -69,6 +100,38 @@ impl fmt::Display for Error {
 }
 
 impl std::error::Error for Error {}
+
+const FILES: [&str; 3] = ["UnicodeData.txt", "CompositionExclusions.txt", "IdnaMappingTable.txt"];
+
+impl Error {
+    /// What is wrong, if it isn't memory.
+    fn of(status: u32, defect: ffi::Defect) -> Option<Error> {
+        let (reason, condition) = (defect.reason, defect.condition);
+        let file = FILES.get(defect.source as usize).copied();
+        match status {
+            ffi::WRONG_LINE => Some(Error::Line {
+                file: file.unwrap_or(""),
+                line: defect.place,
+                reason,
+            }),
+            ffi::WRONG_RECORDS => {
+                let line = file.map(|file| (file, defect.place));
+                Some(Error::Records {
+                    line,
+                    character: char::from_u32(defect.character),
+                    reason,
+                    condition,
+                })
+            }
+            ffi::WRONG_PREPARED => Some(Error::Prepared {
+                offset: defect.place,
+                reason,
+                condition,
+            }),
+            _ => None,
+        }
+    }
+}
 
 fn out_of_memory(room: usize) -> ! {
     handle_alloc_error(Layout::from_size_align(room.max(1), 1).unwrap_or(Layout::new::<u8>()))
@@ -102,22 +165,21 @@ impl OpenHandle {
                 &mut defect,
             )
         };
+        open.unless(status, defect, unicode_data.len())
+    }
+
+    fn open_prepared(prepared: &[u8]) -> Result<OpenHandle, Error> {
+        let mut open = OpenHandle(Handle::CLOSED);
+        let mut defect = ffi::Defect::default();
+        let status =
+            unsafe { ffi::icu_normalizer_open_prepared(&mut open.0, prepared.as_ptr(), prepared.len(), &mut defect) };
+        open.unless(status, defect, prepared.len())
+    }
+
+    fn unless(self, status: u32, defect: ffi::Defect, room: usize) -> Result<OpenHandle, Error> {
         match status {
-            ffi::OK => Ok(open),
-            ffi::WRONG_LINE => {
-                let files = ["UnicodeData.txt", "CompositionExclusions.txt", "IdnaMappingTable.txt"];
-                let file = files.get(defect.source as usize).copied().unwrap_or("");
-                Err(Error::Line {
-                    file,
-                    line: defect.place,
-                    reason: defect.reason,
-                })
-            }
-            ffi::WRONG_RECORDS => Err(Error::Records {
-                reason: defect.reason,
-                condition: defect.place,
-            }),
-            _ => out_of_memory(unicode_data.len()),
+            ffi::OK => Ok(self),
+            _ => Err(Error::of(status, defect).unwrap_or_else(|| out_of_memory(room))),
         }
     }
 
@@ -212,6 +274,10 @@ impl SharedHandle {
         OpenHandle::open(unicode_data, exclusions, table, limit).map(|open| SharedHandle(Mutex::new(open)))
     }
 
+    pub(crate) fn open_prepared(prepared: &[u8]) -> Result<Self, Error> {
+        OpenHandle::open_prepared(prepared).map(|open| SharedHandle(Mutex::new(open)))
+    }
+
     pub(crate) fn with<R>(&self, call: impl FnOnce(&mut OpenHandle) -> R) -> R {
         call(&mut self.0.lock().unwrap_or_else(PoisonError::into_inner))
     }
@@ -231,7 +297,7 @@ pub(crate) fn with_own<R>(call: impl FnOnce(&mut OpenHandle) -> R) -> R {
     }
     let first = || {
         FIRST.get_or_init(|| {
-            SharedHandle::open(UNICODE_DATA, EXCLUSIONS, NO_TABLE, 0).expect("the data of this crate are right")
+            SharedHandle::open(UNICODE_DATA, EXCLUSIONS, &[], 0).expect("the data of this crate are right")
         })
     };
     OWN.with(|own| call(own.borrow_mut().get_or_insert_with(|| first().with(OpenHandle::shared))))

@@ -61,7 +61,7 @@ impl Normalizers {
     /// # Errors
     /// What is wrong with the data.
     pub fn try_new(unicode_data: &[u8], exclusions: &[u8]) -> Result<Self, Error> {
-        Self::try_new_with_mapper(unicode_data, exclusions, handle::NO_TABLE, 0)
+        Self::try_new_with_mapper(unicode_data, exclusions, &[], 0)
     }
 
     /// Returns the normalizers, with a mapper by the bytes of `IdnaMappingTable.txt`, without its disallowed ranges of
@@ -76,6 +76,15 @@ impl Normalizers {
         disallowed_limit: u32,
     ) -> Result<Self, Error> {
         SharedHandle::open(unicode_data, exclusions, idna_table, disallowed_limit).map(Normalizers)
+    }
+
+    /// Returns the normalizers by the bytes of a file of prepared data, which `uninorm prepare` makes. It is opened in
+    /// less time than Unicode's files, and has a mapper if it was made with one.
+    ///
+    /// # Errors
+    /// What is wrong with the file.
+    pub fn try_new_prepared(prepared: &[u8]) -> Result<Self, Error> {
+        SharedHandle::open_prepared(prepared).map(Normalizers)
     }
 
     /// Returns the normalizer to NFC.
@@ -113,8 +122,7 @@ impl Normalizers {
     /// Returns a text mapped by Unicode Technical Standard #46 and in NFC: ignored characters are dropped, disallowed
     /// ones become U+FFFD. Without a mapper there is none.
     pub fn map(&self, text: &str) -> Option<String> {
-        self.0
-            .with(|handle| handle.mapped(ffi::icu_normalizer_map_utf8, text))
+        self.0.with(|handle| handle.mapped(ffi::icu_normalizer_map_utf8, text))
     }
 
     /// Returns the same, with U+FFFD for ignored characters too. Mapped text is valid only if this leaves it unchanged.

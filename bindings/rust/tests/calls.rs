@@ -69,6 +69,16 @@ fn forms() {
 }
 
 #[test]
+fn prepared_data() {
+    let file = read("crates/icu_normalizer_c/examples/tests", "small.prepared");
+    let small = Normalizers::try_new_prepared(&file).unwrap();
+    assert_eq!(small.map("A\u{308}\u{AD}\u{323}").unwrap(), "\u{1EA1}\u{308}");
+    assert_eq!(small.nfc().normalize("a\u{323}"), "\u{1EA1}");
+    let error = Normalizers::try_new_prepared(&file[1..]).err().unwrap();
+    assert!(error.to_string().starts_with("byte 0: "), "{error}");
+}
+
+#[test]
 fn wrong_data_are_refused() {
     let error = Normalizers::try_new(b"0041;A\n# EOF\n", b"# EOF\n").err().unwrap();
     assert!(error.to_string().starts_with("UnicodeData.txt:1: "), "{error}");

@@ -12,6 +12,8 @@ icu_normalizer_status icu_normalizer_open_records_nonnull(icu_normalizer *normal
     const icu_normalizer_record *records, size_t records_length,
     const icu_normalizer_mapper_record *mapper_records, size_t mapper_records_length,
     const uint32_t *codes, size_t codes_length, icu_normalizer_defect *defect);
+icu_normalizer_status icu_normalizer_open_prepared_nonnull(icu_normalizer *normalizer,
+    const uint8_t *prepared, size_t prepared_length, icu_normalizer_defect *defect);
 icu_normalizer_status icu_normalizer_normalize_utf8_nonnull(icu_normalizer *normalizer, icu_normalizer_form form,
     const uint8_t *input, size_t input_length, uint8_t *output, size_t output_length, size_t *needed);
 icu_normalizer_status icu_normalizer_normalize_utf16_nonnull(icu_normalizer *normalizer, icu_normalizer_form form,
@@ -76,6 +78,11 @@ icu_normalizer_status icu_normalizer_open_records(icu_normalizer *normalizer,
     return icu_normalizer_open_records_nonnull(normalizer, SOME(records, records_length), records_length,
         SOME(mapper_records, mapper_records_length), mapper_records_length, SOME(codes, codes_length), codes_length,
         defect);
+}
+
+icu_normalizer_status icu_normalizer_open_prepared(icu_normalizer *normalizer,
+    const uint8_t *prepared, size_t prepared_length, icu_normalizer_defect *defect) {
+    return icu_normalizer_open_prepared_nonnull(normalizer, SOME(prepared, prepared_length), prepared_length, defect);
 }
 
 icu_normalizer_status icu_normalizer_normalize_utf8(icu_normalizer *normalizer, icu_normalizer_form form,

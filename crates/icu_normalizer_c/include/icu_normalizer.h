@@ -79,6 +79,8 @@ typedef uint32_t icu_normalizer_status;
 #define ICU_NORMALIZER_WRONG_RECORD 8u
 /* Another call has the handle, which the program must not do. */
 #define ICU_NORMALIZER_IN_USE 9u
+/* A file of prepared data is wrong. */
+#define ICU_NORMALIZER_WRONG_PREPARED 10u
 
 /* Returns what a status means, in English. */
 static inline const char *icu_normalizer_status_text(icu_normalizer_status status) {
@@ -93,6 +95,7 @@ static inline const char *icu_normalizer_status_text(icu_normalizer_status statu
         case ICU_NORMALIZER_NO_MAPPER: return "the normalizer has no mapper";
         case ICU_NORMALIZER_WRONG_RECORD: return "a record is wrong";
         case ICU_NORMALIZER_IN_USE: return "another call uses the normalizer";
+        case ICU_NORMALIZER_WRONG_PREPARED: return "the file of prepared data is wrong";
         default: return "no status has this number";
     }
 }
@@ -131,28 +134,33 @@ typedef struct icu_normalizer_mapper_record {
     uint32_t status; /* what the mapper does with it */
 } icu_normalizer_mapper_record;
 
-/* Where data are wrong, and why. It is written on three statuses only:
+/* Where data are wrong, and why. It is written on four statuses only:
    - WRONG_LINE: the first line that is wrong, of CompositionExclusions.txt, then of UnicodeData.txt, then of
      IdnaMappingTable.txt. Files that are cut off or state different versions are refused before lines are read.
    - WRONG_RECORD: the first record that is wrong by itself, whatever the others are, of those of characters, then of
      those of the mapper.
    - WRONG_RECORDS: each record is right by itself, but all can't be built into tables. The reason is the first of 10
-     to 16 that is so, else 18 or 17. No record is named: the place is 0; with reason 17 it is the number of the first
-     written condition that the tables break (docs/CONDITIONS.md).
+     to 16 that is so, else 18 or 17. The place is that of the first record at fault, those of the mapper after the
+     others: the line that states it, or how many records come before it. `character` is its character. If no single
+     record is at fault, as with reason 18, the source is ALL_RECORDS, and the place 0.
+   - WRONG_PREPARED: the first fault of the file, or with reason 17 the condition that its data break.
 
-   By the reason of WRONG_RECORDS a program can find the records. With 10, it compares neighbours in each array; with 11
-   and 13, it looks at each record alone; with 16, it compares the canonical mappings of two characters that aren't
-   excluded. With 12, 14 and 15, it follows the mappings: the list of a character is its mapping, with each character
-   replaced by its own mapping until nothing changes.
+   With reason 17, `condition` is the number of the first written condition that the tables break
+   (docs/CONDITIONS.md).
 
    Records of the mapper may be wrong only together with those of characters. With Unicode's own data, to map U+0041
    alone, to U+0061, is refused with reason 17 and condition 8: a member of a list must read to itself, but the list of
    U+00C0 has U+0041. IdnaMappingTable.txt maps U+00C0 and all others whose lists have U+0041 too. */
 typedef struct icu_normalizer_defect {
-    size_t place;    /* the line of a file, from 1; how many records come before a record; a condition; or 0 */
-    uint32_t source; /* which data */
-    uint32_t reason; /* what is wrong */
+    size_t place; /* the line of a file, from 1; how many records, or bytes of a prepared file, come before; or 0 */
+    uint32_t source;    /* which data */
+    uint32_t reason;    /* what is wrong */
+    uint32_t character; /* the character of the record at fault, or NO_CHARACTER */
+    uint32_t condition; /* with reason 17 the number of a written condition, else 0 */
 } icu_normalizer_defect;
+
+/* No character. */
+#define ICU_NORMALIZER_NO_CHARACTER 0x110000u
 
 /* Which data. The records together may also be those that files say. */
 #define ICU_NORMALIZER_UNICODE_DATA 0u
@@ -161,9 +169,10 @@ typedef struct icu_normalizer_defect {
 #define ICU_NORMALIZER_ONE_RECORD 3u
 #define ICU_NORMALIZER_ALL_RECORDS 4u
 #define ICU_NORMALIZER_ONE_MAPPER_RECORD 5u
+#define ICU_NORMALIZER_PREPARED 6u
 
 /* Returns what the reason of a defect means, in English: 1 to 8 and 19 to 24 are of lines, 9 is of one record, 10 to 18
-   are of the records together. With reason 17, the place is the number of the condition (docs/CONDITIONS.md). */
+   are of the records together, 25 to 33 of a file of prepared data, of which 17 may be too. */
 static inline const char *icu_normalizer_reason_text(uint32_t reason) {
     switch (reason) {
         case 1: return "the line has too few fields";
@@ -190,6 +199,15 @@ static inline const char *icu_normalizer_reason_text(uint32_t reason) {
         case 22: return "code points before this line are missing";
         case 23: return "the file ends before U+10FFFF";
         case 24: return "the files state different versions of Unicode";
+        case 25: return "it isn't a file of prepared data";
+        case 26: return "the format is of another version";
+        case 27: return "the file has another length";
+        case 28: return "a sum of the bytes is another";
+        case 29: return "the file is cut off";
+        case 30: return "a count is longer than it needs to be";
+        case 31: return "the runs of a table aren't those of all code points";
+        case 32: return "a number isn't that of a character";
+        case 33: return "there are more bytes";
         default: return "no reason has this number";
     }
 }
@@ -234,8 +252,8 @@ icu_normalizer_status icu_normalizer_open_unicode_data(icu_normalizer *normalize
     const uint8_t *unicode_data, size_t unicode_data_length,
     const uint8_t *exclusions, size_t exclusions_length);
 
-/* The same, with a mapper by the bytes of IdnaMappingTable.txt, if that maps, ignores or disallows a character. Its
-   disallowed ranges of more than `disallowed_limit` code points are left out, and a mapper leaves their characters as
+/* The same, with a mapper by the bytes of IdnaMappingTable.txt, if that maps, ignores or disallows a character. With
+   `idna_table_length` 0 there is no table, and no mapper. Its disallowed ranges of more than `disallowed_limit` code points are left out, and a mapper leaves their characters as
    they are; most of them are unassigned. With 0x110000 none is left out. On WRONG_LINE and WRONG_RECORDS `*defect` says
    where the data are wrong; else it is unchanged. */
 icu_normalizer_status icu_normalizer_open_files(icu_normalizer *normalizer,
@@ -249,6 +267,13 @@ icu_normalizer_status icu_normalizer_open_records(icu_normalizer *normalizer,
     const icu_normalizer_record *records, size_t records_length,
     const icu_normalizer_mapper_record *mapper_records, size_t mapper_records_length,
     const uint32_t *codes, size_t codes_length, icu_normalizer_defect *defect);
+
+/* The same by the bytes of a file of prepared data (docs/FORMAT.md), which `uninorm prepare` makes of Unicode's files:
+   the file is smaller, and is opened in less time. It needs no trust: each byte is checked, and the data meet the same
+   conditions as records. There is a mapper if its data aren't the canonical ones. On WRONG_PREPARED `*defect` says what
+   is wrong; else it is unchanged. */
+icu_normalizer_status icu_normalizer_open_prepared(icu_normalizer *normalizer,
+    const uint8_t *prepared, size_t prepared_length, icu_normalizer_defect *defect);
 
 /* Each call below ends with NOT_OPEN if the handle has no normalizers, else with UNKNOWN_FORM if no form has the
    number. OUT_OF_MEMORY comes only if an allocation was refused. On any error, nothing is written but what is said.

@@ -5,12 +5,12 @@ use mathlib.Core.Bool.{false≢true}
 use Rattle.std.proofs.lemmas.List.{take-append-le}
 use Rattle.std.proofs.Math.Seq.{take-length}
 use Rattle.std.proofs.lemmas.List.{append-nil, length-append, length-drop}
-use Rattle.normalizer_text.specs.Encodings.{Encoding, encoded_in, decoded_in}
-use Rattle.normalizer_text.specs.EncodedForm.{encoded_form}
-use Rattle.normalizer_text.specs.Sinks.{TakesNothing}
-use Rattle.normalizer_text.proofs.rules.EncodingLemmas.{encoded_in-append}
-use Rattle.normalizer_iterators.specs.declared.error.NormalizeError.{NormalizeError}
-use Rattle.normalizer_iterators.specs.declared.error.NormalizeError.TheVariants as error
+use Rattle.icu_normalizer.specs.Encodings.{Encoding, encoded_in, decoded_in}
+use Rattle.icu_normalizer.specs.EncodedForm.{encoded_form}
+use Rattle.icu_normalizer.specs.Sinks.{TakesNothing}
+use Rattle.icu_normalizer.proofs.EncodingLemmas.{encoded_in-append}
+use Rattle.icu_normalizer.specs.NormalizeError.{NormalizeError}
+use Rattle.icu_normalizer.specs.NormalizeError.TheVariants as error
 use Rattle.icu_normalizer.specs.Forms.{MadeForm}
 use Rattle.icu_normalizer.specs.Writing.{WritesForm as WritesFormTo}
 use Rattle.normalizer_buffers.specs.declared.buffer.Buffer.{Buffer}

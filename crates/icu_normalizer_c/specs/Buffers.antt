@@ -1,8 +1,8 @@
 -- What a call leaves in the buffers that it was passed.
 use Rattle.std.specs.Prelude.{◌≡◌, ◌≢◌, ◌⊎◌, ℕ, ◌<◌, ◌≤◌, ◌-◌, ◌^◌, ◌++◌, ⊤, List, length, take, drop}
 use Rattle.std.specs.Prelude.{Result, IsOk, OnOk, OnErr, IfErr, IsErrOf}
-use Rattle.normal_forms.specs.ShortRuns.{HasShortRuns}
-use Rattle.normalizer_text.specs.Encodings.{Encoding, decoded_in}
+use Rattle.icu_normalizer.specs.ShortRuns.{HasShortRuns}
+use Rattle.icu_normalizer.specs.Encodings.{Encoding, decoded_in}
 use Rattle.icu_normalizer.specs.Forms.{MadeForm}
 use Rattle.normalizer_buffers.specs.Overwriting.{overwritten}
 use Rattle.normalizer_handles.specs.declared.fault.Fault.{Fault}

@@ -1,16 +1,16 @@
 -- What the calls of C do.
 use Rattle.std.specs.Prelude.{◌≡◌, ◌⊎◌, ◌↔◌, ℕ, ◌<◌, ◌-◌, ◌^◌, Bool, List, length, ⊤, Result, Ok, Err, Option, Some, None, IsTrue}
 use Rattle.std.specs.Prelude.{min, IsOk, IsOkUnless, IfOk, OnOk, OnErr}
-use Rattle.normal_forms.specs.ShortRuns.{HasShortRuns}
-use Rattle.normalizer_tables.specs.declared.characters.IgnoredCharacters.{IgnoredCharacters}
-use Rattle.normalizer_text.specs.Encodings.{Encoding, encoded_in, decoded_in}
-use Rattle.normalizer_text.specs.EncodedForm.{encoded_form}
-use Rattle.normalizer_text.specs.InputCut.{IsInputCut, IsInputNormalized}
-use Rattle.normalizer_text.specs.declared.offence.Offence.{Offence}
-use Rattle.normalizer_built.specs.Mapping.{mapped_in}
+use Rattle.icu_normalizer.specs.ShortRuns.{HasShortRuns}
+use Rattle.icu_normalizer.specs.IgnoredCharacters.{IgnoredCharacters}
+use Rattle.icu_normalizer.specs.Encodings.{Encoding, encoded_in, decoded_in}
+use Rattle.icu_normalizer.specs.EncodedForm.{encoded_form}
+use Rattle.icu_normalizer.specs.InputCut.{IsInputCut, IsInputNormalized}
+use Rattle.icu_normalizer.specs.Offence.{Offence}
+use Rattle.icu_normalizer.specs.Mapping.{mapped_in}
 use Rattle.normalizer_buffers.specs.Overwriting.{overwritten}
-use Rattle.normalizer_iterators.specs.declared.error.NormalizeError.{NormalizeError}
-use Rattle.normalizer_iterators.specs.declared.error.NormalizeError.TheVariants.{Memory}
+use Rattle.icu_normalizer.specs.NormalizeError.{NormalizeError}
+use Rattle.icu_normalizer.specs.NormalizeError.TheVariants.{Memory}
 use Rattle.icu_normalizer.specs.Checks.{IsLastingOffence}
 use Rattle.icu_normalizer.specs.Forms.{MadeForm}
 use Rattle.icu_normalizer.specs.declared.uts46.Uts46Mapper.{Uts46Mapper}

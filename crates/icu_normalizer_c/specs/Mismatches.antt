@@ -1,6 +1,6 @@
 -- The first mismatch of an input, for C.
 use Rattle.std.specs.Prelude.{true, false, Option, Some, None}
-use Rattle.normalizer_text.specs.declared.offence.Offence.{Offence}
+use Rattle.icu_normalizer.specs.Offence.{Offence}
 use Rattle.icu_normalizer_c.specs.declared.mismatch.Mismatch.{Mismatch}
 
 -- the numbers are 0 if there is none

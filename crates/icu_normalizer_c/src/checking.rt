@@ -1,14 +1,14 @@
 //! Whether inputs are normalized, and how far.
 ghost use Rattle.std.specs.Prelude.{◌≡◌, ◌↔◌, IsTrue};
-ghost use Rattle.normalizer_text.specs.InputCut.{IsInputCut, IsInputNormalized};
-ghost use Rattle.normalizer_text.specs.Encodings.{Encoding};
+ghost use Rattle.icu_normalizer.specs.InputCut.{IsInputCut, IsInputNormalized};
+ghost use Rattle.icu_normalizer.specs.Encodings.{Encoding};
 ghost use Rattle.icu_normalizer_c.specs.Calls.{Over, ReportsCut, ReportsNormalized};
 ghost use Rattle.normalizer_handles.specs.Handles.{held_normalizers};
 ghost use Rattle.normalizer_handles.specs.Status.{IsStatus};
 
 use crate::question::{Question, report};
-use icu_normalizer::NormalizeError;
-use normalizer_handles::{Handle, Normalizer};
+use icu_normalizer::{AnyNormalizerBorrowed, NormalizeError};
+use normalizer_handles::Handle;
 use std::alloc::Global;
 
 /// Whether an input is well-formed and normalized.
@@ -24,11 +24,8 @@ impl<'a> Question for IsNormalized<&'a [u8]> {
 
     ghost is = { λ q m yes. IsTrue yes ↔ IsInputNormalized Encoding.Utf8 m.reading m.form q.0.now };
 
-    fn ask(&self, normalizer: &Normalizer<'_>) -> Result<bool, NormalizeError> {
-        match normalizer {
-            Normalizer::Decomposing(n) => n.is_normalized_utf8(self.0),
-            Normalizer::Composing(n) => n.is_normalized_utf8(self.0),
-        }
+    fn ask(&self, normalizer: &AnyNormalizerBorrowed<'_>) -> Result<bool, NormalizeError> {
+        normalizer.is_normalized_utf8(self.0)
     }
 }
 
@@ -41,11 +38,8 @@ impl<'a> Question for IsNormalized<&'a [u16]> {
 
     ghost is = { λ q m yes. IsTrue yes ↔ IsInputNormalized Encoding.Utf16 m.reading m.form q.0.now };
 
-    fn ask(&self, normalizer: &Normalizer<'_>) -> Result<bool, NormalizeError> {
-        match normalizer {
-            Normalizer::Decomposing(n) => n.is_normalized_utf16(self.0),
-            Normalizer::Composing(n) => n.is_normalized_utf16(self.0),
-        }
+    fn ask(&self, normalizer: &AnyNormalizerBorrowed<'_>) -> Result<bool, NormalizeError> {
+        normalizer.is_normalized_utf16(self.0)
     }
 }
 
@@ -62,11 +56,8 @@ impl<'a> Question for Cut<&'a [u8]> {
 
     ghost is = { λ q m cut. IsInputCut Encoding.Utf8 m.reading m.form q.0.now cut };
 
-    fn ask(&self, normalizer: &Normalizer<'_>) -> Result<usize, NormalizeError> {
-        let (prefix, _) = match normalizer {
-            Normalizer::Decomposing(n) => n.split_normalized_utf8(self.0)?,
-            Normalizer::Composing(n) => n.split_normalized_utf8(self.0)?,
-        };
+    fn ask(&self, normalizer: &AnyNormalizerBorrowed<'_>) -> Result<usize, NormalizeError> {
+        let (prefix, _) = normalizer.split_normalized_utf8(self.0)?;
         Ok(prefix.len())
     }
 }
@@ -80,11 +71,8 @@ impl<'a> Question for Cut<&'a [u16]> {
 
     ghost is = { λ q m cut. IsInputCut Encoding.Utf16 m.reading m.form q.0.now cut };
 
-    fn ask(&self, normalizer: &Normalizer<'_>) -> Result<usize, NormalizeError> {
-        let (prefix, _) = match normalizer {
-            Normalizer::Decomposing(n) => n.split_normalized_utf16(self.0)?,
-            Normalizer::Composing(n) => n.split_normalized_utf16(self.0)?,
-        };
+    fn ask(&self, normalizer: &AnyNormalizerBorrowed<'_>) -> Result<usize, NormalizeError> {
+        let (prefix, _) = normalizer.split_normalized_utf16(self.0)?;
         Ok(prefix.len())
     }
 }

@@ -1,9 +1,9 @@
 //! Mapping and validating text by Unicode Technical Standard #46.
 ghost use Rattle.std.specs.Prelude.{◌≡◌, IfOk, encode_utf8_all, string_bytes};
 ghost use Rattle.icu_normalizer.specs.Mappers.{mapper_data_of_borrowed};
-ghost use Rattle.normalizer_text.specs.Encodings.{Encoding, decoded_in, encoded_in};
-ghost use Rattle.normalizer_text.specs.Utf16.{encode_utf16_all};
-ghost use Rattle.normalizer_built.specs.Mapping.{mapped_in};
+ghost use Rattle.icu_normalizer.specs.Encodings.{Encoding, decoded_in, encoded_in};
+ghost use Rattle.icu_normalizer.specs.Utf16.{encode_utf16_all};
+ghost use Rattle.icu_normalizer.specs.Mapping.{mapped_in};
 ghost use Rattle.icu_normalizer_c.specs.Buffers.{LeavesAll};
 ghost use Rattle.icu_normalizer_c.specs.Calls.{AtMapper, OverMapper, WritesMapped};
 ghost use Rattle.normalizer_handles.specs.Handles.{held_normalizers};
@@ -12,10 +12,8 @@ ghost use Rattle.normalizer_handles.specs.Status.{IsStatus};
 use crate::buffer::fill;
 use crate::text::{Text, write};
 use icu_normalizer::uts46::Uts46MapperBorrowed;
-use normalizer_built::mapped;
+use icu_normalizer::{Chars, IgnoredCharacters, mapped};
 use normalizer_handles::{Fault, Handle, Normalizers};
-use normalizer_tables::characters::IgnoredCharacters;
-use normalizer_text::Chars;
 use std::alloc::{AllocError, Global};
 
 /// What an input is mapped to.

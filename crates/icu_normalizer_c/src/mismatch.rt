@@ -1,16 +1,16 @@
 //! The first mismatches of inputs.
 ghost use Rattle.std.specs.Prelude.{◌≡◌, Option};
-ghost use Rattle.normalizer_text.specs.Encodings.{Encoding};
+ghost use Rattle.icu_normalizer.specs.Encodings.{Encoding};
 ghost use Rattle.icu_normalizer_c.specs.Calls.{Over, ReportsMismatch};
 ghost use Rattle.normalizer_handles.specs.Handles.{held_normalizers};
 ghost use Rattle.normalizer_handles.specs.Status.{IsStatus};
 ghost use Rattle.icu_normalizer.specs.Checks.{IsLastingOffence};
-ghost use Rattle.normalizer_text.specs.declared.offence.Offence.{Offence};
+ghost use Rattle.icu_normalizer.specs.Offence.{Offence};
 ghost use Rattle.icu_normalizer_c.specs.Mismatches.{mismatch_of};
 
 use crate::question::{Question, report};
-use icu_normalizer::{NormalizeError, Offence};
-use normalizer_handles::{Handle, Normalizer};
+use icu_normalizer::{AnyNormalizerBorrowed, NormalizeError, Offence};
+use normalizer_handles::Handle;
 use std::alloc::Global;
 
 /// The first mismatch of an input, if it has one. If not, the numbers are 0.
@@ -63,11 +63,8 @@ impl<'a> Question for FirstMismatch<&'a [u8]> {
     ghost is = { λ q m it. (answer : Option Offence) × (it ≡ mismatch_of answer) ×
         IsLastingOffence m Encoding.Utf8 q.0.now answer };
 
-    fn ask(&self, normalizer: &Normalizer<'_>) -> Result<Mismatch, NormalizeError> {
-        let offence = match normalizer {
-            Normalizer::Decomposing(n) => n.first_offence_utf8(self.0)?,
-            Normalizer::Composing(n) => n.first_offence_utf8(self.0)?,
-        };
+    fn ask(&self, normalizer: &AnyNormalizerBorrowed<'_>) -> Result<Mismatch, NormalizeError> {
+        let offence = normalizer.first_offence_utf8(self.0)?;
         Ok(Mismatch::of(offence))
     }
 }
@@ -82,11 +79,8 @@ impl<'a> Question for FirstMismatch<&'a [u16]> {
     ghost is = { λ q m it. (answer : Option Offence) × (it ≡ mismatch_of answer) ×
         IsLastingOffence m Encoding.Utf16 q.0.now answer };
 
-    fn ask(&self, normalizer: &Normalizer<'_>) -> Result<Mismatch, NormalizeError> {
-        let offence = match normalizer {
-            Normalizer::Decomposing(n) => n.first_offence_utf16(self.0)?,
-            Normalizer::Composing(n) => n.first_offence_utf16(self.0)?,
-        };
+    fn ask(&self, normalizer: &AnyNormalizerBorrowed<'_>) -> Result<Mismatch, NormalizeError> {
+        let offence = normalizer.first_offence_utf16(self.0)?;
         Ok(Mismatch::of(offence))
     }
 }

@@ -1,14 +1,21 @@
 //! Opening and closing.
-ghost use Rattle.std.specs.Prelude.{◌≡◌, [], Ok};
+ghost use Rattle.std.specs.Prelude.{◌≡◌, [], List, Ok};
+ghost use Rattle.icu_normalizer.specs.Building.{Builds};
+ghost use Rattle.icu_normalizer.specs.Packed.{Packed};
+ghost use Rattle.icu_normalizer.specs.RecordValue.{RecordValue, Uts46RecordValue};
 ghost use Rattle.normalizer_handles.specs.Defects.{IsStatusReporting};
 ghost use Rattle.normalizer_handles.specs.Handles.{held_normalizers, Closes, Shares};
-ghost use Rattle.normalizer_handles.specs.Opening.{both, of_idna_table, of_unicode_data, Opens};
+ghost use Rattle.normalizer_handles.specs.Made.{AreReadBy};
+ghost use Rattle.normalizer_handles.specs.Opening.{both, indices_of, lines_of, of_idna_table, of_unicode_data};
+ghost use Rattle.normalizer_handles.specs.Opening.{Opens, OpensTo};
 ghost use Rattle.normalizer_handles.specs.PlainRecords.{entries_of, mapper_entries_of};
+ghost use Rattle.normalizer_handles.specs.Prepared.{AreOfFile, IsFaultOfFile, IsFileOf};
 ghost use Rattle.normalizer_handles.specs.Status.{IsStatus};
+ghost use Rattle.normalizer_handles.specs.declared.fault.Fault.TheVariants.{Memory};
 
 use normalizer_handles::{
-    Defect, Handle, PlainMapperRecord, PlainRecord, open_files, open_records, open_unicode_data,
-    status, status_reporting,
+    Defect, Handle, PlainMapperRecord, PlainRecord, open_files, open_prepared, open_records,
+    open_unicode_data, status, status_reporting,
 };
 use std::alloc::Global;
 
@@ -24,7 +31,8 @@ pub extern "C" fn icu_normalizer_open_unicode_data_nonnull(
     unicode_data: &[u8],
     exclusions: &[u8],
 ) -> u32
-    ensures { IsStatus result (Opens (both (of_unicode_data unicode_data.now exclusions.now) (Ok []))
+    ensures { IsStatus result (Opens (lines_of unicode_data.now [])
+        (both (of_unicode_data unicode_data.now exclusions.now) (Ok []))
         (held_normalizers handle.old) (held_normalizers handle.new)) }
 {
     status(open_unicode_data(alloc, handle, unicode_data, exclusions))
@@ -32,10 +40,11 @@ pub extern "C" fn icu_normalizer_open_unicode_data_nonnull(
 
 /// Opens normalizers by the bytes of `UnicodeData.txt` and `CompositionExclusions.txt`, and their mapper by those of
 /// `IdnaMappingTable.txt`, without its disallowed ranges of more than `disallowed_limit` code points. If nothing is
-/// mapped there is no mapper. What the handle had is closed.
+/// mapped, or there are no bytes, there is no mapper. What the handle had is closed.
 ///
 /// # Errors
-/// `InUse`, `Line`, `Records` or `Memory`. The handle then has what it had. `defect` says where a file is wrong.
+/// `InUse`, `Line`, `Records` or `Memory`. The handle then has what it had. `defect` says where a file is wrong, or
+/// which line states the first record at fault.
 #[unsafe(no_mangle)]
 pub extern "C" fn icu_normalizer_open_files_nonnull(
     alloc: Global,
@@ -46,7 +55,7 @@ pub extern "C" fn icu_normalizer_open_files_nonnull(
     disallowed_limit: u32,
     defect: &mut Defect,
 ) -> u32
-    ensures { IsStatusReporting result defect.old defect.new (Opens
+    ensures { IsStatusReporting result defect.old defect.new (Opens (lines_of unicode_data.now idna_table.now)
         (both (of_unicode_data unicode_data.now exclusions.now)
         (of_idna_table exclusions.now idna_table.now disallowed_limit))
         (held_normalizers handle.old) (held_normalizers handle.new)) }
@@ -77,12 +86,36 @@ pub extern "C" fn icu_normalizer_open_records_nonnull(
     codes: &[u32],
     defect: &mut Defect,
 ) -> u32
-    ensures { IsStatusReporting result defect.old defect.new (Opens
+    ensures { IsStatusReporting result defect.old defect.new (Opens indices_of
         (both (entries_of codes.now records.now) (mapper_entries_of codes.now mapper_records.now))
         (held_normalizers handle.old) (held_normalizers handle.new)) }
 {
     let outcome = open_records(alloc, handle, records, mapper_records, codes);
     status_reporting(outcome, defect)
+}
+
+/// Opens normalizers by the bytes of a file of prepared data, and their mapper if its data aren't the canonical ones.
+/// What the handle had is closed.
+///
+/// # Errors
+/// `InUse`, `Prepared`, `Unfit` or `Memory`. The handle then has what it had. `defect` says where the file is wrong, or
+/// which condition its data break.
+#[unsafe(no_mangle)]
+pub extern "C" fn icu_normalizer_open_prepared_nonnull(
+    alloc: Global,
+    handle: &mut Handle,
+    prepared: &[u8],
+    defect: &mut Defect,
+) -> u32
+    ensures file { IsStatusReporting result defect.old defect.new
+        (OpensTo (AreOfFile prepared.now) (IsFaultOfFile prepared.now)
+        (held_normalizers handle.old) (held_normalizers handle.new)) }
+    ensures records { (records : List RecordValue) (mapper : List Uts46RecordValue) (p : Packed) →
+        Builds records mapper p → IsFileOf prepared.now p →
+        IsStatus result (OpensTo (AreReadBy records mapper) (λ fault. fault ≡ Memory)
+        (held_normalizers handle.old) (held_normalizers handle.new)) }
+{
+    status_reporting(open_prepared(alloc, handle, prepared), defect)
 }
 
 /// Opens `to` by the data of `from`, which both then share: nothing is read or copied. What `to` had is closed.

@@ -1,16 +1,16 @@
 //! Questions about inputs.
 ghost use Rattle.std.specs.Prelude.{◌≡◌, ℕ, List};
-ghost use Rattle.normalizer_text.specs.Encodings.{Encoding, decoded_in};
+ghost use Rattle.icu_normalizer.specs.Encodings.{Encoding, decoded_in};
 ghost use Rattle.icu_normalizer.specs.Checks.{AnswersOf};
 ghost use Rattle.icu_normalizer.specs.Forms.{MadeForm};
 ghost use Rattle.icu_normalizer_c.specs.Buffers.{Reports};
 ghost use Rattle.icu_normalizer_c.specs.Calls.{AtForm, Over};
 ghost use Rattle.normalizer_handles.specs.Handles.{held_normalizers};
 ghost use Rattle.normalizer_handles.specs.Status.{IsStatus};
-ghost use Rattle.normalizer_handles.specs.Made.{made_by};
+ghost use Rattle.icu_normalizer.specs.AnyNormalizers.{made_by_borrowed};
 
-use icu_normalizer::NormalizeError;
-use normalizer_handles::{Fault, Handle, Normalizer, Normalizers, status};
+use icu_normalizer::{AnyNormalizerBorrowed, NormalizeError};
+use normalizer_handles::{Fault, Handle, Normalizers, status};
 use std::alloc::Global;
 
 /// A question about an input at a form.
@@ -26,9 +26,9 @@ pub(crate) trait Question {
     /// Which results are right.
     ghost is: { Self → MadeForm → Self.Answer → Type 0 };
 
-    fn ask(&self, normalizer: &Normalizer<'_>) -> Result<Self::Answer, NormalizeError>
-        ensures { AnswersOf (made_by normalizer.now) (decoded_in encoding (units self.now))
-            (is self.now (made_by normalizer.now)) result };
+    fn ask(&self, normalizer: &AnyNormalizerBorrowed<'_>) -> Result<Self::Answer, NormalizeError>
+        ensures { AnswersOf (made_by_borrowed normalizer.now) (decoded_in encoding (units self.now))
+            (is self.now (made_by_borrowed normalizer.now)) result };
 }
 
 /// Reports the result of a question at a form of the normalizers of a handle, and returns the status.
@@ -77,12 +77,12 @@ fn report_at<Q: Question>(
 }
 
 fn report_by<Q: Question>(
-    normalizer: &Normalizer<'_>,
+    normalizer: &AnyNormalizerBorrowed<'_>,
     question: &Q,
     reported: &mut Q::Answer,
 ) -> Result<(), Fault>
-    ensures { Reports (made_by normalizer.now) Q.encoding (Q.units question.now)
-        (Q.is question.now (made_by normalizer.now)) reported.old reported.new result }
+    ensures { Reports (made_by_borrowed normalizer.now) Q.encoding (Q.units question.now)
+        (Q.is question.now (made_by_borrowed normalizer.now)) reported.old reported.new result }
 {
     *reported = question.ask(normalizer)?;
     Ok(())

@@ -1,19 +1,17 @@
 //! Writing forms to the buffers of callers.
 ghost use Rattle.std.specs.Prelude.{◌≡◌};
-ghost use Rattle.normalizer_text.specs.Encodings.{Encoding, decoded_in};
-ghost use Rattle.normalizer_text.specs.EncodedForm.{encoded_form};
-ghost use Rattle.icu_normalizer.specs.Writing.{WritesForm as WritesFormTo};
+ghost use Rattle.icu_normalizer.specs.Encodings.{Encoding};
+ghost use Rattle.icu_normalizer.specs.EncodedForm.{encoded_form};
 ghost use Rattle.icu_normalizer_c.specs.Buffers.{LeavesBeginning, ReportsCount};
 ghost use Rattle.icu_normalizer_c.specs.Calls.{AtForm, NeedsNoMemory, Over, Overwrites, WritesForm};
 ghost use Rattle.normalizer_handles.specs.Handles.{held_normalizers};
 ghost use Rattle.normalizer_handles.specs.Status.{IsStatus};
-ghost use Rattle.normalizer_handles.specs.Made.{made_by};
+ghost use Rattle.icu_normalizer.specs.AnyNormalizers.{made_by_borrowed};
 
 use crate::text::{Text, write};
-use icu_normalizer::NormalizeError;
+use icu_normalizer::{AnyNormalizerBorrowed, NormalizeError};
 use normalizer_buffers::Buffer;
-use normalizer_handles::{Fault, Handle, Normalizer, Normalizers};
-use normalizer_text::sink::{Write, Write16};
+use normalizer_handles::{Fault, Handle, Normalizers};
 use std::alloc::Global;
 
 /// The form of an input, by the number of the form.
@@ -66,13 +64,13 @@ impl<'a> Text for Form<&'a [u16]> {
 }
 
 fn write_utf8(
-    normalizer: &Normalizer<'_>,
+    normalizer: &AnyNormalizerBorrowed<'_>,
     input: &[u8],
     output: &mut [u8],
     needed: &mut usize,
 ) -> Result<(), Fault>
     ensures { WritesForm Encoding.Utf8 input.now output.old output.new needed.old needed.new
-        (made_by normalizer.now) result }
+        (made_by_borrowed normalizer.now) result }
 {
     let room = output.len();
     let count = overwrite_utf8(normalizer, input, output)?;
@@ -80,13 +78,13 @@ fn write_utf8(
 }
 
 fn write_utf16(
-    normalizer: &Normalizer<'_>,
+    normalizer: &AnyNormalizerBorrowed<'_>,
     input: &[u16],
     output: &mut [u16],
     needed: &mut usize,
 ) -> Result<(), Fault>
     ensures { WritesForm Encoding.Utf16 input.now output.old output.new needed.old needed.new
-        (made_by normalizer.now) result }
+        (made_by_borrowed normalizer.now) result }
 {
     let room = output.len();
     let count = overwrite_utf16(normalizer, input, output)?;
@@ -111,14 +109,14 @@ fn report_count(count: usize, room: usize, needed: &mut usize) -> Result<(), Fau
 /// Overwrites the front of a buffer with the form, as far as there is room, and returns how many units that has, or
 /// `usize::MAX` if it has more.
 fn overwrite_utf8(
-    normalizer: &Normalizer<'_>,
+    normalizer: &AnyNormalizerBorrowed<'_>,
     input: &[u8],
     output: &mut [u8],
 ) -> Result<usize, NormalizeError>
-    ensures { Overwrites (made_by normalizer.now) Encoding.Utf8 input.now output.old output.new result }
+    ensures { Overwrites (made_by_borrowed normalizer.now) Encoding.Utf8 input.now output.old output.new result }
 {
     let mut buffer = Buffer::new(output);
-    let outcome = normalize_utf8_to(normalizer, input, &mut buffer);
+    let outcome = normalizer.normalize_utf8_to(input, &mut buffer);
     let count = buffer.count();
     outcome?;
     Ok(count)
@@ -127,45 +125,17 @@ fn overwrite_utf8(
 /// Overwrites the front of a buffer with the form, as far as there is room, and returns how many units that has, or
 /// `usize::MAX` if it has more.
 fn overwrite_utf16(
-    normalizer: &Normalizer<'_>,
+    normalizer: &AnyNormalizerBorrowed<'_>,
     input: &[u16],
     output: &mut [u16],
 ) -> Result<usize, NormalizeError>
-    ensures { Overwrites (made_by normalizer.now) Encoding.Utf16 input.now output.old output.new result }
+    ensures { Overwrites (made_by_borrowed normalizer.now) Encoding.Utf16 input.now output.old output.new result }
 {
     let mut buffer = Buffer::new(output);
-    let outcome = normalize_utf16_to(normalizer, input, &mut buffer);
+    let outcome = normalizer.normalize_utf16_to(input, &mut buffer);
     let count = buffer.count();
     outcome?;
     Ok(count)
-}
-
-fn normalize_utf8_to<W: Write>(
-    normalizer: &Normalizer<'_>,
-    input: &[u8],
-    sink: &mut W,
-) -> Result<(), NormalizeError>
-    ensures { WritesFormTo Encoding.Utf8 W.text_taken W.refusal W.refusal_effect (made_by normalizer.now)
-        (decoded_in Encoding.Utf8 input.now) sink.old result sink.new }
-{
-    match normalizer {
-        Normalizer::Decomposing(n) => n.normalize_utf8_to(input, sink),
-        Normalizer::Composing(n) => n.normalize_utf8_to(input, sink),
-    }
-}
-
-fn normalize_utf16_to<W: Write16>(
-    normalizer: &Normalizer<'_>,
-    input: &[u16],
-    sink: &mut W,
-) -> Result<(), NormalizeError>
-    ensures { WritesFormTo Encoding.Utf16 W.text_taken W.refusal W.refusal_effect (made_by normalizer.now)
-        (decoded_in Encoding.Utf16 input.now) sink.old result sink.new }
-{
-    match normalizer {
-        Normalizer::Decomposing(n) => n.normalize_utf16_to(input, sink),
-        Normalizer::Composing(n) => n.normalize_utf16_to(input, sink),
-    }
 }
 
 /// Writes the form of what `input` decodes to, in UTF-8. `needed` is then how many units the form has.

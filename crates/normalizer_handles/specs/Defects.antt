@@ -1,14 +1,21 @@
 -- Where data are wrong and why, by numbers.
-use Rattle.std.specs.Prelude.{◌≡◌, ℕ, ⊤, Result, Ok, Err}
-use Rattle.normalizer_records.specs.declared.records.BuildError.{BuildError}
-use Rattle.normalizer_records.specs.declared.records.BuildError.TheVariants as errors
+use Rattle.std.specs.Prelude.{◌≡◌, ℕ, ⊤, Option, Some, None, Result, Ok, Err}
+use Rattle.icu_normalizer.specs.BuildError.{BuildError}
+use Rattle.icu_normalizer.specs.BuildError.TheVariants as errors
+use Rattle.normalizer_prepared.specs.declared.fault.Fault.{Fault as FileFault}
+use Rattle.normalizer_prepared.specs.declared.fault.Fault.TheVariants as file_fault
+use Rattle.normalizer_records.specs.declared.at_fault.RecordAtFault.{RecordAtFault}
+use Rattle.normalizer_records.specs.declared.at_fault.RecordAtFault.TheVariants.{OfCharacter, OfMapper}
 use Rattle.normalizer_ucd.specs.declared.error.Problem.{Problem}
 use Rattle.normalizer_ucd.specs.declared.error.Problem.TheVariants as problems
 use Rattle.normalizer_ucd.specs.declared.error.UcdFile.{UcdFile}
 use Rattle.normalizer_ucd.specs.declared.error.UcdFile.TheVariants as files
 use Rattle.normalizer_handles.specs.declared.defect.Defect.{Defect}
 use Rattle.normalizer_handles.specs.declared.fault.Fault.{Fault}
-use Rattle.normalizer_handles.specs.declared.fault.Fault.TheVariants.{Line, Records, Record, MapperRecord}
+use Rattle.normalizer_handles.specs.declared.fault.Fault.TheVariants.{Line, Records, Record, MapperRecord, Prepared, Unfit}
+use Rattle.normalizer_handles.specs.declared.fault.RecordPlace.{RecordPlace}
+use Rattle.normalizer_handles.specs.declared.fault.RecordPlace.TheVariants as places
+use Rattle.normalizer_handles.specs.declared.fault.RecordsFault.{RecordsFault}
 use Rattle.normalizer_handles.specs.Status.{status_of}
 
 abbrev pub number_of_file : UcdFile → ℕ
@@ -44,18 +51,75 @@ number_of_error (errors.Unfit marker condition) = 17
 number_of_error errors.TableFull = 18
 number_of_error errors.Memory = 0
 
+abbrev pub number_of_fault : FileFault → ℕ
+number_of_fault file_fault.Magic = 25
+number_of_fault file_fault.Version = 26
+number_of_fault file_fault.Length = 27
+number_of_fault file_fault.Sum = 28
+number_of_fault file_fault.Short = 29
+number_of_fault file_fault.Count = 30
+number_of_fault file_fault.Runs = 31
+number_of_fault file_fault.Scalar = 32
+number_of_fault file_fault.Trailing = 33
+
 -- the written condition that data break; else 0
 abbrev pub condition_of_error : BuildError → ℕ
 condition_of_error (errors.Unfit marker condition) = condition
 condition_of_error error = 0
 
+-- the number after the last code point, in place of a character
+abbrev pub no_character : ℕ
+no_character = 0x110000
+
+-- the character of a record at fault
+abbrev pub character_at_fault : Option RecordAtFault → ℕ
+character_at_fault (Some (OfCharacter c)) = c
+character_at_fault (Some (OfMapper c)) = c
+character_at_fault None = no_character
+
+-- the records, of characters or of the mapper, that a record at fault is one of
+abbrev pub source_of_record : Option RecordAtFault → ℕ
+source_of_record (Some (OfCharacter c)) = 3
+source_of_record (Some (OfMapper c)) = 5
+source_of_record None = 4
+
+-- a defect of a record, or of all together if no place is known
+abbrev pub defect_at : RecordsFault → Option RecordPlace → Defect
+defect_at f (Some (places.Line p)) = record {
+  place = p.line;
+  source = number_of_file p.file;
+  reason = number_of_error f.error;
+  character = character_at_fault f.at_fault;
+  condition = condition_of_error f.error;
+}
+defect_at f (Some (places.Index index)) = record {
+  place = index;
+  source = source_of_record f.at_fault;
+  reason = number_of_error f.error;
+  character = character_at_fault f.at_fault;
+  condition = condition_of_error f.error;
+}
+defect_at f None = record {
+  place = 0;
+  source = 4;
+  reason = number_of_error f.error;
+  character = character_at_fault f.at_fault;
+  condition = condition_of_error f.error;
+}
+
+-- a defect of data at a place, of which no character is told
+abbrev pub defect_in : (place source reason condition : ℕ) → Defect
+defect_in place source reason condition =
+    record { place = place; source = source; reason = reason; character = no_character; condition = condition }
+
 -- what is reported to the caller of data that are wrong; otherwise what it had stays
 abbrev pub defect_of : Fault → Defect → Defect
-defect_of (Line f) before =
-    record { place = f.place.line; source = number_of_file f.place.file; reason = number_of_problem f.problem }
-defect_of (Record index) before = record { place = index; source = 3; reason = 9 }
-defect_of (Records e) before = record { place = condition_of_error e; source = 4; reason = number_of_error e }
-defect_of (MapperRecord index) before = record { place = index; source = 5; reason = 9 }
+defect_of (Line f) before = defect_in f.place.line (number_of_file f.place.file) (number_of_problem f.problem) 0
+defect_of (Record index) before = defect_in index 3 9 0
+defect_of (MapperRecord index) before = defect_in index 5 9 0
+defect_of (Records f) before = defect_at f f.place
+defect_of (Prepared fault offset) before = defect_in offset 6 (number_of_fault fault) 0
+defect_of (Unfit condition) before = defect_in 0 6 17 condition
 defect_of fault before = before
 
 abbrev pub defect_after : Result ⊤ Fault → Defect → Defect

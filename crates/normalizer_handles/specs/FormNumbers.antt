@@ -1,7 +1,7 @@
 -- The numbers of the four forms in C.
 use Rattle.std.specs.Prelude.{ℕ}
-use Rattle.normalizer_built.specs.declared.NormalForm.{NormalForm}
-use Rattle.normalizer_built.specs.declared.NormalForm.TheVariants.{Nfd, Nfc, Nfkd, Nfkc}
+use Rattle.icu_normalizer.specs.declared.any_normalizer.NormalForm.{NormalForm}
+use Rattle.icu_normalizer.specs.declared.any_normalizer.NormalForm.TheVariants.{Nfd, Nfc, Nfkd, Nfkc}
 
 abbrev pub number_of : NormalForm → ℕ
 number_of Nfd = 0

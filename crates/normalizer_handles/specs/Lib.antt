@@ -4,5 +4,6 @@ pub mod Handles
 pub mod Made
 pub mod Opening
 pub mod PlainRecords
+pub mod Prepared
 pub mod Slots
 pub mod Status

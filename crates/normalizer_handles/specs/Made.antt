@@ -1,35 +1,25 @@
--- The forms that normalizers make.
-use Rattle.std.specs.Prelude.{◌≡◌, ◌≢◌, ℕ, List, [], Option, Some, None}
-use Rattle.normal_forms.specs.declared.Form.TheVariants.{Decomposing, Composing}
-use Rattle.normal_forms.specs.Forms.{nfc}
-use Rattle.normalizer_records.specs.RecordValue.{RecordValue, Uts46RecordValue}
-use Rattle.normalizer_built.specs.declared.NormalForm.{NormalForm}
-use Rattle.normalizer_built.specs.declared.NormalForm.TheVariants.{Nfd, Nfc, Nfkd, Nfkc}
-use Rattle.normalizer_built.specs.Mapping.{mapped_in, mapper_reading}
-use Rattle.normalizer_built.specs.RecordedForms.{recorded_form}
-use Rattle.normalizer_tables.specs.declared.characters.IgnoredCharacters.{IgnoredCharacters}
-use Rattle.icu_normalizer.specs.ComposingNormalizers.{composing_data_of, pairs_of}
-use Rattle.icu_normalizer.specs.Normalizers.{data_of}
-use Rattle.icu_normalizer.specs.declared.uts46.Uts46Mapper.{Uts46Mapper}
+-- The forms that normalizers make, and what their mapper maps to.
+use Rattle.std.specs.Prelude.{◌≡◌, ◌≢◌, ℕ, List, [], Option, Some, None, IfSome}
+use Rattle.icu_normalizer.specs.AnyNormalizers.{made_by}
+use Rattle.icu_normalizer.specs.ByRecords.{packed_form, IsRecordedForm, MapsByRecords}
+use Rattle.icu_normalizer.specs.Forms.{MadeForm}
+use Rattle.icu_normalizer.specs.Kind.TheVariants.{Mapper}
 use Rattle.icu_normalizer.specs.Mappers.{mapper_data_of}
-use Rattle.icu_normalizer.specs.Uts46.{MapperData}
-use Rattle.icu_normalizer.specs.Forms.{MadeForm, composed_by, decomposed_by, form_by, form_of}
-use Rattle.normalizer_handles.specs.declared.normalizers.Normalizer.{Normalizer}
-use Rattle.normalizer_handles.specs.declared.normalizers.Normalizer.TheVariants as normalizer
+use Rattle.icu_normalizer.specs.Packed.{Packed}
+use Rattle.icu_normalizer.specs.ReadBack.{characters_of}
+use Rattle.icu_normalizer.specs.RecordValue.{RecordValue, Uts46RecordValue}
+use Rattle.icu_normalizer.specs.declared.any_normalizer.NormalForm.{NormalForm}
+use Rattle.icu_normalizer.specs.declared.any_normalizer.NormalForm.TheVariants.{Nfd, Nfc, Nfkd, Nfkc}
+use Rattle.icu_normalizer.specs.declared.uts46.Uts46Mapper.{Uts46Mapper}
 use Rattle.normalizer_handles.specs.declared.normalizers.Normalizers.{Normalizers}
 use Rattle.normalizer_handles.specs.FormNumbers.{number_of}
 
--- the form of a normalizer
-abbrev pub made_by : Normalizer → MadeForm
-made_by (normalizer.Decomposing n) = decomposed_by n
-made_by (normalizer.Composing n) = composed_by n
-
 -- the form that the normalizers make
 abbrev pub made_in : Normalizers → NormalForm → MadeForm
-made_in n Nfd = form_by (data_of n.nfd) [] Decomposing
-made_in n Nfc = form_by (composing_data_of n.nfc) (pairs_of n.nfc) Composing
-made_in n Nfkd = form_by (data_of n.nfkd) [] Decomposing
-made_in n Nfkc = form_by (composing_data_of n.nfkc) (pairs_of n.nfkc) Composing
+made_in n Nfd = made_by n.nfd
+made_in n Nfc = made_by n.nfc
+made_in n Nfkd = made_by n.nfkd
+made_in n Nfkc = made_by n.nfkc
 
 -- the form that the normalizers make and that has the number
 abbrev pub IsNumbered : Normalizers → (number : ℕ) → MadeForm → Type 0
@@ -37,14 +27,23 @@ IsNumbered n number m = (form : NormalForm) × (number ≡ number_of form) × (m
 
 -- every text has all four forms by what the records mean (D118 to D121)
 abbrev pub MakeBy : Normalizers → List RecordValue → Type 0
-MakeBy n records = (form : NormalForm) (x : List ℕ) → form_of (made_in n form) x ≡ recorded_form records form x
+MakeBy n records = (form : NormalForm) → IsRecordedForm records form (made_in n form)
 
--- every text is mapped, in either way, by what the records mean
-abbrev pub MapsBy : MapperData → List RecordValue → List Uts46RecordValue → Type 0
-MapsBy h records mapper =
-    (i : IgnoredCharacters) (x : List ℕ) → mapped_in h i x ≡ nfc (mapper_reading records mapper i) x
-
--- there is a mapper exactly if it has records
+-- there is a mapper exactly if it has records. Every text is mapped, in either way, by what the records mean.
 abbrev pub MapBy : Option Uts46Mapper → List RecordValue → List Uts46RecordValue → Type 0
 MapBy None records mapper = mapper ≡ []
-MapBy (Some m) records mapper = (mapper ≢ []) × MapsBy (mapper_data_of m) records mapper
+MapBy (Some m) records mapper = (mapper ≢ []) × MapsByRecords records mapper (mapper_data_of m)
+
+-- the same, with a mapper or without one
+abbrev pub AreReadBy : List RecordValue → List Uts46RecordValue → Normalizers → Type 0
+AreReadBy records mapper n =
+    MakeBy n records × IfSome n.mapper (λ m. MapsByRecords records mapper (mapper_data_of m))
+
+-- the four forms are those by packed data
+abbrev pub MakeOver : Normalizers → Packed → Type 0
+MakeOver n p = (form : NormalForm) → made_in n form ≡ packed_form p form
+
+-- there is a mapper exactly if its data aren't the canonical ones, and it is by its data
+abbrev pub MapOver : Option Uts46Mapper → Packed → Type 0
+MapOver None p = p.mapper ≡ p.canonical
+MapOver (Some m) p = (p.mapper ≢ p.canonical) × (mapper_data_of m ≡ (characters_of p Mapper, p.compositions))

@@ -1,29 +1,44 @@
 //! Where data are wrong.
 ghost use Rattle.std.specs.Prelude.{◌≡◌};
 ghost use Rattle.normalizer_handles.specs.Defects.{
+  character_at_fault,
   condition_of_error,
   defect_after,
+  defect_at,
+  defect_in,
   number_of_error,
+  number_of_fault,
   number_of_file,
   number_of_problem,
+  source_of_record,
 };
 ghost use Rattle.normalizer_handles.specs.Status.{status_of};
 
-use crate::fault::{Fault, status};
-use normalizer_records::BuildError;
+use crate::fault::{Fault, RecordPlace, RecordsFault, status};
+use icu_normalizer::BuildError;
+use normalizer_prepared::Fault as FileFault;
+use normalizer_records::RecordAtFault;
 use normalizer_ucd::{Problem, UcdFile};
 
 /// Where data are wrong, and what is wrong there.
 #[repr(C)]
 #[derive(Clone, Copy)]
 pub struct Defect {
-    /// The line of a file, from 1; how many records come before a record; or the number of a written condition.
+    /// The line of a file, from 1; how many records come before a record; or how many bytes of a file of prepared data
+    /// come before what is wrong.
     pub place: usize,
     /// The number of a file, or of the records.
     pub source: u32,
     /// The number of what is wrong.
     pub reason: u32,
+    /// The character of the record that is wrong, or 0x110000.
+    pub character: u32,
+    /// The number of the written condition that data break, or 0.
+    pub condition: u32,
 }
+
+/// The number after the last code point, in place of a character.
+const NO_CHARACTER: u32 = 0x11_0000;
 
 fn number_of_file(file: UcdFile) -> u32
     ensures { result ≡ number_of_file file }
@@ -73,18 +88,81 @@ fn number_of_error(error: BuildError) -> u32
     }
 }
 
+fn number_of_fault(fault: FileFault) -> u32
+    ensures { result ≡ number_of_fault fault }
+{
+    match fault {
+        FileFault::Magic => 25,
+        FileFault::Version => 26,
+        FileFault::Length => 27,
+        FileFault::Sum => 28,
+        FileFault::Short => 29,
+        FileFault::Count => 30,
+        FileFault::Runs => 31,
+        FileFault::Scalar => 32,
+        FileFault::Trailing => 33,
+    }
+}
+
+fn condition_of_error(error: BuildError) -> u32
+    ensures { result ≡ condition_of_error error }
+{
+    match error {
+        BuildError::Unfit { condition, .. } => u32::from(condition),
+        _ => 0,
+    }
+}
+
+/// The character of a record at fault.
+fn character_at_fault(at_fault: Option<RecordAtFault>) -> u32
+    ensures { result ≡ character_at_fault at_fault }
+{
+    match at_fault {
+        Some(RecordAtFault::OfCharacter(c) | RecordAtFault::OfMapper(c)) => c as u32,
+        None => NO_CHARACTER,
+    }
+}
+
+/// The records that a record at fault is one of.
+fn source_of_record(at_fault: Option<RecordAtFault>) -> u32
+    ensures { result ≡ source_of_record at_fault }
+{
+    match at_fault {
+        Some(RecordAtFault::OfCharacter(_)) => 3,
+        Some(RecordAtFault::OfMapper(_)) => 5,
+        None => 4,
+    }
+}
+
 impl Defect {
-    fn of_error(error: BuildError) -> Defect
-        ensures { result ≡ record { place = condition_of_error error; source = 4; reason = number_of_error error } }
+    /// A defect of data at a place, of which no character is told.
+    fn at(place: usize, source: u32, reason: u32, condition: u32) -> Defect
+        ensures { result ≡ defect_in place source reason condition }
     {
-        let place = match error {
-            BuildError::Unfit { condition, .. } => usize::from(condition),
-            _ => 0,
+        Defect {
+            place,
+            source,
+            reason,
+            character: NO_CHARACTER,
+            condition,
+        }
+    }
+
+    /// A defect of records.
+    fn of_records(fault: RecordsFault) -> Defect
+        ensures { result ≡ defect_at fault fault.place }
+    {
+        let (place, source) = match fault.place {
+            Some(RecordPlace::Line(place)) => (place.line, number_of_file(place.file)),
+            Some(RecordPlace::Index(index)) => (index, source_of_record(fault.at_fault)),
+            None => (0, 4),
         };
         Defect {
             place,
-            source: 4,
-            reason: number_of_error(error),
+            source,
+            reason: number_of_error(fault.error),
+            character: character_at_fault(fault.at_fault),
+            condition: condition_of_error(fault.error),
         }
     }
 }
@@ -96,27 +174,21 @@ pub fn status_reporting(outcome: Result<(), Fault>, defect: &mut Defect) -> u32
 {
     match outcome {
         Err(Fault::Line(fault)) => {
-            *defect = Defect {
-                place: fault.place.line,
-                source: number_of_file(fault.place.file),
-                reason: number_of_problem(fault.problem),
-            };
+            let source = number_of_file(fault.place.file);
+            *defect = Defect::at(
+                fault.place.line,
+                source,
+                number_of_problem(fault.problem),
+                0,
+            );
         }
-        Err(Fault::Record(index)) => {
-            *defect = Defect {
-                place: index,
-                source: 3,
-                reason: 9,
-            };
+        Err(Fault::Record(index)) => *defect = Defect::at(index, 3, 9, 0),
+        Err(Fault::MapperRecord(index)) => *defect = Defect::at(index, 5, 9, 0),
+        Err(Fault::Records(fault)) => *defect = Defect::of_records(fault),
+        Err(Fault::Prepared(fault, offset)) => {
+            *defect = Defect::at(offset, 6, number_of_fault(fault), 0);
         }
-        Err(Fault::MapperRecord(index)) => {
-            *defect = Defect {
-                place: index,
-                source: 5,
-                reason: 9,
-            };
-        }
-        Err(Fault::Records(error)) => *defect = Defect::of_error(error),
+        Err(Fault::Unfit(condition)) => *defect = Defect::at(0, 6, 17, u32::from(condition)),
         _ => {}
     }
     status(outcome)

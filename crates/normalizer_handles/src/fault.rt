@@ -1,10 +1,11 @@
 //! Why a call failed, as a number.
 ghost use Rattle.std.specs.Prelude.{◌≡◌};
-ghost use Rattle.normalizer_handles.specs.Status.{fault_of_build, fault_of_file, number_of, status_of};
+ghost use Rattle.normalizer_handles.specs.Status.{fault_of_data, fault_of_file, fault_of_prepared, number_of, status_of};
 
-use icu_normalizer::{DataError, NormalizeError};
-use normalizer_records::BuildError;
-use normalizer_ucd::{LineFault, UcdError};
+use icu_normalizer::{BuildError, DataError, NormalizeError};
+use normalizer_prepared::{Fault as FileFault, PreparedError};
+use normalizer_records::RecordAtFault;
+use normalizer_ucd::{LineFault, Place, UcdError};
 use std::alloc::{AllocError, AllocFailed};
 
 /// Why a call failed.
@@ -23,13 +24,37 @@ pub enum Fault {
     /// A line of a data file is wrong.
     Line(LineFault),
     /// The records can't be built.
-    Records(BuildError),
+    Records(RecordsFault),
     /// The handle has no mapper.
     NoMapper,
     /// The record after so many is wrong.
     Record(usize),
     /// The record of the mapper after so many is wrong.
     MapperRecord(usize),
+    /// A file of prepared data has a fault at this offset.
+    Prepared(FileFault, usize),
+    /// Its data break the written condition of this number.
+    Unfit(u8),
+}
+
+/// Why records, together, can't be built.
+#[derive(Clone, Copy, Debug, PartialEq, Eq)]
+pub struct RecordsFault {
+    /// What is wrong.
+    pub error: BuildError,
+    /// The first record at fault, if a single one is.
+    pub at_fault: Option<RecordAtFault>,
+    /// Where it is, if that is known.
+    pub place: Option<RecordPlace>,
+}
+
+/// Where a record is.
+#[derive(Clone, Copy, Debug, PartialEq, Eq)]
+pub enum RecordPlace {
+    /// The line that states it.
+    Line(Place),
+    /// How many records come before it.
+    Index(usize),
 }
 
 impl Fault {
@@ -47,6 +72,7 @@ impl Fault {
             Fault::NoMapper => 7,
             Fault::Record(_) | Fault::MapperRecord(_) => 8,
             Fault::InUse => 9,
+            Fault::Prepared(..) | Fault::Unfit(_) => 10,
         }
     }
 }
@@ -72,13 +98,13 @@ impl From<UcdError> for Fault {
     }
 }
 
-impl From<BuildError> for Fault {
-    ghost from_gives = { λ error fault. fault ≡ fault_of_build error };
+impl From<PreparedError> for Fault {
+    ghost from_gives = { λ error fault. fault ≡ fault_of_prepared error };
 
-    fn from(error: BuildError) -> Fault {
+    fn from(error: PreparedError) -> Fault {
         match error {
-            BuildError::Memory => Fault::Memory,
-            other => Fault::Records(other),
+            PreparedError::Wrong { fault, offset } => Fault::Prepared(fault, offset),
+            PreparedError::Memory => Fault::Memory,
         }
     }
 }
@@ -105,13 +131,15 @@ impl From<AllocError> for Fault {
 }
 
 impl From<DataError> for Fault {
-    ghost use Rattle.normalizer_handles.specs.declared.fault.Fault.TheVariants.{Memory};
+    ghost from_gives = { λ error fault. fault ≡ fault_of_data error };
 
-    ghost from_gives = { λ _ fault. fault ≡ Memory };
-
-    /// The data were built from records: nothing but memory is refused.
-    fn from(_error: DataError) -> Fault {
-        Fault::Memory
+    fn from(error: DataError) -> Fault {
+        match error {
+            DataError::Invalid { condition, .. } => Fault::Unfit(condition),
+            DataError::FutureExtension(_) => Fault::Unfit(1),
+            DataError::Provider(_) => Fault::Unfit(0),
+            DataError::Memory => Fault::Memory,
+        }
     }
 }
 

@@ -2,7 +2,7 @@
 ghost use Rattle.std.specs.Prelude.{◌≡◌, ◌<◌, MatchOption};
 ghost use Rattle.normalizer_handles.specs.FormNumbers.{last_form, number_of};
 
-use normalizer_built::NormalForm;
+use icu_normalizer::NormalForm;
 
 /// Returns the form of a number.
 pub(crate) fn form_numbered(number: u32) -> Option<NormalForm>

@@ -1,4 +1,5 @@
-//! What C keeps of normalizers, and how it is opened: by Unicode's files, or by records from C.
+//! What C keeps of normalizers, and how it is opened: by Unicode's files, by a file
+//! of prepared data, or by records from C.
 #![tactic(auto)]
 
 mod box_parts;
@@ -10,14 +11,15 @@ mod normalizers;
 mod opening;
 mod owner;
 mod plain_records;
+mod record_places;
 mod slot;
 #[cfg(test)]
 mod tests;
 
 pub use defect::{Defect, status_reporting};
-pub use fault::{Fault, status};
+pub use fault::{Fault, RecordPlace, RecordsFault, status};
 pub use handle::{Handle, handle_crosses};
-pub use normalizers::{Normalizer, Normalizers};
-pub use opening::{open_files, open_records, open_unicode_data};
+pub use normalizers::Normalizers;
+pub use opening::{open_files, open_prepared, open_records, open_unicode_data};
 pub use owner::Owner;
 pub use plain_records::{PlainMapperRecord, PlainRecord};

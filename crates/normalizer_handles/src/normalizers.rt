@@ -1,39 +1,34 @@
 //! Normalizers to the four forms and a mapper, over the same data.
-ghost use Rattle.std.specs.Prelude.{◌≡◌, ◌<◌, IfOk, IsOkUnless, List, MatchResult};
-ghost use Rattle.normalizer_builder.specs.Building.{Builds};
-ghost use Rattle.normalizer_builder.specs.Built.{AreBuilt, data_in};
-ghost use Rattle.normalizer_records.specs.RecordValue.{RecordValue};
+ghost use Rattle.std.specs.Prelude.{◌≡◌, ◌≢◌, ◌⊎◌, ◌<◌, IfErr, IfOk, IsOkUnless, List, MatchResult, Ok};
+ghost use Rattle.icu_normalizer.specs.AnyNormalizers.{made_by_borrowed};
+ghost use Rattle.icu_normalizer.specs.Building.{Builds};
+ghost use Rattle.icu_normalizer.specs.Built.{AreBuilt, data_in};
+ghost use Rattle.icu_normalizer.specs.HeldForms.{RefusesMapper};
+ghost use Rattle.icu_normalizer.specs.Kind.TheVariants.{Mapper};
+ghost use Rattle.icu_normalizer.specs.ReadBack.{characters_of};
+ghost use Rattle.icu_normalizer.specs.RecordValue.{RecordValue};
+ghost use Rattle.normalizer_prepared.specs.Prepared.{prepared_in};
 ghost use Rattle.normalizer_handles.specs.FormNumbers.{last_form};
 ghost use Rattle.normalizer_handles.specs.declared.fault.Fault.TheVariants.{UnknownForm};
-ghost use Rattle.normalizer_handles.specs.Made.{made_by, made_in, IsNumbered, MakeBy, MapBy};
+ghost use Rattle.normalizer_handles.specs.Made.{made_in, IsNumbered, MakeBy, MakeOver, MapBy, MapOver};
+ghost use Rattle.normalizer_handles.specs.Prepared.{Refuses};
 
 use crate::fault::Fault;
 use crate::form::form_numbered;
 use icu_normalizer::uts46::Uts46Mapper;
 use icu_normalizer::{
-    Built, ComposingNormalizer, ComposingNormalizerBorrowed, DecomposingNormalizer,
-    DecomposingNormalizerBorrowed, NormalizeError, Uts46Record,
+    AnyNormalizer, AnyNormalizerBorrowed, Built, DataError, FormData, MappingData, NormalForm,
+    NormalizeError, Uts46Record, built_mapper, normalizer_to,
 };
-use normalizer_built::{
-    NormalForm, built_mapper, nfc_normalizer, nfd_normalizer, nfkc_normalizer, nfkd_normalizer,
-};
+use normalizer_prepared::PreparedData;
 
-/// A normalizer of either kind, over borrowed data.
-#[derive(Drop)]
-pub enum Normalizer<'a> {
-    /// To NFD or NFKD.
-    Decomposing(DecomposingNormalizerBorrowed<'a>),
-    /// To NFC or NFKC.
-    Composing(ComposingNormalizerBorrowed<'a>),
-}
-
-/// Normalizers to the four forms, over the same data, and a mapper if it has records.
+/// Normalizers to the four forms, over the same data, and a mapper if the data have one.
 pub struct Normalizers {
-    pub(crate) nfd: DecomposingNormalizer,
-    pub(crate) nfc: ComposingNormalizer,
-    pub(crate) nfkd: DecomposingNormalizer,
-    pub(crate) nfkc: ComposingNormalizer,
-    /// The mapper, if it has records.
+    pub(crate) nfd: AnyNormalizer,
+    pub(crate) nfc: AnyNormalizer,
+    pub(crate) nfkd: AnyNormalizer,
+    pub(crate) nfkc: AnyNormalizer,
+    /// The mapper, if the data have one.
     pub mapper: Option<Uts46Mapper>,
 }
 
@@ -61,23 +56,38 @@ impl Normalizers {
         ensures refused { IsOkUnless result NormalizeError.Memory }
     {
         Ok(Normalizers {
-            nfd: nfd_normalizer(built)?,
-            nfc: nfc_normalizer(built)?,
-            nfkd: nfkd_normalizer(built)?,
-            nfkc: nfkc_normalizer(built)?,
+            nfd: normalizer_to(built, NormalForm::Nfd)?,
+            nfc: normalizer_to(built, NormalForm::Nfc)?,
+            nfkd: normalizer_to(built, NormalForm::Nfkd)?,
+            nfkc: normalizer_to(built, NormalForm::Nfkc)?,
             mapper: mapper_over(built, mapper)?,
         })
     }
 
+    /// Returns the normalizers over the data of a file, and their mapper if its data aren't the canonical ones.
+    pub(crate) fn over_prepared(prepared: &PreparedData) -> Result<Normalizers, DataError>
+        ensures makes { IfOk result (λ n. MakeOver n (prepared_in prepared.now)) }
+        ensures maps { IfOk result (λ n. MapOver n.mapper (prepared_in prepared.now)) }
+        ensures refused { IfErr result (λ e. (e ≡ DataError.Memory) ⊎ Refuses (prepared_in prepared.now) e) }
+    {
+        Ok(Normalizers {
+            nfd: prepared.normalizer(NormalForm::Nfd)?,
+            nfc: prepared.normalizer(NormalForm::Nfc)?,
+            nfkd: prepared.normalizer(NormalForm::Nfkd)?,
+            nfkc: prepared.normalizer(NormalForm::Nfkc)?,
+            mapper: prepared_mapper(prepared)?,
+        })
+    }
+
     /// Returns the normalizer to a form.
-    pub(crate) fn to(&self, form: NormalForm) -> Normalizer<'_>
-        ensures { made_by result ≡ made_in self.now form }
+    pub(crate) fn to(&self, form: NormalForm) -> AnyNormalizerBorrowed<'_>
+        ensures { made_by_borrowed result ≡ made_in self.now form }
     {
         match form {
-            NormalForm::Nfd => Normalizer::Decomposing(self.nfd.as_borrowed()),
-            NormalForm::Nfc => Normalizer::Composing(self.nfc.as_borrowed()),
-            NormalForm::Nfkd => Normalizer::Decomposing(self.nfkd.as_borrowed()),
-            NormalForm::Nfkc => Normalizer::Composing(self.nfkc.as_borrowed()),
+            NormalForm::Nfd => self.nfd.as_borrowed(),
+            NormalForm::Nfc => self.nfc.as_borrowed(),
+            NormalForm::Nfkd => self.nfkd.as_borrowed(),
+            NormalForm::Nfkc => self.nfkc.as_borrowed(),
         }
     }
 
@@ -85,8 +95,8 @@ impl Normalizers {
     ///
     /// # Errors
     /// `UnknownForm` if no form has the number.
-    pub fn numbered(&self, number: u32) -> Result<Normalizer<'_>, Fault>
-        ensures { MatchResult result (λ n. IsNumbered self.now number (made_by n))
+    pub fn numbered(&self, number: u32) -> Result<AnyNormalizerBorrowed<'_>, Fault>
+        ensures { MatchResult result (λ n. IsNumbered self.now number (made_by_borrowed n))
             (λ fault. (last_form < number) × (fault ≡ UnknownForm)) }
     {
         match form_numbered(number) {
@@ -110,4 +120,16 @@ fn mapper_over(built: &Built, mapper: &[Uts46Record]) -> Result<Option<Uts46Mapp
         Ok(mapper) => Ok(Some(mapper)),
         Err(_) => Err(NormalizeError::Memory),
     }
+}
+
+/// Returns the mapper over the data of a file, if its data aren't the canonical ones.
+fn prepared_mapper(prepared: &PreparedData) -> Result<Option<Uts46Mapper>, DataError>
+    ensures maps { IfOk result (λ m. MapOver m (prepared_in prepared.now)) }
+    ensures refused { let p = prepared_in prepared.now in IfErr result (λ e. (e ≡ DataError.Memory)
+        ⊎ ((p.mapper ≢ p.canonical) × RefusesMapper (Ok (characters_of p Mapper, p.compositions)) e)) }
+{
+    if prepared.has_canonical_mapper() {
+        return Ok(None);
+    }
+    Ok(Some(prepared.mapper()?))
 }

@@ -1,26 +1,41 @@
 //! Opening a handle.
-ghost use Rattle.std.specs.Prelude.{◌≡◌, [], MatchResult, Ok};
+ghost use Rattle.std.specs.Prelude.{◌≡◌, [], IfOk, List, MatchResult, Ok};
+ghost use Rattle.std.specs.Option.{option_and_then};
+ghost use Rattle.icu_normalizer.specs.Building.{Builds, IsSmallest};
+ghost use Rattle.icu_normalizer.specs.Packed.{Packed};
+ghost use Rattle.icu_normalizer.specs.RecordValue.{RecordValue, Uts46RecordValue};
+ghost use Rattle.normalizer_builder.specs.AtFault.{IsFirstAtFault};
 ghost use Rattle.normalizer_handles.specs.Handles.{held_normalizers};
-ghost use Rattle.normalizer_handles.specs.Made.{MakeBy, MapBy};
+ghost use Rattle.normalizer_handles.specs.Made.{AreReadBy, MakeBy, MapBy};
 ghost use Rattle.normalizer_handles.specs.Opening.{
   both,
-  HoldsBy,
-  IsBuildFault,
+  indices_of,
+  lines_of,
   of_idna_table,
   of_unicode_data,
+  Holds,
+  IsBuildFault,
   Opens,
+  OpensTo,
   Reads,
 };
 ghost use Rattle.normalizer_handles.specs.PlainRecords.{entries_of, mapper_entries_of};
+ghost use Rattle.normalizer_handles.specs.Prepared.{AreOfFile, IsFaultOfFile, IsFileOf};
+ghost use Rattle.normalizer_handles.specs.declared.fault.Fault.TheVariants.{Memory};
 
-use crate::fault::Fault;
+use crate::fault::{Fault, RecordsFault};
 use crate::handle::Handle;
 use crate::normalizers::Normalizers;
 use crate::owner::Owner;
 use crate::plain_records::{PlainMapperRecord, PlainRecord, records_of_plain};
-use icu_normalizer::{Record, Records, Uts46Record};
+use crate::record_places::{Indices, Lines, RecordPlaces};
+use icu_normalizer::record_laws::{
+    data_that_meet_conditions_are_accepted, what_is_built_is_accepted,
+};
+use icu_normalizer::{BuildError, Record, Records, Uts46Record};
+use normalizer_prepared::PreparedData;
 use normalizer_ucd::{Disallowed, records_of_unicode_data, uts46_records_beside_exclusions};
-use std::alloc::Global;
+use std::alloc::{AllocError, Global};
 
 /// Opens normalizers by the bytes of `UnicodeData.txt` and `CompositionExclusions.txt`, with no mapper. What the handle
 /// had is dropped.
@@ -33,19 +48,24 @@ pub fn open_unicode_data(
     unicode_data: &[u8],
     exclusions: &[u8],
 ) -> Result<(), Fault>
-    ensures { Opens (both (of_unicode_data unicode_data.now exclusions.now) (Ok []))
+    ensures { Opens (lines_of unicode_data.now []) (both (of_unicode_data unicode_data.now exclusions.now) (Ok []))
         (held_normalizers handle.old) (held_normalizers handle.new) result }
 {
     if handle.is_in_use() {
         return Err(Fault::InUse);
     }
     let records = unicode_data_records(alloc, unicode_data, exclusions)?;
-    open(alloc, handle, &records, &[])
+    let idna_table: &[u8] = &[];
+    let lines = Lines {
+        unicode_data,
+        idna_table,
+    };
+    open(alloc, handle, &records, &[], &lines)
 }
 
 /// Opens normalizers by the bytes of `UnicodeData.txt` and `CompositionExclusions.txt`, and their mapper by those of
 /// `IdnaMappingTable.txt`, without its disallowed ranges of more than `disallowed_limit` code points. If nothing is
-/// mapped there is no mapper. What the handle had is dropped.
+/// mapped, or there are no bytes, there is no mapper. What the handle had is dropped.
 ///
 /// # Errors
 /// `InUse`, `Line`, `Records` or `Memory`. The handle then has what it had.
@@ -57,7 +77,7 @@ pub fn open_files(
     idna_table: &[u8],
     disallowed_limit: u32,
 ) -> Result<(), Fault>
-    ensures { Opens
+    ensures { Opens (lines_of unicode_data.now idna_table.now)
         (both (of_unicode_data unicode_data.now exclusions.now)
         (of_idna_table exclusions.now idna_table.now disallowed_limit))
         (held_normalizers handle.old) (held_normalizers handle.new) result }
@@ -67,7 +87,11 @@ pub fn open_files(
     }
     let records = unicode_data_records(alloc, unicode_data, exclusions)?;
     let mapper = idna_table_records(alloc, exclusions, idna_table, disallowed_limit)?;
-    open(alloc, handle, &records, &mapper)
+    let lines = Lines {
+        unicode_data,
+        idna_table,
+    };
+    open(alloc, handle, &records, &mapper, &lines)
 }
 
 /// Opens normalizers by records of characters, and their mapper by records of the mapper. Mappings are parts of
@@ -82,7 +106,7 @@ pub fn open_records(
     mapper_records: &[PlainMapperRecord],
     codes: &[u32],
 ) -> Result<(), Fault>
-    ensures { Opens (both (entries_of codes.now records.now) (mapper_entries_of codes.now mapper_records.now))
+    ensures { Opens indices_of (both (entries_of codes.now records.now) (mapper_entries_of codes.now mapper_records.now))
         (held_normalizers handle.old) (held_normalizers handle.new) result }
 {
     if handle.is_in_use() {
@@ -90,7 +114,43 @@ pub fn open_records(
     }
     let records = records_of_plain(alloc, codes, records)?;
     let mapper = records_of_plain(alloc, codes, mapper_records)?;
-    open(alloc, handle, &records, &mapper)
+    let indices = Indices {
+        records: &records,
+        mapper: &mapper,
+    };
+    open(alloc, handle, &records, &mapper, &indices)
+}
+
+/// Opens normalizers by the bytes of a file of prepared data, and their mapper if its data aren't the canonical ones.
+/// What the handle had is dropped.
+///
+/// # Errors
+/// `InUse`, `Prepared`, `Unfit` or `Memory`. The handle then has what it had.
+pub fn open_prepared(alloc: Global, handle: &mut Handle, prepared: &[u8]) -> Result<(), Fault>
+    // By the data whose file it is.
+    ensures file { OpensTo (AreOfFile prepared.now) (IsFaultOfFile prepared.now)
+        (held_normalizers handle.old) (held_normalizers handle.new) result }
+
+    // By the records that these data were built from.
+    ensures records { (records : List RecordValue) (mapper : List Uts46RecordValue) (p : Packed) →
+        Builds records mapper p → IsFileOf prepared.now p →
+        OpensTo (AreReadBy records mapper) (λ fault. fault ≡ Memory)
+        (held_normalizers handle.old) (held_normalizers handle.new) result }
+{
+    what_is_built_is_accepted();
+    data_that_meet_conditions_are_accepted();
+    open_file(alloc, handle, prepared)
+}
+
+fn open_file(alloc: Global, handle: &mut Handle, prepared: &[u8]) -> Result<(), Fault>
+    ensures { OpensTo (AreOfFile prepared.now) (IsFaultOfFile prepared.now)
+        (held_normalizers handle.old) (held_normalizers handle.new) result }
+{
+    if handle.is_in_use() {
+        return Err(Fault::InUse);
+    }
+    let normalizers = normalizers_of_file(alloc, prepared)?;
+    hold(alloc, handle, normalizers)
 }
 
 fn unicode_data_records(
@@ -111,33 +171,102 @@ fn idna_table_records(
 ) -> Result<Vec<Uts46Record>, Fault>
     ensures { Reads (λ v. v.items) result (of_idna_table exclusions.now idna_table.now disallowed_limit) }
 {
+    if idna_table.is_empty() {
+        return Ok(Vec::new(alloc));
+    }
     let disallowed = Disallowed::RangesUpTo(disallowed_limit);
     Ok(uts46_records_beside_exclusions(alloc, exclusions, idna_table, disallowed)?)
 }
 
 /// Opens what records build.
-fn open(
+fn open<P: RecordPlaces>(
     alloc: Global,
     handle: &mut Handle,
     records: &[Record],
     mapper: &[Uts46Record],
+    places: &P,
 ) -> Result<(), Fault>
-    ensures { HoldsBy (Ok (records.now, mapper.now)) (held_normalizers handle.old) (held_normalizers handle.new) result }
+    ensures { Holds (λ n. MakeBy n records.now × MapBy n.mapper records.now mapper.now)
+        (IsBuildFault (P.places places.now) records.now mapper.now)
+        (held_normalizers handle.old) (held_normalizers handle.new) result }
 {
-    let normalizers = normalizers_of(alloc, records, mapper)?;
+    let normalizers = normalizers_of(alloc, records, mapper, places)?;
+    hold(alloc, handle, normalizers)
+}
+
+/// Puts the only share in normalizers into a handle.
+fn hold(alloc: Global, handle: &mut Handle, normalizers: Normalizers) -> Result<(), Fault>
+    ensures { MatchResult result (λ _. held_normalizers handle.new ≡ Ok normalizers)
+        (λ fault. (held_normalizers handle.new ≡ held_normalizers handle.old) × (fault ≡ Memory)) }
+{
     let owner = Owner::of(alloc, normalizers)?;
     handle.put(alloc, owner);
     Ok(())
 }
 
-fn normalizers_of(
+fn normalizers_of<P: RecordPlaces>(
     alloc: Global,
     records: &[Record],
     mapper: &[Uts46Record],
+    places: &P,
 ) -> Result<Normalizers, Fault>
     ensures { MatchResult result (λ n. MakeBy n records.now × MapBy n.mapper records.now mapper.now)
-        (IsBuildFault records.now mapper.now) }
+        (IsBuildFault (P.places places.now) records.now mapper.now) }
 {
-    let built = Records::build(alloc, records, mapper)?;
-    Ok(Normalizers::over(&built, mapper)?)
+    match Records::build(alloc, records, mapper) {
+        Ok(built) => Ok(Normalizers::over(&built, mapper)?),
+        Err(error) => Err(build_fault(alloc, records, mapper, places, error)),
+    }
+}
+
+/// Why records aren't built.
+fn build_fault<P: RecordPlaces>(
+    alloc: Global,
+    records: &[Record],
+    mapper: &[Uts46Record],
+    places: &P,
+    error: BuildError,
+) -> Fault
+    requires { IsSmallest records.now mapper.now error }
+    ensures { IsBuildFault (P.places places.now) records.now mapper.now result }
+{
+    if matches!(error, BuildError::Memory) {
+        return Fault::Memory;
+    }
+    match records_fault(alloc, records, mapper, places, error) {
+        Ok(fault) => Fault::Records(fault),
+        Err(_) => Fault::Memory,
+    }
+}
+
+/// The first record at fault, and its place.
+fn records_fault<P: RecordPlaces>(
+    alloc: Global,
+    records: &[Record],
+    mapper: &[Uts46Record],
+    places: &P,
+    error: BuildError,
+) -> Result<RecordsFault, AllocError>
+    requires { IsSmallest records.now mapper.now error }
+    ensures { IfOk result (λ f. (f.error ≡ error) × IsFirstAtFault records.now mapper.now error f.at_fault
+        × (f.place ≡ option_and_then (P.places places.now) f.at_fault)) }
+{
+    let at_fault = Records::first_at_fault(alloc, records, mapper, error)?;
+    let place = match at_fault {
+        Some(at_fault) => places.place(alloc, at_fault)?,
+        None => None,
+    };
+    Ok(RecordsFault {
+        error,
+        at_fault,
+        place,
+    })
+}
+
+/// The normalizers over the data of a file of prepared data.
+fn normalizers_of_file(alloc: Global, prepared: &[u8]) -> Result<Normalizers, Fault>
+    ensures { MatchResult result (AreOfFile prepared.now) (IsFaultOfFile prepared.now) }
+{
+    let read = PreparedData::read(alloc, prepared)?;
+    Ok(Normalizers::over_prepared(&read)?)
 }

@@ -1,4 +1,4 @@
-/* Makes each call of icu_normalizer.h, and compares what it does: calls DIRECTORY. The status is 0; 3 if a call returned
+/* Makes each call of icu_normalizer.h, and compares what it does: calls DIRECTORY TESTS. The status is 0; 3 if a call returned
    that memory was refused, or the data couldn't be read; 1 if a comparison failed, which is then named. */
 #include "icu_normalizer.h"
 
@@ -157,14 +157,20 @@ static void mapping(icu_normalizer *normalizer) {
     EXPECT(number == 3 && wide[0] == 0x61 && wide[1] == 0xFFFD && wide[2] == 0x308);
 }
 
+static bool is_defect(const icu_normalizer_defect *defect, size_t place, uint32_t source, uint32_t reason,
+    uint32_t character, uint32_t condition) {
+    return defect->place == place && defect->source == source && defect->reason == reason
+        && defect->character == character && defect->condition == condition;
+}
+
 /* Which record of the mapper is refused, and why. Records of characters are looked at before. */
 static void wrong_mapper_records(icu_normalizer *normalizer, icu_normalizer_record *three,
     icu_normalizer_mapper_record *four, const uint32_t *codes) {
-    icu_normalizer_defect defect = {7, 7, 7};
+    icu_normalizer_defect defect = {7, 7, 7, 7, 7};
     four[1].status = 3;
     EXPECT(unless_refused(icu_normalizer_open_records(normalizer, three, 3, four, 4, codes, 5, &defect))
         == ICU_NORMALIZER_WRONG_RECORD);
-    EXPECT(defect.place == 1 && defect.source == ICU_NORMALIZER_ONE_MAPPER_RECORD && defect.reason == 9);
+    EXPECT(is_defect(&defect, 1, ICU_NORMALIZER_ONE_MAPPER_RECORD, 9, ICU_NORMALIZER_NO_CHARACTER, 0));
     four[1].status = ICU_NORMALIZER_DISALLOWED;
     four[3].mapping_start = 4;
     EXPECT(unless_refused(icu_normalizer_open_records(normalizer, three, 3, four, 4, codes, 5, &defect))
@@ -180,17 +186,18 @@ static void wrong_mapper_records(icu_normalizer *normalizer, icu_normalizer_reco
     four[2].character = 0x378;
     EXPECT(unless_refused(icu_normalizer_open_records(normalizer, three, 3, four, 4, codes, 5, &defect))
         == ICU_NORMALIZER_WRONG_RECORDS);
-    EXPECT(defect.place == 0 && defect.source == ICU_NORMALIZER_ALL_RECORDS && defect.reason == 10);
+    EXPECT(is_defect(&defect, 1, ICU_NORMALIZER_ONE_MAPPER_RECORD, 10, 0x378, 0));
     four[2].character = 0x379;
     four[3].mapping_length = 0;
     EXPECT(unless_refused(icu_normalizer_open_records(normalizer, three, 3, four, 4, codes, 5, &defect))
-        == ICU_NORMALIZER_WRONG_RECORDS && defect.place == 0 && defect.reason == 13);
+        == ICU_NORMALIZER_WRONG_RECORDS);
+    EXPECT(is_defect(&defect, 3, ICU_NORMALIZER_ONE_MAPPER_RECORD, 13, 0x24B6, 0));
     four[3].mapping_length = 1;
     /* U+0061 mapped alone: the list of U+00E4 has it. */
     const icu_normalizer_mapper_record one = {2, 1, 0x61, ICU_NORMALIZER_MAPPED};
     EXPECT(unless_refused(icu_normalizer_open_records(normalizer, three, 3, &one, 1, codes, 5, &defect))
         == ICU_NORMALIZER_WRONG_RECORDS);
-    EXPECT(defect.place == 8 && defect.source == ICU_NORMALIZER_ALL_RECORDS && defect.reason == 17);
+    EXPECT(is_defect(&defect, 0, ICU_NORMALIZER_ALL_RECORDS, 17, 0xE4, 8));
 }
 
 /* The records of U+00E4, U+0308 and U+FB01, those of a mapper that say what the lines above do, and what is refused. */
@@ -201,10 +208,10 @@ static void records(icu_normalizer *normalizer) {
     icu_normalizer_mapper_record four[] = {{0, 0, 0xAD, ICU_NORMALIZER_IGNORED},
         {0, 0, 0x378, ICU_NORMALIZER_DISALLOWED}, {0, 0, 0x379, ICU_NORMALIZER_DISALLOWED},
         {0, 1, 0x24B6, ICU_NORMALIZER_MAPPED}};
-    icu_normalizer_defect defect = {7, 7, 7};
+    icu_normalizer_defect defect = {7, 7, 7, 7, 7};
     EXPECT(unless_refused(icu_normalizer_open_records(normalizer, three, 3, four, 4, codes, 5, &defect))
         == ICU_NORMALIZER_OK);
-    EXPECT(defect.place == 7 && defect.source == 7 && defect.reason == 7);
+    EXPECT(is_defect(&defect, 7, 7, 7, 7, 7));
     uint8_t output[8];
     size_t number = 0;
     EXPECT(unless_refused(icu_normalizer_normalize_utf8(
@@ -228,7 +235,7 @@ static void records(icu_normalizer *normalizer) {
     three[1].character = 0xE4;
     EXPECT(unless_refused(icu_normalizer_open_records(normalizer, three, 3, NULL, 0, codes, 5, &defect))
         == ICU_NORMALIZER_WRONG_RECORDS);
-    EXPECT(defect.place == 0 && defect.source == ICU_NORMALIZER_ALL_RECORDS && defect.reason == 10);
+    EXPECT(is_defect(&defect, 0, ICU_NORMALIZER_ONE_RECORD, 10, 0xE4, 0));
     three[1].character = 0x308;
     wrong_mapper_records(normalizer, three, four, codes);
     mapping(normalizer);
@@ -242,7 +249,7 @@ static const char end[] = "# EOF\n";
 
 /* Why files are refused, and where. */
 static void files(icu_normalizer *normalizer) {
-    icu_normalizer_defect defect = {7, 7, 7};
+    icu_normalizer_defect defect = {7, 7, 7, 7, 7};
     const char *data = "0041;;;0;;;\n\n0040;;;0;;;\n# EOF\n", *exclusions = "0958\nX\n# EOF\n";
     const char *lines = "0000..0041 ; never\n";
     EXPECT(unless_refused(icu_normalizer_open_files(normalizer, bytes_of(data), strlen(data),
@@ -258,7 +265,7 @@ static void files(icu_normalizer *normalizer) {
 
 static void wrong_line(icu_normalizer *normalizer, const char *data, const char *exclusions, const char *lines,
     size_t place, uint32_t source, uint32_t reason) {
-    icu_normalizer_defect defect = {7, 7, 7};
+    icu_normalizer_defect defect = {7, 7, 7, 7, 7};
     EXPECT(unless_refused(icu_normalizer_open_files(normalizer, bytes_of(data), strlen(data), bytes_of(exclusions),
         strlen(exclusions), bytes_of(lines), strlen(lines), 0, &defect)) == ICU_NORMALIZER_WRONG_LINE);
     EXPECT(defect.place == place && defect.source == source && defect.reason == reason);
@@ -272,7 +279,7 @@ static void parts_of_files(icu_normalizer *normalizer) {
     wrong_line(normalizer, "", end, "", 1, ICU_NORMALIZER_UNICODE_DATA, 21);
     wrong_line(normalizer, end, end, "0000..0040 ; valid\n0042..10FFFF ; valid\n", 2,
         ICU_NORMALIZER_IDNA_MAPPING_TABLE, 22);
-    wrong_line(normalizer, end, end, "", 1, ICU_NORMALIZER_IDNA_MAPPING_TABLE, 23);
+    wrong_line(normalizer, end, end, "\n", 1, ICU_NORMALIZER_IDNA_MAPPING_TABLE, 23);
     wrong_line(normalizer, end, end, "0000..10FFFE ; valid\n", 1, ICU_NORMALIZER_IDNA_MAPPING_TABLE, 23);
     wrong_line(normalizer, "# 17.0.0\n# EOF\n", "# 18.0.0\n# EOF\n", "", 1, ICU_NORMALIZER_UNICODE_DATA, 24);
     wrong_line(normalizer, "# 18.0.0\n# EOF\n", "# 18.0.0\n# EOF\n", "#\n# 17.0.0\n0000..10FFFF ; valid\n", 2,
@@ -318,8 +325,49 @@ static void versions(void) {
     EXPECT(icu_normalizer_unicode_version(NULL, 0) == 0);
 }
 
+/* A file of prepared data, and why others are refused, and where. */
+static void prepared(icu_normalizer *normalizer, const char *directory) {
+    const char *text = "A\xCC\x88\xC2\xAD\xCC\xA3", *mapped = "\xE1\xBA\xA1\xCC\x88";
+    size_t length, number = 7;
+    uint8_t *bytes = file(directory, "small.prepared", &length), output[16];
+    icu_normalizer_defect defect = {7, 7, 7, 7, 7};
+    EXPECT(unless_refused(icu_normalizer_open_prepared(normalizer, bytes, length, &defect)) == ICU_NORMALIZER_OK);
+    EXPECT(is_defect(&defect, 7, 7, 7, 7, 7));
+    EXPECT(unless_refused(icu_normalizer_map_utf8(normalizer, bytes_of(text), strlen(text), output, 16, &number))
+        == ICU_NORMALIZER_OK);
+    EXPECT(number == strlen(mapped) && memcmp(output, mapped, number) == 0);
+    EXPECT(unless_refused(icu_normalizer_open_prepared(normalizer, bytes, length - 1, &defect))
+        == ICU_NORMALIZER_WRONG_PREPARED);
+    EXPECT(is_defect(&defect, 8, ICU_NORMALIZER_PREPARED, 27, ICU_NORMALIZER_NO_CHARACTER, 0));
+    EXPECT(unless_refused(icu_normalizer_open_prepared(normalizer, NULL, 0, &defect)) == ICU_NORMALIZER_WRONG_PREPARED);
+    EXPECT(is_defect(&defect, 0, ICU_NORMALIZER_PREPARED, 29, ICU_NORMALIZER_NO_CHARACTER, 0));
+    for (size_t place = 0; place < length; place++) {
+        const size_t offsets[] = {0, 4, 8, 12, 16, 12};
+        const uint32_t reasons[] = {25, 26, 27, 28, 28, 28};
+        size_t field = place < 20 ? place / 4 : 5;
+        bytes[place] ^= 64;
+        EXPECT(unless_refused(icu_normalizer_open_prepared(normalizer, bytes, length, &defect))
+            == ICU_NORMALIZER_WRONG_PREPARED);
+        EXPECT(is_defect(&defect, offsets[field], ICU_NORMALIZER_PREPARED, reasons[field],
+            ICU_NORMALIZER_NO_CHARACTER, 0));
+        bytes[place] ^= 64;
+    }
+    EXPECT(unless_refused(icu_normalizer_map_utf8(normalizer, bytes_of(text), strlen(text), output, 16, &number))
+        == ICU_NORMALIZER_OK && number == strlen(mapped));
+    free(bytes);
+}
+
+/* Without a table there is no mapper. */
+static void no_table(icu_normalizer *normalizer) {
+    icu_normalizer_defect defect = {7, 7, 7, 7, 7};
+    size_t number = 7;
+    EXPECT(unless_refused(icu_normalizer_open_files(normalizer, bytes_of(end), strlen(end), bytes_of(end), strlen(end),
+        NULL, 0, 0, &defect)) == ICU_NORMALIZER_OK);
+    EXPECT(icu_normalizer_map_utf8(normalizer, NULL, 0, NULL, 0, &number) == ICU_NORMALIZER_NO_MAPPER && number == 7);
+}
+
 int main(int count, char **words) {
-    if (count != 2) failed("calls DIRECTORY", __LINE__);
+    if (count != 3) failed("calls DIRECTORY TESTS", __LINE__);
     icu_normalizer normalizer = ICU_NORMALIZER_CLOSED;
     versions();
     closed(&normalizer);
@@ -349,11 +397,11 @@ int main(int count, char **words) {
     size_t number = 7;
     EXPECT(icu_normalizer_map_utf8(&normalizer, NULL, 0, NULL, 0, &number) == ICU_NORMALIZER_NO_MAPPER && number == 7);
     /* With a mapper. */
-    icu_normalizer_defect defect = {7, 7, 7};
+    icu_normalizer_defect defect = {7, 7, 7, 7, 7};
     status = icu_normalizer_open_files(&normalizer, data, data_length, exclusions, exclusions_length,
         (const uint8_t *)table, sizeof table - 1, 2, &defect);
     EXPECT(status == ICU_NORMALIZER_OK || status == ICU_NORMALIZER_OUT_OF_MEMORY);
-    EXPECT(defect.place == 7 && defect.source == 7 && defect.reason == 7);
+    EXPECT(is_defect(&defect, 7, 7, 7, 7, 7));
     utf8(&normalizer);
     if (status == ICU_NORMALIZER_OK) mapping(&normalizer);
     /* U+0041 mapped alone: the list of U+00C0 has it. */
@@ -363,7 +411,7 @@ int main(int count, char **words) {
             (const uint8_t *)mapped_alone, sizeof mapped_alone - 1, 0, &defect);
         EXPECT(status == ICU_NORMALIZER_WRONG_RECORDS || status == ICU_NORMALIZER_OUT_OF_MEMORY);
         if (status == ICU_NORMALIZER_WRONG_RECORDS)
-            EXPECT(defect.place == 8 && defect.source == ICU_NORMALIZER_ALL_RECORDS && defect.reason == 17);
+            EXPECT(is_defect(&defect, 3, ICU_NORMALIZER_IDNA_MAPPING_TABLE, 17, 0xC0, 8));
         mapping(&normalizer);
     }
     icu_normalizer other = ICU_NORMALIZER_CLOSED;
@@ -371,6 +419,8 @@ int main(int count, char **words) {
     parts_of_files(&other);
     closed(&other);
     records(&other);
+    no_table(&other);
+    prepared(&other, words[2]);
     icu_normalizer_close(&other);
     icu_normalizer_close(&normalizer);
     closed(&normalizer);

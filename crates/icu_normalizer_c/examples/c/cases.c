@@ -154,7 +154,7 @@ static void open_files(icu_normalizer *normalizer, const char *directory) {
     const uint8_t table[] =
         "0000..00AC ; valid\n00AD ; ignored\n00AE..0377 ; valid\n0378..0379 ; disallowed\n"
         "037A..24B5 ; valid\n24B6 ; mapped ; 0061\n24B7..10FFFF ; valid\n";
-    icu_normalizer_defect defect = {7, 7, 7};
+    icu_normalizer_defect defect = {7, 7, 7, 7, 7};
     for (enum side side = LAST; side <= FIRST; side++) {
         EXPECT(icu_normalizer_open_files(normalizer, placed(side, first, data, data_length), data_length,
             placed(side, second, exclusions, exclusions_length), exclusions_length,
@@ -175,7 +175,7 @@ static void open_records(void) {
     uint8_t *first = fenced(), *second = fenced(), *third = fenced();
     for (enum side side = LAST; side <= FIRST; side++) {
         icu_normalizer normalizer = ICU_NORMALIZER_CLOSED;
-        icu_normalizer_defect defect = {7, 7, 7};
+        icu_normalizer_defect defect = {7, 7, 7, 7, 7};
         const void *plain = placed(side, first, (const uint8_t *)records, sizeof records);
         const void *mapped = placed(side, second, (const uint8_t *)mapper_records, sizeof mapper_records);
         const uint32_t *points = (const void *)placed(side, third, (const uint8_t *)codes, sizeof codes);
@@ -194,7 +194,7 @@ static void open_records(void) {
 /* Each call at arrays of none, all of them null. */
 static void compare_empty(void) {
     icu_normalizer normalizer = ICU_NORMALIZER_CLOSED;
-    icu_normalizer_defect defect = {7, 7, 7};
+    icu_normalizer_defect defect = {7, 7, 7, 7, 7};
     const icu_normalizer_mapper_record one = {0, 0, 0xAD, ICU_NORMALIZER_IGNORED};
     EXPECT(icu_normalizer_open_unicode_data(&normalizer, NULL, 0, NULL, 0) == ICU_NORMALIZER_WRONG_LINE);
     EXPECT(icu_normalizer_open_files(&normalizer, NULL, 0, NULL, 0, NULL, 0, 0, &defect) == ICU_NORMALIZER_WRONG_LINE);
@@ -225,7 +225,7 @@ static void compare_mapped(void) {
     static const uint8_t text[] = "\xE2\x92\xB6\xC2\xAD\xCC\x88\xCD\xB8", mapped[] = "\xC3\xA4\xEF\xBF\xBD";
     static const uint16_t units[] = {0x24B6, 0xAD, 0x308, 0x378}, wide[] = {0xE4, 0xFFFD};
     icu_normalizer normalizer = ICU_NORMALIZER_CLOSED;
-    icu_normalizer_defect defect = {7, 7, 7};
+    icu_normalizer_defect defect = {7, 7, 7, 7, 7};
     EXPECT(icu_normalizer_open_files(&normalizer, (const uint8_t *)data, sizeof data - 1,
         (const uint8_t *)exclusions, sizeof exclusions - 1, (const uint8_t *)table, sizeof table - 1, 2, &defect)
         == ICU_NORMALIZER_OK);

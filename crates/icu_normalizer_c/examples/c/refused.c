@@ -89,7 +89,7 @@ static void calls(icu_normalizer *normalizer) {
 
 static void run(void) {
     icu_normalizer normalizer = ICU_NORMALIZER_CLOSED;
-    icu_normalizer_defect defect = {7, 7, 7};
+    icu_normalizer_defect defect = {7, 7, 7, 7, 7};
     const uint32_t codes[] = {0x61, 0x308};
     const icu_normalizer_record records[] = {
         {0, 2, 0xE4, 0, false, false}, {0, 0, 0x308, 230, false, false}, {0, 0, 0x323, 220, false, false}};

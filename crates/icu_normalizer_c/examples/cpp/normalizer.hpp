@@ -27,9 +27,15 @@ public:
         auto status = icu_normalizer_open_files(&handle, units<uint8_t>(unicode_data), unicode_data.size(),
             units<uint8_t>(exclusions), exclusions.size(), units<uint8_t>(idna_table), idna_table.size(),
             disallowed_limit, &defect);
-        if (status == ICU_NORMALIZER_WRONG_LINE || status == ICU_NORMALIZER_WRONG_RECORDS)
-            throw std::runtime_error(std::to_string(defect.place) + ": " + icu_normalizer_reason_text(defect.reason));
-        check(status);
+        check(status, defect);
+    }
+
+    // By the bytes of a file of prepared data.
+    static Normalizer prepared(std::string_view content) {
+        Normalizer made;
+        icu_normalizer_defect defect = {};
+        check(icu_normalizer_open_prepared(&made.handle, units<uint8_t>(content), content.size(), &defect), defect);
+        return made;
     }
 
     Normalizer(Normalizer &&other) noexcept : handle(other.handle) {
@@ -117,6 +123,13 @@ private:
     static void check(icu_normalizer_status status) {
         if (status == ICU_NORMALIZER_OUT_OF_MEMORY) throw std::bad_alloc();
         if (status != ICU_NORMALIZER_OK) throw std::runtime_error(icu_normalizer_status_text(status));
+    }
+
+    static void check(icu_normalizer_status status, const icu_normalizer_defect &defect) {
+        if (status == ICU_NORMALIZER_WRONG_LINE || status == ICU_NORMALIZER_WRONG_RECORDS
+            || status == ICU_NORMALIZER_WRONG_PREPARED)
+            throw std::runtime_error(std::to_string(defect.place) + ": " + icu_normalizer_reason_text(defect.reason));
+        check(status);
     }
 
     template <class Unit, class Text> static const Unit *units(Text text) {

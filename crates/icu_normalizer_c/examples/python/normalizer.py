@@ -3,7 +3,7 @@ import ctypes
 from enum import IntEnum
 
 OK, BUFFER_TOO_SMALL, OUT_OF_MEMORY, UNKNOWN_FORM, NOT_OPEN = range(5)
-WRONG_LINE, WRONG_RECORDS, NO_MAPPER, WRONG_RECORD, IN_USE = range(5, 10)
+WRONG_LINE, WRONG_RECORDS, NO_MAPPER, WRONG_RECORD, IN_USE, WRONG_PREPARED = range(5, 11)
 TEXTS = {
     UNKNOWN_FORM: "no form has this number",
     NOT_OPEN: "the normalizer isn't open",
@@ -12,6 +12,7 @@ TEXTS = {
     NO_MAPPER: "the normalizer has no mapper",
     WRONG_RECORD: "a record is wrong",
     IN_USE: "another call uses the normalizer",
+    WRONG_PREPARED: "the file of prepared data is wrong",
 }
 
 
@@ -38,7 +39,13 @@ class Mismatch(ctypes.Structure):
 
 
 class _Defect(ctypes.Structure):
-    _fields_ = [("place", ctypes.c_size_t), ("source", ctypes.c_uint32), ("reason", ctypes.c_uint32)]
+    _fields_ = [
+        ("place", ctypes.c_size_t),
+        ("source", ctypes.c_uint32),
+        ("reason", ctypes.c_uint32),
+        ("character", ctypes.c_uint32),
+        ("condition", ctypes.c_uint32),
+    ]
 
 
 FILES = ("UnicodeData.txt", "CompositionExclusions.txt", "IdnaMappingTable.txt")
@@ -50,7 +57,9 @@ def _check(status, defect=None):
     if status == WRONG_LINE and defect:
         raise ValueError(f"{FILES[defect.source]}:{defect.place}: {TEXTS[status]}")
     if status == WRONG_RECORDS and defect:
-        raise ValueError(f"{TEXTS[status]}: reason {defect.reason}, condition {defect.place}")
+        raise ValueError(f"{TEXTS[status]}: U+{defect.character:04X}, reason {defect.reason}")
+    if status == WRONG_PREPARED and defect:
+        raise ValueError(f"{TEXTS[status]} at byte {defect.place}: reason {defect.reason}")
     if status != OK:
         raise ValueError(TEXTS[status])
 
@@ -74,6 +83,17 @@ class Normalizer:
             ctypes.byref(self._handle), *files, ctypes.c_uint32(disallowed_limit), ctypes.byref(defect)
         )
         _check(opened, defect)
+
+    @classmethod
+    def prepared(cls, library, content):
+        """Normalizers by the bytes of a file of prepared data."""
+        it, defect = cls.__new__(cls), _Defect()
+        it._calls, it._handle = ctypes.CDLL(library), _Handle()
+        opened = it._calls.icu_normalizer_open_prepared(
+            ctypes.byref(it._handle), *_array(content), ctypes.byref(defect)
+        )
+        _check(opened, defect)
+        return it
 
     def close(self):
         self._calls.icu_normalizer_close(ctypes.byref(self._handle))

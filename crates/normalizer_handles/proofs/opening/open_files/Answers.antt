@@ -1,8 +1,10 @@
 use Rattle.std.proofs.Common.{rules}
+use Rattle.normalizer_handles.specs.Opening.{lines_of}
 use Rattle.normalizer_handles.proofs.OpeningLemmas.{opens-both}
 use Rattle.normalizer_handles.proofs.opening.open_files.Goals as goal
 
 pub returns : goal.returns
 returns c =
-    opens-both _ _ c.in_ok-records.records.items c.in_ok-mapper.mapper.items c.in_ok-records.ensures c.in_ok-mapper.ensures _ _ _
+    opens-both (lines_of c.args.unicode_data.now c.args.idna_table.now) _ _ c.in_ok-records.records.items
+    c.in_ok-mapper.mapper.items c.in_ok-records.ensures c.in_ok-mapper.ensures _ _ _
     (search rules) (rw (c.deref.ensures.value, c.deref-2.ensures.value) at c.open.ensures)

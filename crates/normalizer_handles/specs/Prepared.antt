@@ -1,0 +1,59 @@
+-- What a handle is opened by if that is a file of prepared data, and why it isn't.
+use Rattle.std.specs.Prelude.{◌≡◌, ◌≢◌, ◌⊎◌, ℕ, List, [], ◌∷◌, ⊤, Some, Ok}
+use Rattle.icu_normalizer.specs.DataError.{DataError}
+use Rattle.icu_normalizer.specs.Forms.{MadeForm}
+use Rattle.icu_normalizer.specs.HeldForms.{held_for_forms, HeldForForms, IsMadeOf, RefusesForm, RefusesMapper}
+use Rattle.icu_normalizer.specs.Kind.TheVariants.{Mapper}
+use Rattle.icu_normalizer.specs.Packed.{Packed}
+use Rattle.icu_normalizer.specs.ReadBack.{characters_of}
+use Rattle.icu_normalizer.specs.declared.any_normalizer.NormalForm.{NormalForm}
+use Rattle.icu_normalizer.specs.declared.any_normalizer.NormalForm.TheVariants.{Nfd, Nfc, Nfkd, Nfkc}
+use Rattle.normalizer_prepared.specs.Files.{IsFirstFault}
+use Rattle.normalizer_prepared.specs.Prepared.{prepared_bytes, Fits}
+use Rattle.normalizer_prepared.specs.declared.fault.PreparedError.TheVariants.{Wrong}
+use Rattle.normalizer_handles.specs.declared.fault.Fault.{Fault}
+use Rattle.normalizer_handles.specs.declared.fault.Fault.TheVariants.{Memory, Prepared, Unfit}
+use Rattle.normalizer_handles.specs.declared.normalizers.Normalizers.{Normalizers}
+use Rattle.normalizer_handles.specs.Made.{MakeOver, MapOver}
+use Rattle.normalizer_handles.specs.Status.{fault_of_data}
+
+-- the bytes are the file of these data
+abbrev pub IsFileOf : List ℕ → Packed → Type 0
+IsFileOf bytes p = Fits p × (bytes ≡ prepared_bytes p)
+
+-- the normalizers are by the data whose file the bytes are
+abbrev pub AreOfFile : List ℕ → Normalizers → Type 0
+AreOfFile bytes n = (p : Packed) × IsFileOf bytes p × MakeOver n p × MapOver n.mapper p
+
+-- what packed data hold for the forms
+abbrev pub held_by : Packed → HeldForForms
+held_by p =
+    held_for_forms (Some p.canonical) (Some p.tables) (Some p.compatibility) (Some p.supplementary_tables)
+    (Some p.compositions)
+
+-- the data meet the conditions for the form
+abbrev pub Serves : Packed → NormalForm → Type 0
+Serves p form = (m : MadeForm) × IsMadeOf form (held_by p) m
+
+-- the error is of the first of the forms whose conditions the data don't meet
+abbrev pub RefusesFirst : Packed → List NormalForm → DataError → Type 0
+RefusesFirst p [] e = ⊥
+RefusesFirst p (form ∷ forms) e = RefusesForm form (held_by p) e ⊎ (Serves p form × RefusesFirst p forms e)
+
+abbrev pub forms : List NormalForm
+forms = Nfd ∷ Nfc ∷ Nfkd ∷ Nfkc ∷ []
+
+-- the error is of the first of the forms, or else of the mapper if its data aren't the canonical ones
+abbrev pub Refuses : Packed → DataError → Type 0
+Refuses p e =
+    RefusesFirst p forms e
+    ⊎ (((form : NormalForm) → Serves p form) × (p.mapper ≢ p.canonical)
+    × RefusesMapper (Ok (characters_of p Mapper, p.compositions)) e)
+
+-- why nothing is opened: the first fault of the bytes, or the condition that their data break, or memory was refused
+abbrev pub IsFaultOfFile : List ℕ → Fault → Type 0
+IsFaultOfFile bytes Memory = ⊤
+IsFaultOfFile bytes (Prepared fault offset) = IsFirstFault bytes (Wrong fault offset)
+IsFaultOfFile bytes (Unfit condition) =
+    (p : Packed) × (e : DataError) × IsFileOf bytes p × Refuses p e × (fault_of_data e ≡ Unfit condition)
+IsFaultOfFile bytes fault = ⊥
