@@ -23,12 +23,12 @@ pub record Fills {X : Type 0} (units before after : List X) (count_before count 
 abbrev pub LeavesAll : {X : Type 0} → (units before after : List X) → Result ⊤ Fault → Type 0
 LeavesAll units before after outcome = OnErr outcome (after ≡ before)
 
--- a beginning of the units overwrote the front of the buffer, as far as there is room for it
+-- a beginning of the units overwrote the beginning of the buffer, as far as there is room for it
 abbrev pub HasBeginning : {X : Type 0} → (units before after : List X) → Type 0
 HasBeginning {X} units before after =
     (front : List X) × (rest : List X) × (units ≡ front ++ rest) × (after ≡ overwritten before front)
 
--- After a fault the front of the buffer has a beginning of the units, and the rest is unchanged. If only room was
+-- After a fault the beginning of the buffer has a beginning of the units, and the rest is unchanged. If only room was
 -- missing, the buffer is full.
 pub record LeavesBeginning {X : Type 0} (units before after : List X) (outcome : Result ⊤ Fault) : Type 0 where
   pub full : IsErrOf outcome BufferTooSmall → after ≡ take (length before) units

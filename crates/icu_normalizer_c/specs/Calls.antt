@@ -57,7 +57,7 @@ WritesForm e input before after count_before count m outcome =
 
 -- The encoded form of the input overwrote the front of the buffer, as far as there is room, and the number of its units
 -- was returned, or the greatest number of 64 bits if it has more. `Memory` is the only error, and never comes over short
--- runs. After it a beginning of the form overwrote the front.
+-- runs. After it a beginning of the form overwrote the beginning.
 pub record Overwrites (m : MadeForm) (e : Encoding) (input before after : List ℕ) (result : Result ℕ NormalizeError)
     : Type 0 where
   pub form : OnOk result (after ≡ overwritten before (encoded_form e m.reading m.form input))

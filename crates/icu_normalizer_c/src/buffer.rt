@@ -5,7 +5,7 @@ ghost use Rattle.normalizer_handles.specs.declared.fault.Fault.TheVariants.{Buff
 
 use normalizer_handles::Fault;
 
-/// Writes units to the front of a buffer, if there is room for all of them. Says how many there are.
+/// Writes units to the beginning of a buffer, if there is room for all of them. Says how many there are.
 pub(crate) fn fill<T: Copy>(units: &[T], output: &mut [T], needed: &mut usize) -> Result<(), Fault>
     ensures fills { Fills units.now output.old output.new needed.old needed.new result }
     ensures left { LeavesAll units.now output.old output.new result }

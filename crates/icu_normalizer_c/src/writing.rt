@@ -106,7 +106,7 @@ fn report_count(count: usize, room: usize, needed: &mut usize) -> Result<(), Fau
     Ok(())
 }
 
-/// Overwrites the front of a buffer with the form, as far as there is room, and returns how many units that has, or
+/// Overwrites the beginning of a buffer with the form, as far as there is room, and returns how many units that has, or
 /// `usize::MAX` if it has more.
 fn overwrite_utf8(
     normalizer: &AnyNormalizerBorrowed<'_>,
@@ -122,7 +122,7 @@ fn overwrite_utf8(
     Ok(count)
 }
 
-/// Overwrites the front of a buffer with the form, as far as there is room, and returns how many units that has, or
+/// Overwrites the beginning of a buffer with the form, as far as there is room, and returns how many units that has, or
 /// `usize::MAX` if it has more.
 fn overwrite_utf16(
     normalizer: &AnyNormalizerBorrowed<'_>,
@@ -142,7 +142,7 @@ fn overwrite_utf16(
 ///
 /// # Errors
 /// `NotOpen`, `InUse`, `UnknownForm`, `Memory`, which never comes over short runs, or `BufferTooSmall`, after which
-/// `needed` is how many units the form has. After the last two the front of `output` has a beginning of the form.
+/// `needed` is how many units the form has. After the last two the beginning of `output` has a beginning of the form.
 #[unsafe(no_mangle)]
 pub extern "C" fn icu_normalizer_normalize_utf8_nonnull(
     alloc: Global,
@@ -164,7 +164,7 @@ pub extern "C" fn icu_normalizer_normalize_utf8_nonnull(
 ///
 /// # Errors
 /// `NotOpen`, `InUse`, `UnknownForm`, `Memory`, which never comes over short runs, or `BufferTooSmall`, after which
-/// `needed` is how many units the form has. After the last two the front of `output` has a beginning of the form.
+/// `needed` is how many units the form has. After the last two the beginning of `output` has a beginning of the form.
 #[unsafe(no_mangle)]
 pub extern "C" fn icu_normalizer_normalize_utf16_nonnull(
     alloc: Global,

@@ -16,7 +16,7 @@ pub record ShowsDifference (d : Reading) (x : List ℕ) (o : Offence) : Type 0 w
   pub place : o.place ≡ length (encode_utf8_all front)
   pub differ : o.found ≢ o.wanted
 
--- a report says what differs, or that memory was refused
+-- a report says what differs, or that memory ran out
 abbrev pub Reports : Reading → List ℕ → Refusal → Type 0
 Reports d x (Differs o) = ShowsDifference d x o
 Reports d x Memory = ⊤

@@ -17,9 +17,9 @@ use std::alloc::Global;
 /// Why a file of prepared data yielded no normal form.
 #[derive(Clone, Copy, Debug, PartialEq, Eq)]
 pub enum PreparedFault {
-    /// The file has a fault, or memory was refused.
+    /// The file has a fault, or memory ran out.
     File(PreparedError),
-    /// Its data break a condition, or memory was refused.
+    /// Its data break a condition, or memory ran out.
     Data(DataError),
 }
 

@@ -51,7 +51,7 @@ pub fn form_by_records(
 /// Returns the composing pairs of built data.
 ///
 /// # Errors
-/// `Memory` if an allocation was refused.
+/// `Memory` if an allocation failed.
 pub fn built_composition(built: &Built) -> Result<CanonicalComposition, DataError>
     requires { AreBuilt (data_in built.now) }
     ensures held { IfOk result (λ c. properties.pairs_of c ≡ (data_in built.now).compositions) }
@@ -64,7 +64,7 @@ pub fn built_composition(built: &Built) -> Result<CanonicalComposition, DataErro
 /// Returns the canonical combining classes of built data.
 ///
 /// # Errors
-/// `Memory` if an allocation was refused.
+/// `Memory` if an allocation failed.
 pub fn built_combining_classes(built: &Built) -> Result<CanonicalCombiningClassMap, DataError>
     requires { AreBuilt (data_in built.now) }
     ensures held { IfOk result (λ m. properties.classes_of m ≡ (data_in built.now).canonical) }
@@ -78,7 +78,7 @@ pub fn built_combining_classes(built: &Built) -> Result<CanonicalCombiningClassM
 /// Returns single canonical decomposition steps of built data.
 ///
 /// # Errors
-/// `Memory` if an allocation was refused.
+/// `Memory` if an allocation failed.
 pub fn built_decomposition(built: &Built) -> Result<CanonicalDecomposition, DataError>
     requires { AreBuilt (data_in built.now) }
     ensures held { IfOk result (λ d. properties.steps_of d ≡

@@ -11,9 +11,9 @@ use std::alloc::Global;
 /// Why Unicode's files yielded no normal form.
 #[derive(Clone, Copy, Debug, PartialEq, Eq)]
 pub enum UnicodeFault {
-    /// A line of a file is wrong, or memory was refused.
+    /// A line of a file is wrong, or memory ran out.
     File(UcdError),
-    /// The records can't be built, or memory was refused.
+    /// The records can't be built, or memory ran out.
     Records(BuildError),
 }
 

@@ -12,7 +12,7 @@ use icu_normalizer::{ComposingNormalizerBorrowed, NormalizeError};
 /// canonical order.
 ///
 /// # Errors
-/// `Memory` if an allocation was refused.
+/// `Memory` if an allocation failed.
 pub fn composed_pair(
     normalizer: &ComposingNormalizerBorrowed<'_>,
     first: char,

@@ -10,7 +10,7 @@ use std::alloc::Global;
 /// rest is normalized: if `text` is already normalized, a little of its end and `more`.
 ///
 /// # Errors
-/// `Memory` if an allocation was refused.
+/// `Memory` if an allocation failed.
 pub fn appended(
     alloc: Global,
     normalizer: &ComposingNormalizerBorrowed<'_>,

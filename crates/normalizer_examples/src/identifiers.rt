@@ -8,10 +8,10 @@ ghost use Rattle.icu_normalizer.specs.Forms.{composed_by};
 
 use icu_normalizer::{ComposingNormalizerBorrowed, NormalizeError};
 
-/// Returns whether a text is an identifier: exactly if it is already in its composed form.
+/// Returns whether a text is an identifier: if and only if it is already in its composed form.
 ///
 /// # Errors
-/// `Memory` if an allocation was refused.
+/// `Memory` if an allocation failed.
 pub fn is_identifier(
     normalizer: &ComposingNormalizerBorrowed<'_>,
     text: &str,
@@ -26,7 +26,7 @@ pub fn is_identifier(
 /// Returns bytes as an identifier, if they are well-formed and already in their composed form.
 ///
 /// # Errors
-/// `Memory` if an allocation was refused.
+/// `Memory` if an allocation failed.
 pub fn identifier_of_bytes<'t>(
     normalizer: &ComposingNormalizerBorrowed<'_>,
     bytes: &'t [u8],

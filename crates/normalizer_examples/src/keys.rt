@@ -5,10 +5,10 @@ ghost use Rattle.icu_normalizer.specs.Forms.{composed_by};
 
 use icu_normalizer::{ComposingNormalizerBorrowed, NormalizeError};
 
-/// Returns whether two texts have the same key, their composed form: exactly if they are equivalent.
+/// Returns whether two texts have the same key, their composed form: if and only if they are equivalent.
 ///
 /// # Errors
-/// `Memory` if an allocation was refused.
+/// `Memory` if an allocation failed.
 pub fn have_one_key(
     normalizer: &ComposingNormalizerBorrowed<'_>,
     text: &str,

@@ -10,7 +10,7 @@ use std::alloc::Global;
 /// Returns the mapped text, if that is a label.
 ///
 /// # Errors
-/// `Memory` if an allocation was refused.
+/// `Memory` if an allocation failed.
 pub fn label(
     alloc: Global,
     mapper: &Uts46MapperBorrowed<'_>,
@@ -32,7 +32,7 @@ pub fn label(
 /// Returns whether mapped text is a label: it has no U+FFFD, and validation leaves it unchanged.
 ///
 /// # Errors
-/// `Memory` if an allocation was refused.
+/// `Memory` if an allocation failed.
 pub fn is_label(
     alloc: Global,
     mapper: &Uts46MapperBorrowed<'_>,

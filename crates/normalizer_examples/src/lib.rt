@@ -54,7 +54,7 @@ use std::alloc::Global;
 /// Returns the NFD of the text that bytes decode to.
 ///
 /// # Errors
-/// `Memory` if an allocation was refused.
+/// `Memory` if an allocation failed.
 pub fn nfd_of_bytes(
     alloc: Global,
     normalizer: &DecomposingNormalizerBorrowed<'_>,
@@ -70,7 +70,7 @@ pub fn nfd_of_bytes(
 /// Returns the NFD of a text.
 ///
 /// # Errors
-/// `Memory` if an allocation was refused.
+/// `Memory` if an allocation failed.
 pub fn nfd_of_text(
     alloc: Global,
     normalizer: &DecomposingNormalizerBorrowed<'_>,
@@ -86,7 +86,7 @@ pub fn nfd_of_text(
 /// Returns the NFD of the text that bytes decode to, using data that are checked once and then borrowed.
 ///
 /// # Errors
-/// The first condition that the data break, or `Memory` if an allocation was refused.
+/// The first condition that the data break, or `Memory` if an allocation failed.
 pub fn nfd_by_data(
     alloc: Global,
     decompositions: &DecompositionData,
@@ -110,7 +110,7 @@ pub fn nfd_by_data(
 /// Returns the NFC of the text that bytes decode to.
 ///
 /// # Errors
-/// `Memory` if an allocation was refused.
+/// `Memory` if an allocation failed.
 pub fn nfc_of_bytes(
     alloc: Global,
     normalizer: &ComposingNormalizerBorrowed<'_>,
@@ -127,7 +127,7 @@ pub fn nfc_of_bytes(
 /// Returns the NFD of whatever an iterator of characters yields.
 ///
 /// # Errors
-/// `Memory` if an allocation was refused.
+/// `Memory` if an allocation failed.
 pub fn nfd_of_characters<I: Iterator<Item = char> + Drop>(
     alloc: Global,
     normalizer: &DecomposingNormalizerBorrowed<'_>,
@@ -145,7 +145,7 @@ pub fn nfd_of_characters<I: Iterator<Item = char> + Drop>(
 /// Returns the NFC of whatever an iterator of characters yields.
 ///
 /// # Errors
-/// `Memory` if an allocation was refused.
+/// `Memory` if an allocation failed.
 pub fn nfc_of_characters<I: Iterator<Item = char> + Drop>(
     alloc: Global,
     normalizer: &ComposingNormalizerBorrowed<'_>,
@@ -193,7 +193,7 @@ where
 /// Returns the last character of the NFD of the text that bytes decode to.
 ///
 /// # Errors
-/// `Memory` if an allocation was refused. None is made if the text has short runs.
+/// `Memory` if an allocation failed. None is made if the text has short runs.
 pub fn last_of_nfd(
     normalizer: &DecomposingNormalizerBorrowed<'_>,
     bytes: &[u8],

@@ -19,7 +19,7 @@ pub enum Refusal {
 /// Returns the text, if it is already in its composed form.
 ///
 /// # Errors
-/// The first mismatch if it isn't, or `Memory` if an allocation was refused.
+/// The first mismatch if it isn't, or `Memory` if an allocation failed.
 pub fn in_form<'t>(
     normalizer: &ComposingNormalizerBorrowed<'_>,
     text: &'t str,

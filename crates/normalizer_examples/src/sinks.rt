@@ -70,7 +70,7 @@ pub fn nfc_units(
 /// Writes the NFD of a text to a sink that can't fail.
 ///
 /// # Errors
-/// `Memory` if an allocation was refused. `Sink` is never returned.
+/// `Memory` if an allocation failed. `Sink` is never returned.
 pub fn nfd_without_faults<W: Write>(
     normalizer: &DecomposingNormalizerBorrowed<'_>,
     text: &str,
@@ -85,7 +85,7 @@ pub fn nfd_without_faults<W: Write>(
 /// Writes the NFD of a text to a sink, and after it the NFD of another text.
 ///
 /// # Errors
-/// `Sink` if the sink refused a call, `Memory` if an allocation was refused. A part of the forms may have been written.
+/// `Sink` if the sink refused a call, `Memory` if an allocation failed. A part of the forms may have been written.
 pub fn nfd_of_both<W: Write>(
     normalizer: &DecomposingNormalizerBorrowed<'_>,
     text: &str,

@@ -29,7 +29,7 @@ IsNumbered n number m = (form : NormalForm) × (number ≡ number_of form) × (m
 abbrev pub MakeBy : Normalizers → List RecordValue → Type 0
 MakeBy n records = (form : NormalForm) → IsRecordedForm records form (made_in n form)
 
--- there is a mapper exactly if it has records. Every text is mapped, in either way, by what the records mean.
+-- there is a mapper if and only if it has records. Every text is mapped, in either way, by what the records mean.
 abbrev pub MapBy : Option Uts46Mapper → List RecordValue → List Uts46RecordValue → Type 0
 MapBy None records mapper = mapper ≡ []
 MapBy (Some m) records mapper = (mapper ≢ []) × MapsByRecords records mapper (mapper_data_of m)
@@ -43,7 +43,7 @@ AreReadBy records mapper n =
 abbrev pub MakeOver : Normalizers → Packed → Type 0
 MakeOver n p = (form : NormalForm) → made_in n form ≡ packed_form p form
 
--- there is a mapper exactly if its data aren't the canonical ones, and it is by its data
+-- there is a mapper if and only if its data aren't the canonical ones, and it is by its data
 abbrev pub MapOver : Option Uts46Mapper → Packed → Type 0
 MapOver None p = p.mapper ≡ p.canonical
 MapOver (Some m) p = (p.mapper ≢ p.canonical) × (mapper_data_of m ≡ (characters_of p Mapper, p.compositions))

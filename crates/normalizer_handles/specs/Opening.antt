@@ -20,7 +20,7 @@ use Rattle.normalizer_handles.specs.declared.fault.RecordsFault.{RecordsFault}
 use Rattle.normalizer_handles.specs.declared.normalizers.Normalizers.{Normalizers}
 use Rattle.normalizer_handles.specs.Made.{MakeBy, MapBy}
 
--- what was returned, through `view`, is what reading yields, unless memory was refused
+-- what was returned, through `view`, is what reading yields, unless memory ran out
 abbrev pub Reads : {X Y : Type 0} → (X → Y) → Result X Fault → Result Y Fault → Type 0
 Reads view (Ok x) read = read ≡ Ok (view x)
 Reads view (Err fault) read = (fault ≡ Memory) ⊎ (read ≡ Err fault)
@@ -81,7 +81,7 @@ IsBuildFault places records mapper Memory = ⊤
 IsBuildFault places records mapper (Records f) = IsRecordsFault places records mapper f
 IsBuildFault places records mapper fault = ⊥
 
--- why nothing is opened by a source: its own fault, or that of building, or memory was refused
+-- why nothing is opened by a source: its own fault, or that of building, or memory ran out
 abbrev pub IsFaultOf : Places → Source → Fault → Type 0
 IsFaultOf places (Ok source) fault = IsBuildFault places source.0 source.1 fault
 IsFaultOf places (Err own) fault = (fault ≡ Memory) ⊎ (fault ≡ own)

@@ -23,7 +23,7 @@ abbrev pub is_no_mapping : Option (List ℕ) → Bool
 is_no_mapping None = true
 is_no_mapping (Some mapping) = not (are_characters mapping)
 
--- a code point that is no character, or a mapping that isn't characters of the array
+-- a code point that isn't a character, or a mapping that isn't characters of the array
 abbrev pub is_wrong_part : List ℕ → (code start count : ℕ) → Bool
 is_wrong_part codes code start count = not (is_scalar_value code) || is_no_mapping (part_of codes start count)
 

@@ -50,7 +50,7 @@ Refuses p e =
     ⊎ (((form : NormalForm) → Serves p form) × (p.mapper ≢ p.canonical)
     × RefusesMapper (Ok (characters_of p Mapper, p.compositions)) e)
 
--- why nothing is opened: the first fault of the bytes, or the condition that their data break, or memory was refused
+-- why nothing is opened: the first fault of the bytes, or the condition that their data break, or memory ran out
 abbrev pub IsFaultOfFile : List ℕ → Fault → Type 0
 IsFaultOfFile bytes Memory = ⊤
 IsFaultOfFile bytes (Prepared fault offset) = IsFirstFault bytes (Wrong fault offset)

@@ -12,7 +12,7 @@ use std::alloc::{AllocError, AllocFailed};
 pub enum Fault {
     /// The buffer is too small for what is written.
     BufferTooSmall,
-    /// An allocation was refused.
+    /// An allocation failed.
     Memory,
     /// No form has this number.
     UnknownForm,

@@ -175,7 +175,7 @@ fn are_characters(codes: &[u32]) -> bool
     codes.iter().all(|code| char::from_u32(*code).is_some())
 }
 
-/// Returns whether a code point is no character, or its mapping isn't characters of the array.
+/// Returns whether a code point isn't a character, or its mapping isn't characters of the array.
 fn is_wrong_part(codes: &[u32], code: u32, start: usize, length: usize) -> bool
     ensures { result ≡ is_wrong_part codes.now code start length }
 {

@@ -26,7 +26,7 @@ abbrev pub Fails : {Y : Type 0} → ReadError → Result Y Wrong → Type 0
 Fails errors.Memory read = Unit {0}
 Fails (errors.Wrong fault left) read = read ≡ Err (fault, left)
 
--- what a function returns, seen by `view`, is what reading returns, unless memory is refused
+-- what a function returns, seen by `view`, is what reading returns, unless memory ran out
 abbrev pub Gives : {X Y : Type 0} → (X → Y) → Result X ReadError → Result Y Wrong → Type 0
 Gives view (Ok x) read = read ≡ Ok (view x)
 Gives view (Err e) read = Fails e read

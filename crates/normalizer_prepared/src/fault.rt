@@ -48,7 +48,7 @@ pub enum PreparedError {
         /// How many bytes are before it.
         offset: usize,
     },
-    /// An allocation was refused.
+    /// An allocation failed.
     #[error("out of memory")]
     Memory,
 }
@@ -58,7 +58,7 @@ pub enum PreparedError {
 pub(crate) enum ReadError {
     /// A fault, and how many bytes are left where it is.
     Wrong(Fault, usize),
-    /// An allocation was refused.
+    /// An allocation failed.
     Memory,
 }
 

@@ -33,7 +33,7 @@ use std::alloc::{AllocError, Global};
 /// files.
 ///
 /// # Errors
-/// `Memory` if an allocation was refused.
+/// `Memory` if an allocation failed.
 #[tactic(auto, using(crate::proofs::decoding::FitLemmas::built_fits))]
 pub fn prepared_data(alloc: Global, built: &Built) -> Result<Vec<u8>, DataError>
     ensures bytes { IfOk result (λ v. v.items ≡ prepared_bytes (data_in built.now)) }

@@ -90,7 +90,7 @@ impl DataProvider<NormalizerNfdSupplementV1> for PreparedData {
     }
 }
 
-/// A copy of what is held, unless memory was refused.
+/// A copy of what is held, unless memory ran out.
 fn loaded<T>(copy: Result<T, AllocError>) -> Result<T, DataError>
     ensures ok { IfOk result (λ d. copy ≡ Ok d) }
     ensures refused { IfErr result (λ e. e ≡ Memory) }

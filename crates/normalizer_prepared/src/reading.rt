@@ -23,12 +23,12 @@ impl PreparedData {
     /// Constructors check what the data say, as they check any provider's.
     ///
     /// # Errors
-    /// The first fault with its offset, or `Memory` if an allocation was refused.
+    /// The first fault with its offset, or `Memory` if an allocation failed.
     pub fn read(alloc: Global, bytes: &[u8]) -> Result<PreparedData, PreparedError>
         // What is read has these bytes.
         ensures found { IfOk result (λ d. Fits (prepared_in d) × (bytes.now ≡ prepared_bytes (prepared_in d))) }
 
-        // What has these bytes is read, unless memory is refused.
+        // What has these bytes is read, unless memory ran out.
         ensures only { (p : Packed) → Fits p → bytes.now ≡ prepared_bytes p →
             IfOk result (λ d. prepared_in d ≡ p) × IsOkUnless result PreparedError.Memory }
 

@@ -6,7 +6,7 @@ use std::alloc::{AllocError, Global};
 /// How many bytes are before the data.
 pub(crate) const HEADER: usize = 20;
 
-/// The file of the records of U+00E4 and U+0308, or an empty one if memory was refused.
+/// The file of the records of U+00E4 and U+0308, or an empty one if memory ran out.
 pub(crate) fn small_file(alloc: Global) -> Vec<u8> {
     built_file(alloc).unwrap_or(Vec::new(alloc))
 }

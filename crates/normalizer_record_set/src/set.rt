@@ -12,7 +12,7 @@ use std::alloc::{AllocError, Global};
 /// Returns the records of the set, a record for each row.
 ///
 /// # Errors
-/// [`AllocError`] if an allocation was refused.
+/// [`AllocError`] if an allocation failed.
 pub fn records(alloc: Global) -> Result<Vec<Record>, AllocError>
     ensures { IfOk result (λ v. v.items ≡ map (λ row. entry_of row.0 row.1 row.2.now row.3) ROWS) }
 {
@@ -63,7 +63,7 @@ fn is_excluded(kind: Kind) -> bool
 /// Returns the records of the mapper, a record for each row.
 ///
 /// # Errors
-/// [`AllocError`] if an allocation was refused.
+/// [`AllocError`] if an allocation failed.
 pub fn mapper_records(alloc: Global) -> Result<Vec<Uts46Record>, AllocError>
     ensures { IfOk result (λ v. v.items ≡ map (λ row. mapper_entry_of row.0 row.1.now row.2) MAPPER_ROWS) }
 {

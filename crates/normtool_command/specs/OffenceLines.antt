@@ -12,7 +12,7 @@ line_feed = 0x0A
 abbrev pub space : ℕ
 space = 0x20
 
--- lower-case hexadecimal digits, at least four with zeros in front
+-- lower-case hexadecimal digits, at least four with zeros at the beginning
 abbrev pub code_point_digits : ℕ → List ℕ
 code_point_digits c = let shown = digits 16 false c in replicate (4 - length shown) 0x30 ++ shown
 

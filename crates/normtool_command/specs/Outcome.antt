@@ -21,7 +21,7 @@ pub record Replies (command : Command) (held : Held) (left : Option (List ℕ)) 
   pub reply : IsReply work input answer output
 
 -- By what a provider holds, the bytes that were left in the source, and the bytes that the target took before and
--- after: the command's output was written, and its result returned; or a beginning of it, and a write was refused; or
+-- after: the command's output was written, and its result returned; or a beginning of it, and a write failed; or
 -- the data, a read or memory are why there is no result.
 abbrev pub IsOutcome : Command → Held → (left before after : Option (List ℕ)) → Result Answer ToolFault → Type 0
 IsOutcome command held left before after (Ok answer) =

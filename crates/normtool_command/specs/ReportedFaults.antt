@@ -8,12 +8,12 @@ use Rattle.normalizer_io.specs.declared.outcome.TransferError.TheVariants as tra
 use Rattle.normtool_command.specs.declared.ending.ToolFault.{ToolFault}
 use Rattle.normtool_command.specs.declared.ending.ToolFault.TheVariants.{Read, Write, Memory, Data}
 
--- a refused allocation, or data that can't be used
+-- a failed allocation, or data that can't be used
 abbrev pub fault_of : DataError → ToolFault
 fault_of error.Memory = Memory
 fault_of e = Data
 
--- a refused allocation, or records that build no data
+-- a failed allocation, or records that build no data
 abbrev pub fault_of_build : BuildError → ToolFault
 fault_of_build build_error.Memory = Memory
 fault_of_build e = Data

@@ -22,7 +22,7 @@ devices left read_refused taken write_refused =
     record { left = left; read_refused = read_refused; taken = taken; write_refused = write_refused }
 
 -- A source and a target before and after a run with this result. Its outcome; which device refused; nothing is written
--- if it fails, but by a refused write; nothing is read if the data are why.
+-- if it fails, but by a failed write; nothing is read if the data are why.
 pub record IsRun {R W : Type 0} (d : Devices R W)
     (IsOutcome : (left before after : Option (List ℕ)) → Result Answer ToolFault → Type 0)
     (s t : R × W) (result : Result Answer ToolFault) : Type 0 where

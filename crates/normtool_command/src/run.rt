@@ -37,8 +37,8 @@ pub fn program<R: Source, W: Target>(
 ///
 /// # Errors
 /// - `Data` if the records build no data. Nothing was read.
-/// - `Read` if a read was refused, `Memory` if an allocation was. Nothing was written.
-/// - `Write` if a write was refused. A beginning of the output was written.
+/// - `Read` if a read failed, `Memory` if an allocation was. Nothing was written.
+/// - `Write` if a write failed. A beginning of the output was written.
 pub fn run_over<R: Source, W: Target>(
     alloc: Global,
     records: RecordSet,
@@ -56,7 +56,7 @@ pub fn run_over<R: Source, W: Target>(
 /// Returns the data that the records of a set build.
 ///
 /// # Errors
-/// `Data` if the records build none, `Memory` if an allocation was refused.
+/// `Data` if the records build none, `Memory` if an allocation failed.
 pub fn built(alloc: Global, set: RecordSet) -> Result<Built, ToolFault>
     ensures ok { IfOk result (λ b. Builds (records_of set) (mapper_records_of set) (data_in b)) }
     ensures data { IsErrOf result ToolFault.Data → AreRefused (records_of set) (mapper_records_of set) }
@@ -75,8 +75,8 @@ pub fn built(alloc: Global, set: RecordSet) -> Result<Built, ToolFault>
 ///
 /// # Errors
 /// - `Data` if data that the command needs are missing or refused. Nothing was read.
-/// - `Read` if a read was refused, `Memory` if an allocation was. Nothing was written.
-/// - `Write` if a write was refused. A beginning of the output was written.
+/// - `Read` if a read failed, `Memory` if an allocation was. Nothing was written.
+/// - `Write` if a write failed. A beginning of the output was written.
 pub fn run<P: FormData + MappingData, R: Source, W: Target>(
     alloc: Global,
     provider: &P,

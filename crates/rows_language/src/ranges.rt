@@ -1,4 +1,4 @@
-//! Words of code points, by ranges that rise.
+//! Words of code points, by ranges that are sorted.
 use std::alloc::{AllocError, Global};
 
 /// First number, last number and word.

@@ -18,14 +18,14 @@ pub fn decoded(alloc: Global, input: &[&str]) -> Answer {
     spelled_all(alloc, &characters)
 }
 
-/// The characters from the front, if they are the same from the back and from both in turn.
+/// The characters from the beginning, if they are the same from the end and from both in turn.
 fn from_everywhere<U: Units>(alloc: Global, units: U) -> Result<Vec<char>, Fault> {
     let front: Vec<char> = Chars::new(units).collect(alloc)?;
     agreed(Chars::new(units).rev().eq(front.iter().rev().copied()) && come_in_turn(units, &front))?;
     Ok(front)
 }
 
-/// Whether the characters come from the back and from the front in turn, and each time the others are left.
+/// Whether the characters come from the end and from the beginning in turn, and each time the others are left.
 fn come_in_turn<U: Units>(units: U, characters: &[char]) -> bool {
     let mut chars = Chars::new(units);
     let mut left = characters;

@@ -29,7 +29,7 @@ pub trait Encoded: Units {
     /// Whether the form is returned. This allocates nothing else.
     fn is_returned(self, normalizer: &Normalizer<'_>, form: &[char]) -> Result<bool, Fault>;
 
-    /// Whether the form is written to a sink after what is there. A refused write leaves a beginning of it. Besides the
+    /// Whether the form is written to a sink after what is there. A failed write leaves a beginning of it. Besides the
     /// sink, and a text of 16-bit units, this allocates nothing else.
     fn is_written(
         self,

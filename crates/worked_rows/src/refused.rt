@@ -10,7 +10,7 @@ use std::alloc::Global;
 /// What the status says: that the call returned something else than a fault.
 const MADE: u8 = 0;
 
-/// That the call returned that memory was refused, and left what it may.
+/// That the call returned that memory ran out, and left what it may.
 const MEMORY: u8 = 1;
 
 /// That the call returned another fault, or left something else.
