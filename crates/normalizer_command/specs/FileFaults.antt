@@ -25,7 +25,7 @@ abbrev pub fault_of_records : BuildError → Fault
 fault_of_records build_error.Memory = Memory
 fault_of_records error = Records error
 
--- When a file may fail so: it can't be opened, or a read of it or a write was refused, or memory was. That memory was
+-- When a file may fail so: it can't be opened, or a read of it or a write failed, or memory was. That memory was
 -- refused can't be stated; `no_other` says what excludes the other reasons then.
 abbrev pub IsFileFault : (cannot_open : ErrorKind → Type 0) (read_refused write_refused no_other : Type 0) → Fault
     → Type 0

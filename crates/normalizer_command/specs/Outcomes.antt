@@ -37,7 +37,7 @@ abbrev pub IsWritten : Work → (name : List ℕ) → (bytes before after : Opti
 IsWritten w name bytes before after answer =
     (output : List ℕ) × Replies w name bytes answer output × Appends before after output
 
--- a front of the reply is written
+-- a prefix of the reply is written
 abbrev pub IsCutOff : Work → (name : List ℕ) → (bytes before after : Option (List ℕ)) → Type 0
 IsCutOff w name bytes before after =
     (answer : Answer) × (output : List ℕ) × Replies w name bytes answer output × AppendsFront before after output
@@ -63,7 +63,7 @@ fault_told (Err fault) = Some fault
 abbrev pub greater : ℕ → ℕ → ℕ
 greater a b = if nat_lt a b then b else a
 
--- What work leaves that fails so: nothing is written, or a front of the reply is. A form is written while its file is
+-- What work leaves that fails so: nothing is written, or a prefix of the reply is. A form is written while its file is
 -- read, another reply only then.
 abbrev pub Leaves : Work → Fault → (Unwritten CutOff : Type 0) → Type 0
 Leaves (OfForm task.Write scheme mode m) (Open kind) Unwritten CutOff = Unwritten
@@ -85,7 +85,7 @@ pub record IsDone {W : Type 0} (d : Devices W) (w : Work) (name : List ℕ) (s t
   pub told : MatchOption (fault_told outcome) (t.told ≡ s.told) (λ fault. Tells s.told t.told (name, fault))
   pub status : t.status ≡ greater s.status (status_of outcome)
 
--- each file in turn, and none after a refused write
+-- each file in turn, and none after a failed write
 unfoldable pub AreDone : {W : Type 0} → Devices W → Work → (names : List (List ℕ)) → State W → State W → Type 0
 AreDone d w [] s t = s ≡ t
 AreDone {W} d w (name ∷ names) s t =

@@ -30,7 +30,7 @@ abbrev pub IsVersionAppended : {W : Type 0} → Devices W → (directory : List 
 IsVersionAppended d directory before after = (exclusions : List ℕ) × AreExclusions d directory exclusions
     × Appends (d.taken before) (d.taken after) (version_text exclusions)
 
--- a front of them is written
+-- a beginning of them is written
 abbrev pub IsVersionCutOff : {W : Type 0} → Devices W → (directory : List ℕ) → W → W → Type 0
 IsVersionCutOff d directory before after = (exclusions : List ℕ) × AreExclusions d directory exclusions
     × AppendsFront (d.taken before) (d.taken after) (version_text exclusions)

@@ -155,7 +155,7 @@ pub struct FileRequest<'a> {
 /// Reads the words, the first of which is the program's name.
 ///
 /// # Errors
-/// The help if the words request it, or what is wrong with them, or that memory was refused.
+/// The help if the words request it, or what is wrong with them, or that memory ran out.
 pub fn parsed<'a>(alloc: Global, words: &'a [String]) -> Result<Request<'a>, Error>
     ensures requested { IfOk result (Requests (matches_of uninorm (map string_bytes words.now))) }
     ensures taken { IfErr result (λ error. takes uninorm (map string_bytes words.now) ≡ true →

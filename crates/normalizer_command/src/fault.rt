@@ -95,7 +95,7 @@ impl From<TransferError> for Fault {
     }
 }
 
-// A call whose result is in memory fails only if an allocation is refused.
+// A call whose result is in memory fails only if an allocation fails.
 impl From<NormalizeError> for Fault {
     ghost use Rattle.normalizer_command.specs.declared.fault.Fault.TheVariants.{Memory};
 

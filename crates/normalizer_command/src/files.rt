@@ -34,7 +34,7 @@ use normalizer_streams::{
 };
 use std::alloc::Global;
 
-/// Does a worker's work with each file in turn, up to a refused write, and returns the exit status: the greatest of
+/// Does a worker's work with each file in turn, up to a failed write, and returns the exit status: the greatest of
 /// those of the files.
 pub(crate) fn over_files<I: Inputs, W: Target, R: Reports>(
     alloc: Global,

@@ -65,7 +65,7 @@ pub struct Outcome {
 /// in memory, under their names; of two of one name the first counts.
 ///
 /// # Errors
-/// If an allocation was refused, or a file has 2^64 - 1 bytes.
+/// If an allocation failed, or a file has 2^64 - 1 bytes.
 pub fn run_in_memory(
     alloc: Global,
     command: Command,
@@ -183,7 +183,7 @@ fn are_of_data(reports: &[KeptReport]) -> bool
     true
 }
 
-/// Whether a read, a write or an allocation was refused.
+/// Whether a read, a write or an allocation failed.
 fn is_refusal(fault: Fault) -> bool
     ensures { result ≡ is_refusal fault }
 {

@@ -13,7 +13,7 @@ use Rattle.normalizer_replies.specs.declared.reply.Task.{Task}
 use Rattle.normalizer_replies.specs.declared.reply.Task.TheVariants.{Write, Check, Locate}
 use Rattle.normalizer_replies.specs.Lines.{line_of}
 
--- upper-case hexadecimal digits, at least four with zeros in front (The Unicode Standard, appendix A)
+-- upper-case hexadecimal digits, at least four with zeros at the beginning (The Unicode Standard, appendix A)
 abbrev pub code_point_digits : ℕ → List ℕ
 code_point_digits c = let shown = digits 16 true c in replicate (4 - length shown) 0x30 ++ shown
 

@@ -42,7 +42,7 @@ impl Task {
     /// Returns the reply to the comparison of a file with its form.
     ///
     /// # Errors
-    /// If an allocation was refused.
+    /// If an allocation failed.
     pub fn reply(
         self,
         alloc: Global,

@@ -35,7 +35,7 @@ pub enum Worker {
 /// Returns what works for a command, by what the records mean.
 ///
 /// # Errors
-/// `Memory` if an allocation was refused.
+/// `Memory` if an allocation failed.
 pub fn worker_for(built: &Built, command: Command) -> Result<Worker, NormalizeError>
     requires { AreBuilt (data_in built.now) }
     ensures does { (records : List RecordValue) (uts46 : List Uts46RecordValue) →
@@ -56,7 +56,7 @@ impl Worker {
     /// Returns the reply to the bytes of a file, if it is of the mapper.
     ///
     /// # Errors
-    /// `Memory` if an allocation was refused.
+    /// `Memory` if an allocation failed.
     pub fn reply(&self, alloc: Global, name: &str, bytes: &[u8]) -> Result<Reply, NormalizeError>
         requires { IsOfMapper self.now }
         ensures reply { (w : Work) → Does self.now w →

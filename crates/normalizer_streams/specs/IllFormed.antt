@@ -23,7 +23,7 @@ ill_formed scheme bytes = count_by (λ s. s.is_error) (steps_by scheme bytes)
 abbrev pub IsWellFormedBy : EncodingScheme → List ℕ → Type 0
 IsWellFormedBy scheme bytes = IsWellFormed (first_in (encoding_of scheme)) (units_of scheme bytes)
 
--- the first ill-formed sequence of the bytes comes after this front of them
+-- the first ill-formed sequence of the bytes comes after this beginning of them
 pub record IsFirstIllFormed (scheme : EncodingScheme) (bytes front : List ℕ) : Type 0 where
   pub rest : List ℕ
   pub parts : bytes ≡ front ++ rest

@@ -38,7 +38,7 @@ impl FormBuffers {
     /// Returns the form of the text that bytes decode to, in the same scheme.
     ///
     /// # Errors
-    /// `Memory` if an allocation was refused.
+    /// `Memory` if an allocation failed.
     pub(crate) fn form_of(
         &mut self,
         scheme: EncodingScheme,
@@ -94,7 +94,7 @@ fn append_form_of_units(
         ++ encoded_form Encoding.Utf16 (reading_of normalizer.now) (kind_by normalizer.now) units.now) }
     ensures refused { IsOkUnless result NormalizeError.Memory }
 {
-    // (Units in memory refuse a write only if an allocation is refused.)
+    // (Units in memory refuse a write only if an allocation fails.)
     match normalizer.as_borrowed().normalize_utf16_to(units, form) {
         Ok(()) => Ok(()),
         Err(_) => Err(NormalizeError::Memory),
@@ -104,7 +104,7 @@ fn append_form_of_units(
 /// Returns the first place at which bytes are ill-formed or not normalized. It counts units.
 ///
 /// # Errors
-/// `Memory` if an allocation was refused. In UTF-8 none is made unless more than 17 characters are buffered at a time.
+/// `Memory` if an allocation failed. In UTF-8 none is made unless more than 17 characters are buffered at a time.
 pub(crate) fn first_offence(
     alloc: Global,
     scheme: EncodingScheme,

@@ -65,8 +65,8 @@ pub enum Comparison {
 /// boundary between them takes more memory than a block of 32 KiB.
 ///
 /// # Errors
-/// - `Read` if a read was refused, or the source has no end: after 2^64 - 1 blocks.
-/// - `Memory` if an allocation was refused.
+/// - `Read` if a read failed, or the source has no end: after 2^64 - 1 blocks.
+/// - `Memory` if an allocation failed.
 pub fn first_mismatch<R: Source>(
     alloc: Global,
     scheme: EncodingScheme,

@@ -148,7 +148,7 @@ impl EncodingScheme {
     /// Returns the units that bytes spell.
     ///
     /// # Errors
-    /// If an allocation was refused.
+    /// If an allocation failed.
     pub fn units(self, alloc: Global, bytes: &[u8]) -> Result<Vec<u16>, AllocError>
         ensures { IfOk result (λ units. units.items ≡ units_of self bytes.now) }
     {
@@ -161,7 +161,7 @@ impl EncodingScheme {
     /// Returns the text that bytes decode to. Each maximal ill-formed subpart reads as U+FFFD.
     ///
     /// # Errors
-    /// If an allocation was refused.
+    /// If an allocation failed.
     pub fn decode(self, alloc: Global, bytes: &[u8]) -> Result<Vec<char>, AllocError>
         ensures { IfOk result (λ text. text.items ≡ decoded_by self bytes.now) }
     {
@@ -177,7 +177,7 @@ impl EncodingScheme {
     /// Returns the bytes of a text.
     ///
     /// # Errors
-    /// If an allocation was refused.
+    /// If an allocation failed.
     pub fn encode(self, alloc: Global, text: &[char]) -> Result<Vec<u8>, AllocError>
         ensures { IfOk result (λ bytes. bytes.items ≡ encoded_by self text.now) }
     {

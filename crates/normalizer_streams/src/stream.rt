@@ -59,9 +59,9 @@ const LONGEST_SEQUENCE: usize = 4;
 /// each block of 32 KiB at most, so that only a run of characters without a boundary between them takes more memory.
 ///
 /// # Errors
-/// - `Read` if a read was refused, or the source has no end: after 2^64 - 1 blocks.
-/// - `Write` if a write was refused.
-/// - `Memory` if an allocation was refused.
+/// - `Read` if a read failed, or the source has no end: after 2^64 - 1 blocks.
+/// - `Write` if a write failed.
+/// - `Memory` if an allocation failed.
 ///
 /// After each, a beginning of the form was written, and nothing more is read or written. After `Read` that is the form
 /// of all that was read but the last run of characters that may continue one another.

@@ -98,7 +98,7 @@ impl Watch {
 /// before the first ill-formed sequence.
 ///
 /// # Errors
-/// If an allocation was refused.
+/// If an allocation failed.
 pub fn text_of<'b>(
     alloc: Global,
     scheme: EncodingScheme,

@@ -9,7 +9,7 @@ use std::{fmt, fs};
 /// The variable that names the directory of the data.
 const VARIABLE: &str = "UNINORM_DATA";
 
-/// Why there is no directory of data.
+/// Why there isn't a directory of data.
 #[derive(Drop)]
 pub(crate) enum NoData {
     /// There was not enough memory.

@@ -50,7 +50,7 @@ impl<'a> Named<'a> {
         }
     }
 
-    /// An open file that is no directory, and isn't the output.
+    /// An open file that isn't a directory, and isn't the output.
     fn file(&self, name: &str) -> io::Result<File> {
         let file = fs::open(self.rt, name)?;
         let metadata = file.metadata()?;

@@ -19,7 +19,7 @@ pub(crate) struct Words {
 /// Returns the words, the first of which is the name that the program was started by.
 ///
 /// # Errors
-/// If an allocation was refused.
+/// If an allocation failed.
 pub(crate) fn arguments(rt: &HostRuntime) -> Result<Words, AllocError> {
     let mut all = Vec::new(rt.alloc());
     let mut unclear = Vec::new(rt.alloc());

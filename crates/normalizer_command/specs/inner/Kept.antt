@@ -5,7 +5,7 @@ use Rattle.normalizer_command.specs.declared.fault.Fault.{Fault}
 use Rattle.normalizer_command.specs.declared.fault.Fault.TheVariants.{Read, Write, Memory}
 use Rattle.normalizer_command.specs.declared.memory.KeptReport.{KeptReport}
 
--- a read, a write or an allocation was refused
+-- a read, a write or an allocation failed
 abbrev pub is_refusal : Fault → Bool
 is_refusal Read = true
 is_refusal Write = true
