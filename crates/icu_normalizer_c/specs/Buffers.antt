@@ -8,8 +8,8 @@ use Rattle.normalizer_buffers.specs.Overwriting.{overwritten}
 use Rattle.normalizer_handles.specs.declared.fault.Fault.{Fault}
 use Rattle.normalizer_handles.specs.declared.fault.Fault.TheVariants.{BufferTooSmall, Memory}
 
--- The units are written to the front of the buffer, if there is room for all of them, and their number is reported. If
--- there isn't room, only their number is.
+-- The units are written to the beginning of the buffer, if there is room for all of them, and their number is reported.
+-- If there isn't room, only their number is.
 pub record Fills {X : Type 0} (units before after : List X) (count_before count : ℕ) (outcome : Result ⊤ Fault)
     : Type 0 where
   pub room : OnOk outcome (length units ≤ length before)

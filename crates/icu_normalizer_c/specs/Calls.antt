@@ -55,9 +55,9 @@ WritesForm e input before after count_before count m outcome =
     Writes LeavesBeginning before after count_before count (NeedsNoMemory e input m)
     (encoded_form e m.reading m.form input) outcome
 
--- The encoded form of the input overwrote the front of the buffer, as far as there is room, and the number of its units
--- was returned, or the greatest number of 64 bits if it has more. `Memory` is the only error, and never comes over short
--- runs. After it a beginning of the form overwrote the beginning.
+-- The encoded form of the input overwrote the buffer from its beginning, as far as there is room, and the number of its
+-- units was returned, or the greatest number of 64 bits if it has more. `Memory` is the only error, and never comes
+-- over short runs. After it a beginning of the form overwrote the beginning.
 pub record Overwrites (m : MadeForm) (e : Encoding) (input before after : List ℕ) (result : Result ℕ NormalizeError)
     : Type 0 where
   pub form : OnOk result (after ≡ overwritten before (encoded_form e m.reading m.form input))

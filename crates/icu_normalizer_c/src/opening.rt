@@ -40,7 +40,7 @@ pub extern "C" fn icu_normalizer_open_unicode_data_nonnull(
 
 /// Opens normalizers by the bytes of `UnicodeData.txt` and `CompositionExclusions.txt`, and their mapper by those of
 /// `IdnaMappingTable.txt`, without its disallowed ranges of more than `disallowed_limit` code points. If nothing is
-/// mapped, or there are no bytes, there is no mapper. What the handle had is closed.
+/// mapped, or there are no bytes, the handle has no mapper. What the handle had is closed.
 ///
 /// # Errors
 /// `InUse`, `Line`, `Records` or `Memory`. The handle then has what it had. `defect` says where a file is wrong, or
@@ -71,7 +71,7 @@ pub extern "C" fn icu_normalizer_open_files_nonnull(
     status_reporting(outcome, defect)
 }
 
-/// Opens normalizers by records of characters, and their mapper by records of the mapper. Mappings are parts of
+/// Opens normalizers from records of characters, and their mapper from records of the mapper. Mappings are parts of
 /// `codes`. Without records of the mapper there is none. What the handle had is closed.
 ///
 /// # Errors

@@ -55,7 +55,7 @@ IsCommandWord word = ((task : MapperTask) × NamesMapperTask task word)
 abbrev pub AreKnown : (word encoding : Option (List ℕ)) → Type 0
 AreKnown word encoding = IfSome word IsCommandWord × ((scheme : EncodingScheme) × IsScheme encoding scheme)
 
--- A word and those after it ask for a command over named files: FORM NAMES, check FORM NAMES, where FORM NAMES,
+-- A word and those after it request a command over named files: FORM NAMES, check FORM NAMES, where FORM NAMES,
 -- map NAMES or validate NAMES.
 abbrev pub AsksFor : (word : List ℕ) (after : List (List ℕ)) (encoding : Option (List ℕ)) (mode : ErrorMode) → Command
     → (names : List (List ℕ)) → Type 0
@@ -91,7 +91,7 @@ abbrev pub flag_of : List Row → Option (List ℕ)
 flag_of rows = one_of (codes "version") rows
 
 -- The words, by argument, request this: the version, by the data of a directory if one is named; a command over the
--- named files; or neither, if a word is unknown or no command is asked for.
+-- named files; or neither, if a word is unknown or no command is requested.
 abbrev pub Requests : List Row → Request → Type 0
 Requests rows (Version directory) = (flag_of rows ≢ None) × (flag_of rows ≢ Some (codes "false"))
     × HasKnownWords rows × (option_copied directory ≡ first_of (codes "data") rows)

@@ -42,8 +42,8 @@ abbrev pub IsCutOff : Work → (name : List ℕ) → (bytes before after : Optio
 IsCutOff w name bytes before after =
     (answer : Answer) × (output : List ℕ) × Replies w name bytes answer output × AppendsFront before after output
 
--- the exit status after a file: 0, or 1 if it isn't in the form or had ill-formed sequences that were replaced, or 2 if it
--- failed or one was fatal
+-- the exit status after a file: 0, or 1 if it isn't in the form or had ill-formed sequences that were replaced, or 2 if
+-- it failed or one was fatal
 abbrev pub status_of : Result Answer Fault → ℕ
 status_of (Ok Done) = 0
 status_of (Ok No) = 1
@@ -71,8 +71,9 @@ Leaves (OfForm task.Write scheme mode m) fault Unwritten CutOff = CutOff
 Leaves other Write Unwritten CutOff = CutOff
 Leaves other fault Unwritten CutOff = Unwritten
 
--- One file: it is opened, and its reply is written, or a report says why it failed. A report also says what was ill-formed in a form. A
--- source of 2^64 - 1 bytes may count as refused. If memory was, the file was opened, and no read or write was refused.
+-- One file: it is opened, and its reply is written, or a report says why it failed. A report also says what was
+-- ill-formed in a form. A source of 2^64 - 1 bytes may count as failed. If memory ran out, the file was opened, and no
+-- read or write failed.
 pub record IsDone {W : Type 0} (d : Devices W) (w : Work) (name : List ℕ) (s t : State W)
     (outcome : Result Answer Fault) : Type 0 where
   pub opened : OnOk outcome (d.can_open name)

@@ -76,7 +76,7 @@ End a file at its first ill-formed sequence, which\n\
 fails. Else forms and mapped lines have U+FFFD for\n\
 each, and a report says how many a file had";
 
-/// Where the data are.
+/// The directory of the data.
 const DIRECTORY_HELP: &str = "\
 The directory of UnicodeData.txt and\n\
 CompositionExclusions.txt and, for map and\n\
@@ -120,7 +120,7 @@ uninorm where nfc --strict notes.txt";
 const UNKNOWN_COMMAND: &str =
     "the command is none of nfc, nfd, nfkc, nfkd, check, where, map and validate";
 
-/// The message if there is no command.
+/// The message if a command is missing.
 const NO_COMMAND: &str =
     "a command is missing: nfc, nfd, nfkc, nfkd, check, where, map or validate";
 

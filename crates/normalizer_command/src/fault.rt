@@ -16,7 +16,7 @@ use std::io::ErrorKind;
 pub enum Fault {
     /// It can't be opened.
     Open(ErrorKind),
-    /// A read was refused.
+    /// A read failed.
     Read,
     /// A write of the output was refused.
     Write,

@@ -61,8 +61,8 @@ pub struct Outcome {
     pub status: u8,
 }
 
-/// Does a command with each file of these names in turn, by Unicode's files in a directory. All files, Unicode's too, are
-/// in memory, under their names; of two of one name the first counts.
+/// Does a command with each file of these names in turn, using Unicode's files in a directory. All files, Unicode's
+/// too, are in memory, under their names; of two of one name the first counts.
 ///
 /// # Errors
 /// If an allocation failed, or a file has 2^64 - 1 bytes.

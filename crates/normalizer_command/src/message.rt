@@ -4,7 +4,8 @@ ghost use Rattle.normalizer_command.specs.Messages.{text_of};
 use crate::fault::Fault;
 use std::fmt;
 
-/// The report of a file: its name, and why it failed, or what was done to it. A refused write is reported of standard output.
+/// The report of a file: its name, and why it failed, or what was done to it. A failed write is reported of standard
+/// output.
 #[derive(Clone, Copy)]
 pub struct Message<'a> {
     /// The directory of the file, if that is not in its name.

@@ -21,7 +21,7 @@ use normalizer_replies::{Command, worker_for};
 use normalizer_ucd::UcdFile;
 use std::alloc::Global;
 
-/// Does a command with each file in turn, by Unicode's files in a directory, and returns the exit status: 0; 1 if a
+/// Does a command with each file in turn, using Unicode's files in a directory, and returns the exit status: 0; 1 if a
 /// file isn't in the form, or has a line that isn't valid; 2 if one failed. If Unicode's files fail, that is reported,
 /// and nothing is written.
 pub fn run<I: Inputs, W: Target, R: Reports>(

@@ -12,7 +12,7 @@ use icu_normalizer::{ComposingNormalizerBorrowed, Offence};
 pub enum Refusal {
     /// It isn't in its composed form: its first mismatch.
     Differs(Offence),
-    /// Memory was refused.
+    /// An allocation failed.
     Memory,
 }
 

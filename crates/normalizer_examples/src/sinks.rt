@@ -19,7 +19,7 @@ use std::alloc::Global;
 /// Returns the NFC of a text, as a string.
 ///
 /// # Errors
-/// `Sink` if the string could not grow, `Memory` if another allocation was refused.
+/// `Sink` if the string could not grow, `Memory` if another allocation failed.
 pub fn nfc_string(
     alloc: Global,
     normalizer: &ComposingNormalizerBorrowed<'_>,
@@ -36,7 +36,7 @@ pub fn nfc_string(
 /// Returns the NFD of the text that bytes decode to, as a string.
 ///
 /// # Errors
-/// `Sink` if the string could not grow, `Memory` if another allocation was refused.
+/// `Sink` if the string could not grow, `Memory` if another allocation failed.
 pub fn nfd_string_of_bytes(
     alloc: Global,
     normalizer: &DecomposingNormalizerBorrowed<'_>,
@@ -53,7 +53,7 @@ pub fn nfd_string_of_bytes(
 /// Returns the NFC of the text that 16-bit units decode to, in UTF-16.
 ///
 /// # Errors
-/// `Sink` if the vector could not grow, `Memory` if another allocation was refused.
+/// `Sink` if the vector could not grow, `Memory` if another allocation failed.
 pub fn nfc_units(
     alloc: Global,
     normalizer: &ComposingNormalizerBorrowed<'_>,

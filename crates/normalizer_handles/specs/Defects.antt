@@ -107,7 +107,7 @@ defect_at f None = record {
   condition = condition_of_error f.error;
 }
 
--- a defect of data at a place, of which no character is told
+-- a defect of data at a place, of which no character is stated
 abbrev pub defect_in : (place source reason condition : ℕ) → Defect
 defect_in place source reason condition =
     record { place = place; source = source; reason = reason; character = no_character; condition = condition }

@@ -51,7 +51,7 @@ of_idna_table exclusions [] limit = Ok []
 of_idna_table exclusions (b ∷ table) limit =
     of_lines (uts46_records_beside exclusions (RangesUpTo limit) (b ∷ table))
 
--- where a record is
+-- the place of a record
 abbrev pub Places : Type 0
 Places = RecordAtFault → Option RecordPlace
 

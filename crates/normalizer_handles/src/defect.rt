@@ -134,7 +134,7 @@ fn source_of_record(at_fault: Option<RecordAtFault>) -> u32
 }
 
 impl Defect {
-    /// A defect of data at a place, of which no character is told.
+    /// A defect of data at a place, of which no character is stated.
     fn at(place: usize, source: u32, reason: u32, condition: u32) -> Defect
         ensures { result ≡ defect_in place source reason condition }
     {

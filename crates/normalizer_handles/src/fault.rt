@@ -43,11 +43,11 @@ pub struct RecordsFault {
     pub error: BuildError,
     /// The first record at fault, if a single one is.
     pub at_fault: Option<RecordAtFault>,
-    /// Where it is, if that is known.
+    /// Its place, if that is known.
     pub place: Option<RecordPlace>,
 }
 
-/// Where a record is.
+/// The place of a record.
 #[derive(Clone, Copy, Debug, PartialEq, Eq)]
 pub enum RecordPlace {
     /// The line that states it.

@@ -1,5 +1,5 @@
-//! What C keeps of normalizers, and how it is opened: by Unicode's files, by a file
-//! of prepared data, or by records from C.
+//! What C keeps of normalizers, and how it is opened: from Unicode's files, from a file
+//! of prepared data, or from records from C.
 #![tactic(auto)]
 
 mod box_parts;

@@ -65,7 +65,7 @@ pub fn open_unicode_data(
 
 /// Opens normalizers by the bytes of `UnicodeData.txt` and `CompositionExclusions.txt`, and their mapper by those of
 /// `IdnaMappingTable.txt`, without its disallowed ranges of more than `disallowed_limit` code points. If nothing is
-/// mapped, or there are no bytes, there is no mapper. What the handle had is dropped.
+/// mapped, or there are no bytes, the handle has no mapper. What the handle had is dropped.
 ///
 /// # Errors
 /// `InUse`, `Line`, `Records` or `Memory`. The handle then has what it had.
@@ -94,7 +94,7 @@ pub fn open_files(
     open(alloc, handle, &records, &mapper, &lines)
 }
 
-/// Opens normalizers by records of characters, and their mapper by records of the mapper. Mappings are parts of
+/// Opens normalizers from records of characters, and their mapper from records of the mapper. Mappings are parts of
 /// `codes`. Without records of the mapper there is none. What the handle had is dropped.
 ///
 /// # Errors

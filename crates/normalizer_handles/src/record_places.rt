@@ -15,7 +15,7 @@ pub(crate) trait RecordPlaces {
     /// Where records are.
     ghost places: { Self → Places };
 
-    /// Returns where a record is, if that is known.
+    /// Returns the place of a record, if that is known.
     fn place(
         &self,
         alloc: Global,

@@ -61,7 +61,7 @@ impl MapperTask {
         self.replies_to(alloc, scheme, &mapper.as_borrowed(), name, &lines)
     }
 
-    /// The answer for a text that ended so, by what is written.
+    /// The reply to a text that ended so, and what is written.
     fn answer(self, scheme: EncodingScheme, ending: Ending, output: &[u8]) -> Answer
         ensures { result ≡ answer_of self scheme ending output.now }
     {

@@ -1,4 +1,4 @@
--- The first place at which a stream isn't its own form.
+-- The first place at which a stream isn't already normalized.
 use Rattle.std.specs.Prelude.{◌≡◌, ℕ, List, take, Option, IfSome}
 use Rattle.icu_normalizer.specs.Form.{Form}
 use Rattle.icu_normalizer.specs.InputCut.{IsInputNormalized}

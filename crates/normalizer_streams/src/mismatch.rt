@@ -1,4 +1,4 @@
-//! The first place at which a source isn't its own form.
+//! The first place at which a source isn't already normalized.
 ghost use Rattle.std.specs.Prelude.{
   ◌≡◌,
   ◌⊎◌,
@@ -41,7 +41,7 @@ const LONGEST_SEQUENCE: usize = 4;
 /// The first place at which a text differs from its form.
 #[derive(Clone, Copy, Debug, PartialEq, Eq)]
 pub struct Mismatch {
-    /// Where it is.
+    /// Its place.
     pub position: Position,
     /// The character there: U+FFFD if it is an ill-formed sequence.
     pub found: char,
@@ -130,8 +130,8 @@ fn compare_last(
     Ok(found.unwrap_or(Comparison::Normalized))
 }
 
-/// Compares what is settled of the bytes that are carried with its form, and keeps the rest. All places up to `searched`
-/// but for the last few have been searched.
+/// Compares what is settled of the bytes that are carried with its form, and keeps the rest. All places up to
+/// `searched` but for the last few have been searched.
 fn compare_settled(
     alloc: Global,
     scheme: EncodingScheme,

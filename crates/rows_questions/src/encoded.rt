@@ -42,7 +42,7 @@ pub trait Encoded: Units {
     /// Whether the input is normalized.
     fn is_own(self, normalizer: &Normalizer<'_>) -> Result<bool, NormalizeError>;
 
-    /// The length of the front that may be cut off, if the two parts are the input.
+    /// The length of the prefix that may be cut off, if the two parts are the input.
     fn cut(self, normalizer: &Normalizer<'_>) -> Result<usize, Fault>;
 
     /// The first mismatch.

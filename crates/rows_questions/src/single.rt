@@ -1,7 +1,7 @@
-//! One call of the library, so that its growths of memory can be told from those of a comparison: of `nfc` and the other
-//! forms the call of that name, as `normalize_to`; of `build` that of `Records::build`, of `by-records nfc` the constructor
-//! over what is built, of `try nfc` the constructor, of `copies` the copies of each part, of `unchecked`, `map` and
-//! `validate` the iterator, of `ranges` and `pairs` what makes them.
+//! One call of the library, so that its growths of memory can be counted apart from those of a comparison: of `nfc` and
+//! the other forms the call of that name, as `normalize_to`; of `build` that of `Records::build`, of `by-records nfc`
+//! the constructor over what is built, of `try nfc` the constructor, of `copies` the copies of each part, of
+//! `unchecked`, `map` and `validate` the iterator, of `ranges` and `pairs` what makes them.
 use crate::data::refusal;
 use crate::encoded::{Encoded, is_yielded};
 use crate::{by_data, mapping, parts};

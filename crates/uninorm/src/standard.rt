@@ -161,7 +161,7 @@ impl Target for Printed<'_> {
     }
 }
 
-/// Standard error, of which nothing is known. It isn't told of an output that nobody reads any more.
+/// Standard error, of which nothing is known. It doesn't know of an output that nobody reads any more.
 #[derive(Drop)]
 pub(crate) struct ErrorStream<'a> {
     rt: &'a HostRuntime,

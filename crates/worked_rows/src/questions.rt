@@ -1,4 +1,4 @@
-//! The questions of rows, a line each.
+//! The questions of rows, one per line.
 use rows_language::fault::{Answer, Fault};
 use rows_language::held::Held;
 use rows_language::setting::Setting;

@@ -1,10 +1,10 @@
 //! The records read from files of the Unicode Character Database, or why they were refused. An argument names two
 //! files, as `UnicodeData.txt+CompositionExclusions.txt`, or a table of IDNA and the most code points of a disallowed
-//! range that is recorded, as `IdnaMappingTable.txt@9` or `IdnaMappingTable.txt@all`, or such a table beside exclusions,
-//! as `CompositionExclusions.txt+IdnaMappingTable.txt@all`. Of three files, as
-//! `UnicodeData.txt+CompositionExclusions.txt+IdnaMappingTable.txt`, it asks whether data are built, and otherwise for
-//! the first record at fault with its line. `cuts=` before two files or a table asks whether the first file is refused
-//! if it is cut off, at each byte.
+//! range that is recorded, as `IdnaMappingTable.txt@9` or `IdnaMappingTable.txt@all`, or such a table beside
+//! exclusions, as `CompositionExclusions.txt+IdnaMappingTable.txt@all`. Of three files, as
+//! `UnicodeData.txt+CompositionExclusions.txt+IdnaMappingTable.txt`, the question is whether data are built, and
+//! otherwise the first record at fault with its line. `cuts=` before two files or a table is the question whether the
+//! first file is rejected if it is cut off, at each byte.
 use icu_normalizer::{BuildError, Record, Records, Uts46Record};
 use normalizer_ucd::{
     Disallowed, UcdError, place_of_record, records_of_unicode_data,

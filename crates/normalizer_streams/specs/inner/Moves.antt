@@ -23,7 +23,7 @@ pub record BeginsAs (scheme : EncodingScheme) (bytes rest : List ℕ) : Type 0 w
   pub some : 0 < length rest
   pub same : first_by scheme rest ≡ first_by scheme bytes
 
--- the form and the steps of a front are apart from those of whatever begins as the bytes after it
+-- the form and the steps of a prefix are apart from those of whatever begins as the bytes after it
 pub record IsDivided (scheme : EncodingScheme) (form : List ℕ → List ℕ) (front bytes : List ℕ) : Type 0 where
   pub aligned : is_aligned scheme (length front) ≡ true
   pub begins : BeginsWhole scheme bytes
