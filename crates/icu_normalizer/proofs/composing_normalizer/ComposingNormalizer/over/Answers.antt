@@ -1,4 +1,4 @@
-use Rattle.std.proofs.Common.{refl}
+use Rattle.std.proofs.Common.{◌≡◌, Err, refl, rules}
 use Rattle.std.specs.Prelude.{false}
 use Rattle.normalizer_tables.specs.Owned.{characters_owned}
 use Rattle.icu_normalizer.specs.ComposingAcceptance.{SuitsComposing}
@@ -15,3 +15,9 @@ invariant_of-result c = record { serves = ServesComposing-met _ _ refl (met c) }
 
 pub returns-clause-ok : goal.returns-clause-ok
 returns-clause-ok c = (refl, met (goal.at.returns-clause-ok c).In_ok-check)
+
+pub returns-in_err-check-clause-err : goal.returns-in_err-check-clause-err
+returns-in_err-check-clause-err c =
+    let is : c.from_residual.result ≡ Err c.in_err-check.field-0.0 = search rules in
+    let refused = rw c.in_err-check.was at c.check.ensures.err in
+    rw is (rw (c.new-loaded.ensures, c.of_cap-bounds.ensures, c.cap.ensures, c.as_borrowed-borrowed.ensures) at refused)
