@@ -63,7 +63,7 @@ typedef uint32_t icu_normalizer_status;
 #define ICU_NORMALIZER_OK 0u
 /* The buffer is too small for what is written; `*needed` says how long that is. */
 #define ICU_NORMALIZER_BUFFER_TOO_SMALL 1u
-/* An allocation was refused. */
+/* An allocation failed. */
 #define ICU_NORMALIZER_OUT_OF_MEMORY 2u
 /* No form has this number. */
 #define ICU_NORMALIZER_UNKNOWN_FORM 3u
@@ -276,7 +276,7 @@ icu_normalizer_status icu_normalizer_open_prepared(icu_normalizer *normalizer,
     const uint8_t *prepared, size_t prepared_length, icu_normalizer_defect *defect);
 
 /* Each call below ends with NOT_OPEN if the handle has no normalizers, else with UNKNOWN_FORM if no form has the
-   number. OUT_OF_MEMORY comes only if an allocation was refused. On any error, nothing is written but what is said.
+   number. OUT_OF_MEMORY comes only if an allocation failed. On any error, nothing is written but what is said.
    Nothing is allocated, unless more than 17 characters are buffered at a time, as in a longer run of marks.
 
    With Unicode's own data a form in UTF-8 has at most 3 times the bytes of the input for NFC and NFD, and 11 times for
