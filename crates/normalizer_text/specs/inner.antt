@@ -1,4 +1,5 @@
 -- What the contracts of private functions alone cite.
 pub mod Backwards
 pub mod PairMembers
+pub mod PassedMembers
 pub mod Trails

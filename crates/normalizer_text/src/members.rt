@@ -1,5 +1,6 @@
 //! Passing over characters that are all in a set.
 ghost use Rattle.std.specs.Prelude.{◌≡◌, ◌+◌, ◌<◌, ◌≤◌, ℕ, List, length, take, drop, slice_index, min, nat_lt, IsTrue};
+ghost use Rattle.std.specs.ControlFlow.{ForContinue, MatchControlFlow};
 ghost use Rattle.std.specs.List.{prefix_len};
 ghost use Rattle.normalizer_sets.specs.CharacterSets.{has};
 ghost use Rattle.normalizer_text.specs.DecodingSteps.{steps, IsBoundary};
@@ -7,12 +8,23 @@ ghost use Rattle.normalizer_text.specs.Encodings.{Encoding, first_in};
 ghost use Rattle.normalizer_text.specs.Scans.{leading_below, low_byte, width_in, width_within, EndsLowCharacters};
 ghost use Rattle.normalizer_text.specs.Utf16.{first_of_utf16};
 ghost use Rattle.normalizer_text.specs.inner.PairMembers.{width_of_pairs_in};
+ghost use Rattle.normalizer_text.specs.inner.PassedMembers.{end_within, IsPassed};
 
 use crate::{scan, utf8, utf16};
 use normalizer_sets::CharacterSet;
+use std::ops::ControlFlow;
 
 /// Bytes below this are characters by themselves.
 const ASCII: u32 = 0x80;
+
+/// The least byte that begins a sequence of two.
+const LEAD_OF_TWO: u32 = 0xC2;
+
+/// The least byte that begins a sequence of three.
+const LEAD_OF_THREE: u32 = 0xE0;
+
+/// The least byte that begins a sequence of four.
+const LEAD_OF_FOUR: u32 = 0xF0;
 
 /// How many 16-bit units are looked up together.
 const GROUP: usize = 4;
@@ -66,22 +78,78 @@ pub(crate) fn end_of_members<M: Members>(units: M, position: usize, set: &Charac
     ensures { result ≡ position
         + width_within (has set.now) (steps (first_in M.encoding) (drop position (M.units units))) }
 {
+    match passed_members(units, position, set) {
+        ControlFlow::Continue(end) => end,
+        ControlFlow::Break(end) => end,
+    }
+}
+
+/// Passes over members, and breaks off at a step that is none.
+#[inline(always)]
+fn passed_members<M: Members>(
+    units: M,
+    position: usize,
+    set: &CharacterSet,
+) -> ControlFlow<usize, usize>
+    requires { IsBoundary (first_in M.encoding) (M.units units) position }
+    ensures { let end = end_within (has set.now) M.encoding (M.units units) position in
+        MatchControlFlow result (λ r. r ≡ end) (λ r. r ≡ end) }
+{
     units.low_units_are_of_low_characters();
     let limit = units.low_unit(set.first_missing());
-    let mut end = position;
+    let mut end = units.end_of_below(position, limit);
     while end < units.len() {
+        end = passed_members_led_by(units, end, set, LEAD_OF_TWO, LEAD_OF_THREE)?;
+        end = passed_members_led_by(units, end, set, LEAD_OF_THREE, LEAD_OF_FOUR)?;
         // A single low unit, as a space between words, is looked up faster than a vector is read.
-        if begins_low_run(units, end, limit) {
+        if end < units.len() && begins_low_run(units, end, limit) {
             end = units.end_of_below(end, limit);
         } else {
-            let width = units.member_at(end, set);
-            if width == 0 {
-                return end;
-            }
-            end += width;
+            end = passed_member(units, end, set)?;
         }
     }
-    end
+    ControlFlow::Continue(end)
+}
+
+/// Passes over members as long as they begin with units from one number up to another: then the branches on their width
+/// are foreseen, and the next one is read before this one is looked up.
+#[inline(always)]
+fn passed_members_led_by<M: Members>(
+    units: M,
+    position: usize,
+    set: &CharacterSet,
+    least: u32,
+    limit: u32,
+) -> ControlFlow<usize, usize>
+    requires { IsBoundary (first_in M.encoding) (M.units units) position }
+    ensures { IsPassed (has set.now) M.encoding (M.units units) position result }
+{
+    let mut end = position;
+    while end < units.len() && !units.is_below_at(end, least) && units.is_below_at(end, limit) {
+        end = passed_member(units, end, set)?;
+    }
+    ControlFlow::Continue(end)
+}
+
+/// Passes over a member, and breaks off at the end or at a step that is none.
+#[inline(always)]
+fn passed_member<M: Members>(
+    units: M,
+    position: usize,
+    set: &CharacterSet,
+) -> ControlFlow<usize, usize>
+    requires { IsBoundary (first_in M.encoding) (M.units units) position }
+    ensures passed { IsPassed (has set.now) M.encoding (M.units units) position result }
+    ensures further { ForContinue result (λ end. position < end) }
+{
+    if position == units.len() {
+        return ControlFlow::Break(position);
+    }
+    let width = units.member_at(position, set);
+    if width == 0 {
+        return ControlFlow::Break(position);
+    }
+    ControlFlow::Continue(position + width)
 }
 
 /// Whether the unit at a position and the one after it are below a limit.
@@ -113,7 +181,7 @@ impl<'a> Members for &'a str {
 
     #[inline(always)]
     fn end_of_below(self, position: usize, limit: u32) -> usize {
-        scan::end_of_below::<&[u8], true>(self.as_bytes(), position, limit)
+        scan::end_of_below(self.as_bytes(), position, limit)
     }
 
     #[inline(always)]
@@ -147,7 +215,7 @@ impl<'a> Members for &'a [u8] {
 
     #[inline(always)]
     fn end_of_below(self, position: usize, limit: u32) -> usize {
-        scan::end_of_below::<&[u8], true>(self, position, limit)
+        scan::end_of_below(self, position, limit)
     }
 
     #[inline(always)]
@@ -202,7 +270,7 @@ fn end_of_single_members(units: &[u16], position: usize, set: &CharacterSet) -> 
     ensures { result ≡ position + prefix_len (has set.now) (drop position units.now) }
 {
     let limit = set.first_missing();
-    let end = scan::end_of_below::<&[u16], true>(units, position, limit);
+    let end = scan::end_of_below(units, position, limit);
     if end == units.len() {
         return end;
     }
@@ -232,7 +300,7 @@ fn end_of_single_run(units: &[u16], position: usize, set: &CharacterSet) -> usiz
             if !set.has_unit(units[end]) {
                 return end;
             }
-            end = scan::end_of_below::<&[u16], true>(units, end + 1, limit);
+            end = scan::end_of_below(units, end + 1, limit);
         } else {
             let members = members_in_group(units, end, set);
             if members != GROUP {

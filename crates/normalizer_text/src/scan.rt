@@ -41,16 +41,10 @@ pub(crate) trait Lanes: Copy {
         ensures { result ≡ leading_below bound (take MORE_LANES (drop position (units self))) };
 }
 
-/// Returns the end of the units from a position on that are all below the bound.
-///
-/// With `IN_CALL`, the end of a run that is longer than the first vector is found in a call, so that fewer loops are
-/// inlined into the loop over characters: that is faster over bytes, and slower over 16-bit units.
+/// Returns the end of the units from a position on that are all below the bound. That of a run that is longer than the
+/// first vector is found in a call, so that fewer loops are inlined into those over characters.
 #[inline(always)]
-pub(crate) fn end_of_below<L: Lanes, const IN_CALL: bool>(
-    units: L,
-    position: usize,
-    bound: u32,
-) -> usize
+pub(crate) fn end_of_below<L: Lanes>(units: L, position: usize, bound: u32) -> usize
     requires { position ≤ length (L.units units) }
     ensures { result ≡ position + leading_below bound (drop position (L.units units)) }
 {
@@ -69,33 +63,11 @@ pub(crate) fn end_of_below<L: Lanes, const IN_CALL: bool>(
     if next == len {
         return next;
     }
-    end_of_long_run::<L, IN_CALL>(units, next, bound)
-}
-
-/// Returns the end of the units from a position on that are all below the bound, in a call or not.
-#[inline(always)]
-fn end_of_long_run<L: Lanes, const IN_CALL: bool>(units: L, position: usize, bound: u32) -> usize
-    requires { position ≤ length (L.units units) }
-    ensures { result ≡ position + leading_below bound (drop position (L.units units)) }
-{
-    if IN_CALL {
-        end_in_call(units, position, bound)
-    } else {
-        end_by_vectors(units, position, bound)
-    }
-}
-
-/// Returns the same end, in a call.
-#[inline(never)]
-fn end_in_call<L: Lanes>(units: L, position: usize, bound: u32) -> usize
-    requires { position ≤ length (L.units units) }
-    ensures { result ≡ position + leading_below bound (drop position (L.units units)) }
-{
-    end_by_vectors(units, position, bound)
+    end_by_vectors(units, next, bound)
 }
 
 /// Returns the same end, by vectors.
-#[inline(always)]
+#[inline(never)]
 fn end_by_vectors<L: Lanes>(units: L, position: usize, bound: u32) -> usize
     requires { position ≤ length (L.units units) }
     ensures { result ≡ position + leading_below bound (drop position (L.units units)) }

@@ -6,4 +6,5 @@ use Rattle.normalizer_text.specs.Utf16.{is_high, is_low, pair_value}
 abbrev pub width_of_pairs_in : (ℕ → Bool) → List ℕ → ℕ
 width_of_pairs_in test [] = 0
 width_of_pairs_in test (u ∷ []) = 0
-width_of_pairs_in test (u ∷ v ∷ us) = if (is_high u && is_low v) && test (pair_value u v) then 2 + width_of_pairs_in test us else 0
+width_of_pairs_in test (u ∷ v ∷ us) =
+    if (is_high u && is_low v) && test (pair_value u v) then 2 + width_of_pairs_in test us else 0

@@ -19,7 +19,7 @@ pub returns : goal.returns
 returns g c =
     let units = g.L.Lanes.units c.args.units in
     let room : c.args.position + 16 ≤ length units = omega arith in
-    end-past c.args.bound units c.args.position 16 c.lanes_below-below.result _ room c.lanes_below-below.ensures c.if-below-ne-LANES.false c.end_of_long_run.ensures
+    end-past c.args.bound units c.args.position 16 c.lanes_below-below.result _ room c.lanes_below-below.ensures c.if-below-ne-LANES.false c.end_by_vectors.ensures
 
 pub returns-then-next-len : goal.returns-then-next-len
 returns-then-next-len g c =
