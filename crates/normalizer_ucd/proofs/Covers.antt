@@ -1,7 +1,8 @@
 -- The lines of a table that is read list each code point.
 use Rattle.std.proofs.Common.{◌≡◌, ◌⊎◌, ⊎_elim, ℕ, ◌+◌, ◌≤◌, ◌<◌, Bool, true, false, not, cond, eqb, ltb, List, [], ◌∷◌}
-use Rattle.std.proofs.Common.{length, suc, Option, Some, None, Result, Ok, Err, refl, sym, ◌∙◌, ap, subst, inl, inr, arith}
-use Rattle.std.specs.Prelude.{Contains, OnOk}
+use Rattle.std.proofs.Common.{length, suc, Option, Some, None, Result, Ok, Err, refl, sym, ◌∙◌, ap, subst, inl, inr}
+use Rattle.std.proofs.Common.{arith}
+use Rattle.std.specs.Prelude.{Contains, OnOk, ◌||◌}
 use Rattle.std.specs.Option.{ok_or, option_and_then}
 use Rattle.std.proofs.lemmas.Bool.{ltb-true, ltb-false, eqb-true}
 use Rattle.normalizer_records.specs.RecordValue.{Uts46RecordValue}
@@ -18,6 +19,7 @@ use Rattle.normalizer_ucd.specs.IdnaTable.{Lists, ListsAll, RangeStatus}
 use Rattle.normalizer_ucd.specs.IdnaTable.{before_stop, end_of, first_of, full_end, last_of, last_text, name_of, place}
 use Rattle.normalizer_ucd.specs.IdnaTable.{ranges_in, read_fields, read_line, start, status_of, uts46_records_in}
 use Rattle.normalizer_ucd.specs.Wholes.{ends_in_line_feed, whole_lines}
+use Rattle.normalizer_ucd.proofs.RisingLemmas.{neither}
 
 -- a step and what comes after it
 bound : {A B : Type 0} (r : Result A LineFault) (f : A → Result B LineFault) (y : B) → (r >>= f) ≡ Ok y →
@@ -54,12 +56,11 @@ below_or a b false e = inr (ltb-false a b e)
 
 end_is : (at : Place) (next first last e : ℕ) → end_of at next first last ≡ Ok e → (next ≡ first) × (e ≡ last + 1)
 end_is at next first last e h =
-    let a = passed (ltb first next) (fault at problems.Order) _ e h in
+    let a = passed (ltb first next || ltb last first) (fault at problems.Order) _ e h in
     let b = passed (ltb next first) (fault at problems.Gap) _ e a.1 in
-    let c = passed (ltb last first) (fault at problems.Order) _ e b.1 in
-    let le : next ≤ first = ltb-false first next a.0 in
+    let le : next ≤ first = ltb-false first next (neither (ltb first next) (ltb last first) a.0).0 in
     let ge : first ≤ next = ltb-false next first b.0 in
-    (omega arith, sym (ok_is (last + 1) e c.1))
+    (omega arith, sym (ok_is (last + 1) e b.1))
 
 fields_end : (choice : Disallowed) (at : Place) (next : ℕ) (line : List ℕ) (r : ℕ × Option RangeStatus) →
     read_fields choice at next line ≡ Ok r →
@@ -123,7 +124,8 @@ covered choice n s (line ∷ rest) r c h lt =
     (covered choice (n + 1) a.0.0 rest b.0 c b.1 inside)
 
 full : (s : Covered) (t : Unit {0}) → full_end s ≡ Ok t → s.end ≡ 0x110000
-full s t h = ⊎_elim (λ yes. eqb-true s.end 0x110000 yes.0) (λ no. absurd (let e = no.1 in cc)) (one_way (eqb s.end 0x110000) _ _ t h)
+full s t h = ⊎_elim (λ yes. eqb-true s.end 0x110000 yes.0) (λ no. absurd (let e = no.1 in cc))
+    (one_way (eqb s.end 0x110000) _ _ t h)
 
 pub covers : (choice : Disallowed) (parts : List (List ℕ)) (ranges : List RangeStatus) →
     ranges_in choice parts ≡ Ok ranges → ListsAll parts
@@ -133,9 +135,11 @@ covers choice parts ranges h c lt =
     let b = bound (full_end a.0.0) _ ranges a.2 in
     let e : a.0.0.end ≡ 0x110000 = full a.0.0 b.0 b.1 in
     let inside : c < a.0.0.end = omega (arith, e, lt) in
-    ⊎_elim (λ none. absurd (let h : c < 0 = none in omega (arith, h))) (λ has. has) (covered choice 1 start parts a.0 c a.1 inside)
+    ⊎_elim (λ none. absurd (let h : c < 0 = none in omega (arith, h))) (λ has. has)
+    (covered choice 1 start parts a.0 c a.1 inside)
 
-lines_are : (file : List ℕ) (parts : List (List ℕ)) → whole_lines files.IdnaMappingTable file ≡ Ok parts → parts ≡ lines file
+lines_are : (file : List ℕ) (parts : List (List ℕ)) → whole_lines files.IdnaMappingTable file ≡ Ok parts → parts
+    ≡ lines file
 unfolding whole_lines
 lines_are file parts h =
     let a = passed (not (ends_in_line_feed file)) _ _ parts h in

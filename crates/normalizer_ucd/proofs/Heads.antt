@@ -1,5 +1,6 @@
 -- The head of a file, line by line.
-use Rattle.std.proofs.Common.{◌≡◌, ℕ, ◌+◌, ◌≤◌, ◌<◌, List, [], ◌∷◌, length, drop, cond, not, true, false, Option, Some, None, Bor, refl}
+use Rattle.std.proofs.Common.{◌≡◌, ℕ, ◌+◌, ◌≤◌, ◌<◌, List, [], ◌∷◌, length, drop, cond, not, true, false, Option}
+use Rattle.std.proofs.Common.{Some, None, Bor, refl}
 use Rattle.std.specs.List.{enumerate_from}
 use Rattle.std.proofs.lemmas.List.Sums.{take_while-cons}
 use Rattle.std.proofs.Math.ListN.{drop_of_length-le}

@@ -1,11 +1,16 @@
 pub mod Covers
-pub mod Cuts
+pub mod FaultLemmas
 pub mod Heads
 pub mod Loop
 pub mod RangeLemmas
 pub mod RisingLemmas
+pub mod SameRecords
+pub mod SameTables
 pub mod SortedMapperRecords
 pub mod SortedRecords
+pub mod SpellingLemmas
 pub mod StatedRecords
 pub mod StatedStatuses
 pub mod Stating
+pub mod TableFaultLemmas
+pub mod UnicodeFaultLemmas

@@ -1,5 +1,6 @@
 -- Items read one after another, as a loop does.
-use Rattle.std.proofs.Common.{◌≡◌, ℕ, ◌+◌, ◌≤◌, ◌<◌, List, [], ◌∷◌, ◌++◌, length, get_or, drop, map, suc, Option, Result, Ok, Err, Bor}
+use Rattle.std.proofs.Common.{◌≡◌, ℕ, ◌+◌, ◌≤◌, ◌<◌, List, [], ◌∷◌, ◌++◌, length, get_or, drop, map, suc, Option}
+use Rattle.std.proofs.Common.{Result, Ok, Err, Bor}
 use Rattle.std.proofs.Common.{refl, sym, ap, ◌∙◌, append_assoc, arith}
 use Rattle.std.specs.Option.{option_to_list}
 use Rattle.std.proofs.lemmas.List.{append-nil}
@@ -34,13 +35,15 @@ pub one_more : (parts : List (Bor (List ℕ))) (i : ℕ) → i < length parts �
 one_more parts i lt = ap texts (drop_step parts i (record { ref_ptr = (0, 0); now = [] }) lt)
 
 pub goes_on : {S B : Type 0} (read : ℕ → S → List ℕ → Result (S × Option B) LineFault) (front : List B) (n i : ℕ)
-    (s t : S) (parts : List (Bor (List ℕ))) (found : Option B) (total : Result (S × List B) LineFault) → i < length parts →
+    (s t : S) (parts : List (Bor (List ℕ))) (found : Option B) (total : Result (S × List B) LineFault) →
+    i < length parts →
     read n s (part_at parts i) ≡ Ok (t, found) → with_front front (read_each read n s (texts (drop i parts))) ≡ total →
     with_front (front ++ option_to_list found) (read_each read (n + 1) t (texts (drop (i + 1) parts))) ≡ total
 unfolding read_each
 goes_on read front n i s t parts found total lt h so_far =
     let others = read_each read (n + 1) t (texts (drop (i + 1) parts)) in
-    let one : with_front front (read_each read n s (texts (drop i parts))) ≡ with_front (front ++ option_to_list found) others
+    let one : with_front front (read_each read n s (texts (drop i parts)))
+    ≡ with_front (front ++ option_to_list found) others
     = rw (one_more parts i lt, h) (regroup front (option_to_list found) others) in
     sym one ∙ so_far
 
@@ -54,7 +57,8 @@ ends (errors.Line e) read front n i s parts total lt h so_far =
     let one : with_front front (read_each read n s (texts (drop i parts))) ≡ Err e = rw (one_more parts i lt, h) refl in
     sym so_far ∙ one
 
-pub is_done : {S B : Type 0} (read : ℕ → S → List ℕ → Result (S × Option B) LineFault) (front : List B) (n i : ℕ) (s : S)
+pub is_done : {S B : Type 0} (read : ℕ → S → List ℕ → Result (S × Option B) LineFault) (front : List B) (n i : ℕ)
+    (s : S)
     (parts : List (Bor (List ℕ))) (total : Result (S × List B) LineFault) → length parts ≤ i →
     with_front front (read_each read n s (texts (drop i parts))) ≡ total → total ≡ Ok (s, front)
 unfolding read_each
@@ -68,6 +72,7 @@ pub fails_on : {A B : Type 0} (e : UcdError) (r : Result A LineFault) (f : A →
 fails_on errors.Memory r f h = tt
 fails_on (errors.Line e) r f h = rw h refl
 
-pub fails_after : {A B : Type 0} (e : UcdError) (r : Result A LineFault) (x : A) (f : A → Result B LineFault) → r ≡ Ok x →
+pub fails_after : {A B : Type 0} (e : UcdError) (r : Result A LineFault) (x : A) (f : A → Result B LineFault) → r
+    ≡ Ok x →
     Fails e (f x) → Fails e (r >>= f)
 fails_after e r x f was h = rw was h

@@ -1,7 +1,7 @@
 -- The records of a file are sorted by character, without duplicates.
 use Rattle.std.proofs.Common.{◌≡◌, ℕ, zero, suc, ◌+◌, ◌≤◌, ◌<◌, List, [], ◌∷◌, ◌++◌, get_or}
-use Rattle.std.proofs.Common.{Option, Result, Ok, Err, refl, ap, subst, arith}
-use Rattle.std.specs.Prelude.{All, AllPairs}
+use Rattle.std.proofs.Common.{Bool, true, false, Option, Result, Ok, Err, refl, ap, subst, arith}
+use Rattle.std.specs.Prelude.{All, AllPairs, ◌||◌}
 use Rattle.std.specs.Option.{option_to_list}
 use Rattle.std.proofs.lemmas.List.Kept.{AllPairs-cons}
 use Rattle.normalizer_ucd.specs.declared.error.LineFault.{LineFault}
@@ -13,9 +13,14 @@ pub record Bound {A B : Type 0} (m : Result A LineFault) (f : A → Result B Lin
   pub is : m ≡ Ok value
   pub then_is : f value ≡ Ok y
 
-pub bound : {A B : Type 0} (m : Result A LineFault) (f : A → Result B LineFault) (y : B) → (m >>= f) ≡ Ok y → Bound m f y
+pub bound : {A B : Type 0} (m : Result A LineFault) (f : A → Result B LineFault) (y : B) → (m >>= f) ≡ Ok y →
+    Bound m f y
 bound (Ok x) f y h = record { value = x; is = refl; then_is = h }
 bound (Err e) f y h = absurd (cc)
+
+pub neither : (a b : Bool) → (a || b) ≡ false → (a ≡ false) × (b ≡ false)
+neither true b h = absurd (cc)
+neither false b h = (refl, h)
 
 pub parts_of_ok : {A B : Type 0} (a c : A) (b d : B) →
     (let read : Result (A × B) LineFault = Ok (a, b) in read) ≡ Ok (c, d) → (a ≡ c) × (b ≡ d)
@@ -42,7 +47,8 @@ module _ {X : Type 0} (first end : X → ℕ) where
   pub read_within : {S A : Type 0} (at : S → ℕ) (read : ℕ → S → A → Result (S × Option X) LineFault) →
       ((n : ℕ) (s t : S) (a : A) (found : Option X) → read n s a ≡ Ok (t, found) →
       IsWithin (at s) (at t) (option_to_list found)) →
-      (n : ℕ) (s t : S) (parts : List A) (xs : List X) → read_each read n s parts ≡ Ok (t, xs) → IsWithin (at s) (at t) xs
+      (n : ℕ) (s t : S) (parts : List A) (xs : List X) → read_each read n s parts ≡ Ok (t, xs) →
+      IsWithin (at s) (at t) xs
   unfolding read_each
   read_within {S} at read step n s t [] xs h =
       let both = parts_of_ok s t [] xs h in

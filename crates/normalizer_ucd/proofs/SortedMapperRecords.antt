@@ -1,7 +1,7 @@
 -- The mapper's records of IdnaMappingTable.txt are sorted by character.
 use Rattle.std.proofs.Common.{◌≡◌, ℕ, zero, suc, ◌+◌, ◌-◌, ◌≤◌, List, [], ◌∷◌, ◌++◌, Bool, true, false}
 use Rattle.std.proofs.Common.{Option, Some, None, Result, Ok, Err, refl, subst, arith}
-use Rattle.std.specs.Prelude.{if◌then◌else◌, nat_lt, ◌==◌, length}
+use Rattle.std.specs.Prelude.{if◌then◌else◌, nat_lt, ◌==◌, ◌||◌, length}
 use Rattle.std.specs.Option.{option_to_list}
 use Rattle.std.specs.List.{flat_map, range_with_len}
 use Rattle.std.proofs.lemmas.Bool.{ltb-false}
@@ -15,12 +15,14 @@ use Rattle.normalizer_ucd.specs.declared.idna_table.Covered.{Covered}
 use Rattle.normalizer_ucd.specs.declared.idna_table.Disallowed.{Disallowed}
 use Rattle.normalizer_ucd.specs.FallibleReads.{◌>>=◌, fault, read_each}
 use Rattle.normalizer_ucd.specs.Fields.{data_of, is_scalar_value, lines}
-use Rattle.normalizer_ucd.specs.IdnaTable.{RangeStatus, end_of, entries_at, entries_of, first_of, full_end, last_of, name_of}
+use Rattle.normalizer_ucd.specs.IdnaTable.{RangeStatus, end_of, entries_at, entries_of, first_of, full_end, last_of}
+use Rattle.normalizer_ucd.specs.IdnaTable.{name_of}
 use Rattle.normalizer_ucd.specs.IdnaTable.{place, range_status, ranges_in, read_fields, read_line, start, status_of}
 use Rattle.normalizer_ucd.specs.IdnaTable.{uts46_records_beside, uts46_records_in, uts46_records_of}
 use Rattle.normalizer_ucd.specs.Versions.{agree, stated_in}
 use Rattle.normalizer_ucd.specs.Wholes.{whole_lines}
-use Rattle.normalizer_ucd.proofs.RisingLemmas.{bound, from_less, joined, parts_of_ok, AreWithin, IsWithin, read_within, rising}
+use Rattle.normalizer_ucd.proofs.RisingLemmas.{bound, neither, from_less, joined, parts_of_ok, AreWithin, IsWithin}
+use Rattle.normalizer_ucd.proofs.RisingLemmas.{read_within, rising}
 
 abbrev character : Uts46RecordValue → ℕ
 character r = r.c
@@ -29,21 +31,20 @@ abbrev AreRanges : ℕ → ℕ → List RangeStatus → Type 0
 AreRanges = IsWithin (λ r. r.first) (λ r. r.end)
 
 -- where a range ends
-chosen : (late early empty : Bool) (e f g : LineFault) (last end : ℕ) →
-    (if late then Err e else if early then Err f else if empty then Err g else Ok last) ≡ Ok end →
-    (late ≡ false) × (empty ≡ false) × (last ≡ end)
-chosen true early empty e f g last end h = absurd (cc)
-chosen false true empty e f g last end h = absurd (cc)
-chosen false false true e f g last end h = absurd (cc)
-chosen false false false e f g last end h = (refl, refl, cc)
+chosen : (wrong early : Bool) (e f : LineFault) (last end : ℕ) →
+    (if wrong then Err e else if early then Err f else Ok last) ≡ Ok end → (wrong ≡ false) × (last ≡ end)
+chosen true early e f last end h = absurd (cc)
+chosen false true e f last end h = absurd (cc)
+chosen false false e f last end h = (refl, cc)
 
 ends : (at : Place) (next first last end : ℕ) → end_of at next first last ≡ Ok end → (next ≤ first) × (first + 1 ≤ end)
 ends at next first last end h =
-    let all = chosen (nat_lt first next) (nat_lt next first) (nat_lt last first) (fault at problems.Order)
-    (fault at problems.Gap) (fault at problems.Order) (last + 1) end h in
-    let after : next ≤ first = ltb-false first next all.0 in
-    let fits : first ≤ last = ltb-false last first all.1 in
-    let is = all.2 in
+    let all = chosen (nat_lt first next || nat_lt last first) (nat_lt next first) (fault at problems.Order)
+    (fault at problems.Gap) (last + 1) end h in
+    let right = neither (nat_lt first next) (nat_lt last first) all.0 in
+    let after : next ≤ first = ltb-false first next right.0 in
+    let fits : first ≤ last = ltb-false last first right.1 in
+    let is = all.1 in
     (after, omega arith)
 
 of_status : (next first end : ℕ) (status : Option Status) → next ≤ first → first + 1 ≤ end →
@@ -90,7 +91,8 @@ line_within : (choice : Disallowed) (n : ℕ) (covered next : Covered) (line : L
     read_line choice n covered line ≡ Ok (next, found) → AreRanges covered.end next.end (option_to_list found)
 unfolding read_line
 line_within choice n covered next line found h =
-    blank_or (length (data_of line) == 0) n covered next found (read_fields choice (place n) covered.end (data_of line)) h
+    blank_or (length (data_of line) == 0) n covered next found
+    (read_fields choice (place n) covered.end (data_of line)) h
     (λ end f. fields_within choice (place n) covered.end end (data_of line) f)
 
 -- the record of a character, if it is one, and those of what follows
@@ -104,7 +106,8 @@ all_within : (status : Status) (count first end : ℕ) → end ≡ first + count
     AreWithin character first end (flat_map (entries_at status) (range_with_len first count))
 all_within status zero first end is = omega arith
 all_within status (suc count) first end is =
-    first_or_none (is_scalar_value first) status first end (flat_map (entries_at status) (range_with_len (first + 1) count))
+    first_or_none (is_scalar_value first) status first end
+    (flat_map (entries_at status) (range_with_len (first + 1) count))
     (all_within status count (first + 1) end (omega arith))
 
 of_ranges : (n m : ℕ) (ranges : List RangeStatus) → AreRanges n m ranges →
@@ -151,5 +154,6 @@ pub records_beside_are_rising : (exclusions table : List ℕ) (choice : Disallow
 unfolding uts46_records_beside
 records_beside_are_rising exclusions table choice records h =
     let parts = bound (whole_lines files.IdnaMappingTable table) _ _ h in
-    let same = bound (agree (stated_in (lines exclusions)) files.IdnaMappingTable (stated_in parts.value)) _ _ parts.then_is in
+    let same = bound (agree (stated_in (lines exclusions)) files.IdnaMappingTable
+    (stated_in parts.value)) _ _ parts.then_is in
     in_lines choice parts.value records same.then_is

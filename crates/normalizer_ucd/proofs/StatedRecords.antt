@@ -1,6 +1,8 @@
 -- The records that are read of the two files are those that their lines state.
-use Rattle.std.proofs.Common.{◌≡◌, ◌↔◌, inl, inr, ℕ, zero, suc, ◌+◌, Bool, true, false, List, [], ◌∷◌, ◌++◌, length, map}
-use Rattle.std.proofs.Common.{Contains, IsSomeAnd, IsTrue, Option, Some, None, Result, Ok, Err, refl, sym, ap, subst, ◌∙◌, arith, eqb-true, eq-eqb}
+use Rattle.std.proofs.Common.{◌≡◌, ◌↔◌, inl, inr, ℕ, zero, suc, ◌+◌, Bool, true, false, List, [], ◌∷◌, ◌++◌, length}
+use Rattle.std.proofs.Common.{map}
+use Rattle.std.proofs.Common.{Contains, IsSomeAnd, IsTrue, Option, Some, None, Result, Ok, Err, refl, sym, ap, subst}
+use Rattle.std.proofs.Common.{◌∙◌, arith, eqb-true, eq-eqb}
 use Rattle.std.specs.Prelude.{if◌then◌else◌, ◌==◌, ◌||◌, nat_eq, not}
 use Rattle.std.specs.List.{ends_with, slice_split}
 use Rattle.std.specs.Option.{ok_or, option_and_then, option_to_list}
@@ -17,12 +19,14 @@ use Rattle.normalizer_ucd.specs.declared.error.UcdFile.TheVariants as files
 use Rattle.normalizer_ucd.specs.declared.exclusions.Exclusion.{Exclusion}
 use Rattle.normalizer_ucd.specs.declared.unicode_data.Part.{Part}
 use Rattle.normalizer_ucd.specs.declared.unicode_data.Part.TheVariants.{Whole, First, Last}
-use Rattle.normalizer_ucd.specs.declared.unicode_data.Position.{Position}
 use Rattle.normalizer_ucd.specs.Exclusions.{all_mapped, exclusion_of, exclusions_in, place as exclusion_place}
 use Rattle.normalizer_ucd.specs.FallibleReads.{◌>>=◌, fault, read_each}
-use Rattle.normalizer_ucd.specs.Fields.{character, characters_in, code_point, data_of, field, is_scalar_value, lines, number, read_character}
-use Rattle.normalizer_ucd.specs.UnicodeData.{class_of, closed_end, code_of, combining_class, entry_of, first_mark, is_blank, is_listed, is_tagged}
-use Rattle.normalizer_ucd.specs.UnicodeData.{mapping_in, mapping_of, part_named, part_of, place, read_fields, read_line, records_by, records_in}
+use Rattle.normalizer_ucd.specs.Fields.{character, characters_in, code_point, data_of, field, is_scalar_value, lines}
+use Rattle.normalizer_ucd.specs.Fields.{number, read_character}
+use Rattle.normalizer_ucd.specs.UnicodeData.{class_of, closed_end, code_of, combining_class, entry_of, field_of}
+use Rattle.normalizer_ucd.specs.UnicodeData.{first_mark, is_blank, is_listed, is_tagged}
+use Rattle.normalizer_ucd.specs.UnicodeData.{mapping_in, mapping_of, part_named, place, PositionValue, range_name}
+use Rattle.normalizer_ucd.specs.UnicodeData.{read_fields, read_line, records_by, records_in}
 use Rattle.normalizer_ucd.specs.UnicodeData.{records_of, start, step, untagged_mapping}
 use Rattle.normalizer_ucd.specs.UnicodeLines.{AreStated, IsMapping, IsOfCode, is_of_range, States}
 use Rattle.normalizer_ucd.specs.Versions.{agree, stated_in}
@@ -48,9 +52,11 @@ of_found : {X : Type 0} (o : Option X) (x : X) → o ≡ Some x → Contains (op
 of_found o x is = subst (λ p. Contains (option_to_list p) x) (sym is) (first_has x [])
 
 -- what is found in parts, one after another
-module _ {S A B C : Type 0} (read : ℕ → S → A → Result (S × Option B) LineFault) (key : B → C) (Says : A → C → Type 0) where
+module _ {S A B C : Type 0} (read : ℕ → S → A → Result (S × Option B) LineFault) (key : B → C) (Says : A → C →
+    Type 0) where
   pub found_says : ((n : ℕ) (s t : S) (a : A) (b : B) → read n s a ≡ Ok (t, Some b) → Says a (key b)) →
-      (n : ℕ) (s t : S) (parts : List A) (xs : List B) → read_each read n s parts ≡ Ok (t, xs) → (b : B) → Contains xs b →
+      (n : ℕ) (s t : S) (parts : List A) (xs : List B) → read_each read n s parts ≡ Ok (t, xs) → (b : B) →
+      Contains xs b →
       (a : A) × Contains parts a × Says a (key b)
   unfolding read_each
   found_says says n s t [] xs h b has =
@@ -63,8 +69,12 @@ module _ {S A B C : Type 0} (read : ℕ → S → A → Result (S × Option B) L
       let there = subst (λ (ys : List B). Contains ys b) (sym both.1) has in
       elim (Contains-append_cases (option_to_list one.value.1) others.value.1 b there) [
         | inl here ↦
-            let is = in_found one.value.1 b here in
-            (a, first_has a parts, says n s one.value.0 a b (subst (λ (o : Option B). read n s a ≡ Ok (one.value.0, o)) is one.is))
+            let is = in_found one.value.1 b here in (
+              a,
+              first_has a parts,
+              says n s one.value.0 a b
+                  (subst (λ (o : Option B). read n s a ≡ Ok (one.value.0, o)) is one.is),
+            )
         | inr further ↦
             let more = found_says says (n + 1) one.value.0 others.value.0 parts others.value.1 others.is b further in
             (more.0, later_has a more.0 parts more.1, more.2)
@@ -83,14 +93,16 @@ module _ {S A B C : Type 0} (read : ℕ → S → A → Result (S × Option B) L
       let found = finds n s one.value.0 p one.value.1 c one.is (subst (λ (q : A). Says q c) (sym at) says) in (
         found.0,
         subst (λ (ys : List B). Contains ys found.0) both.1
-            (Contains-append_left (option_to_list one.value.1) others.value.1 found.0 (of_found one.value.1 found.0 found.1)),
+            (Contains-append_left (option_to_list one.value.1) others.value.1 found.0
+            (of_found one.value.1 found.0 found.1)),
         found.2,
       )
   says_found finds n s t (p ∷ parts) xs h a c (suc k, lt, at) says =
       let one = bound (read n s p) _ _ h in
       let others = bound (read_each read (n + 1) one.value.0 parts) _ _ one.then_is in
       let both = parts_of_ok others.value.0 t (option_to_list one.value.1 ++ others.value.1) xs others.then_is in
-      let found = says_found finds (n + 1) one.value.0 others.value.0 parts others.value.1 others.is a c (k, omega arith, at) says in (
+      let found = says_found finds (n + 1) one.value.0 others.value.0 parts others.value.1 others.is a c
+      (k, omega arith, at) says in (
         found.0,
         subst (λ (ys : List B). Contains ys found.0) both.1
             (Contains-append_right (option_to_list one.value.1) others.value.1 found.0 found.1),
@@ -186,15 +198,17 @@ module _ (at : Place) (line : List ℕ) where
   class_is : (c : ℕ) → class_of at line ≡ Ok c → option_and_then combining_class (field line 3) ≡ Some c
   class_is c h = read_field (field line 3) combining_class _ _ c h
 
-  part_is : (p : Part) → part_of at line ≡ Ok p → IsSomeAnd (field line 1) (λ name. part_named name ≡ p)
-  part_is p h = of_name (field line 1) h
+  name_is : (name : List ℕ) → field_of at line 1 ≡ Ok name →
+      IsSomeAnd (field line 1) (λ x. part_named x ≡ part_named name)
+  name_is name h = of_name (field line 1) h
     where
-      of_name : (o : Option (List ℕ)) → (ok_or o (fault at problems.MissingField) >>= λ name. Ok (part_named name)) ≡ Ok p →
-          IsSomeAnd o (λ name. part_named name ≡ p)
+      of_name : (o : Option (List ℕ)) → ok_or o (fault at problems.MissingField) ≡ Ok name →
+          IsSomeAnd o (λ x. part_named x ≡ part_named name)
       of_name None h = absurd (cc)
-      of_name (Some name) h = ok_is (part_named name) p h
+      of_name (Some x) h = ap part_named (ok_is x name h)
 
-  mapping_of_is : (v : Bool × List ℕ) → mapping_of at line ≡ Ok v → IsSomeAnd (field line 5) (λ text. IsMapping text v.0 v.1)
+  mapping_of_is : (v : Bool × List ℕ) → mapping_of at line ≡ Ok v →
+      IsSomeAnd (field line 5) (λ text. IsMapping text v.0 v.1)
   mapping_of_is v h = of_text (field line 5) h
     where
       of_text : (o : Option (List ℕ)) →
@@ -285,10 +299,13 @@ module _ (exclusions : List Exclusion) (at : Place) where
       })
       r h in
       record { whole = refl; scalar = tests.1; some = tests.0; same = tests.2 }
-  entry_made code class First mapping r h = absurd (not_whole (is_blank class mapping.1) (fault at problems.NotACharacter) r h)
-  entry_made code class Last mapping r h = absurd (not_whole (is_blank class mapping.1) (fault at problems.NotACharacter) r h)
+  entry_made code class First mapping r h = absurd
+      (not_whole (is_blank class mapping.1) (fault at problems.NotACharacter) r h)
+  entry_made code class Last mapping r h = absurd
+      (not_whole (is_blank class mapping.1) (fault at problems.NotACharacter) r h)
 
-  made_entry : (code class : ℕ) (mapping : Bool × List ℕ) → is_scalar_value code ≡ true → is_blank class mapping.1 ≡ false →
+  made_entry : (code class : ℕ) (mapping : Bool × List ℕ) → is_scalar_value code ≡ true → is_blank class mapping.1
+      ≡ false →
       entry_of exclusions at code Whole class mapping ≡ Ok (Some (made code class mapping))
   unfolding entry_of
   made_entry code class mapping scalar some =
@@ -307,27 +324,31 @@ abbrev Says : List Exclusion → List ℕ → RecordValue → Type 0
 Says exclusions line r = States line r × (r.excluded ≡ is_listed exclusions r.c)
 
 module _ (exclusions : List Exclusion) where
-  fields_say : (at : Place) (position next : Position) (line : List ℕ) (r : RecordValue) →
+  fields_say : (at : Place) (position next : PositionValue) (line : List ℕ) (r : RecordValue) →
       read_fields exclusions at position (data_of line) ≡ Ok (next, Some r) → Says exclusions line r
   unfolding read_fields
   fields_say at position next line r h =
       let data' = data_of line in
-      let code = bound (code_of at data') _ _ h in
-      let part = bound (part_of at data') _ _ code.then_is in
-      let class = bound (class_of at data') _ _ part.then_is in
+      let last = bound (field_of at data' 14) _ _ h in
+      let code = bound (code_of at data') _ _ last.then_is in
+      let name = bound (field_of at data' 1) _ _ code.then_is in
+      let class = bound (class_of at data') _ _ name.then_is in
       let mapping = bound (mapping_of at data') _ _ class.then_is in
-      let stepped = bound (step at position code.value part.value) _ _ mapping.then_is in
-      let entry = bound (entry_of exclusions at code.value part.value class.value mapping.value) _ _ stepped.then_is in
+      let part = part_named name.value in
+      let stepped = bound (step at position code.value part (range_name name.value)) _ _ mapping.then_is in
+      let entry = bound (entry_of exclusions at code.value part class.value mapping.value) _ _ stepped.then_is in
       let both = parts_of_ok stepped.value next entry.value (Some r) entry.then_is in
-      let all = entry_made exclusions at code.value class.value part.value mapping.value r
-      (subst (λ (o : Option RecordValue). entry_of exclusions at code.value part.value class.value mapping.value ≡ Ok o) both.1 entry.is) in
+      let all = entry_made exclusions at code.value class.value part mapping.value r
+      (subst (λ (o : Option RecordValue). entry_of exclusions at code.value part class.value mapping.value
+      ≡ Ok o) both.1 entry.is) in
       let m = made exclusions at code.value class.value mapping.value in
       let says : Says exclusions line m = (
         record {
           code = code_is at data' code.value code.is;
           scalar = all.scalar;
-          single = both_hold (field data' 1) (λ name. part_named name ≡ part.value) (λ name. part_named name ≡ part.value)
-              (λ name. is_of_range name ≡ false) (part_is at data' part.value part.is) (part_is at data' part.value part.is)
+          single = both_hold (field data' 1) (λ name. part_named name ≡ part) (λ name. part_named name ≡ part)
+              (λ name. is_of_range name ≡ false) (name_is at data' name.value name.is)
+              (name_is at data' name.value name.is)
               (λ name is again. single_named name (is ∙ all.whole));
           class = class_is at data' class.value class.is;
           mapping = mapping_of_is at data' mapping.value mapping.is;
@@ -337,52 +358,63 @@ module _ (exclusions : List Exclusion) where
       ) in
       subst (Says exclusions line) all.same says
 
-  blank_or : (blank : Bool) (position next : Position) (r : RecordValue) (read : Result (Position × Option RecordValue) LineFault) →
+  blank_or : (blank : Bool) (position next : PositionValue) (r : RecordValue)
+      (read : Result (PositionValue × Option RecordValue) LineFault) →
       (if blank then Ok (position, None) else read) ≡ Ok (next, Some r) → read ≡ Ok (next, Some r)
-  blank_or true position next r read h = absurd (let both = parts_of_ok position next None (Some r) h in let none = both.1 in cc)
+  blank_or true position next r read h = absurd
+      (let both = parts_of_ok position next None (Some r) h in let none = both.1 in cc)
   blank_or false position next r read h = h
 
-  line_says : (n : ℕ) (position next : Position) (line : List ℕ) (r : RecordValue) →
+  line_says : (n : ℕ) (position next : PositionValue) (line : List ℕ) (r : RecordValue) →
       read_line exclusions n position line ≡ Ok (next, Some r) → Says exclusions line r
   unfolding read_line
   line_says n position next line r h =
       fields_say (place n) position next line r
-      (blank_or (length (data_of line) == 0) position next r (read_fields exclusions (place n) position (data_of line)) h)
+      (blank_or (length (data_of line) == 0) position next r
+      (read_fields exclusions (place n) position (data_of line)) h)
 
-  says_fields : (at : Place) (position next : Position) (line : List ℕ) (found : Option RecordValue) (r : RecordValue) →
+  says_fields : (at : Place) (position next : PositionValue) (line : List ℕ) (found : Option RecordValue)
+      (r : RecordValue) →
       read_fields exclusions at position (data_of line) ≡ Ok (next, found) → Says exclusions line r → found ≡ Some r
   unfolding read_fields
   says_fields at position next line found r h says =
       let data' = data_of line in
-      let code = bound (code_of at data') _ _ h in
-      let part = bound (part_of at data') _ _ code.then_is in
-      let class = bound (class_of at data') _ _ part.then_is in
+      let last = bound (field_of at data' 14) _ _ h in
+      let code = bound (code_of at data') _ _ last.then_is in
+      let name = bound (field_of at data' 1) _ _ code.then_is in
+      let class = bound (class_of at data') _ _ name.then_is in
       let mapping = bound (mapping_of at data') _ _ class.then_is in
-      let stepped = bound (step at position code.value part.value) _ _ mapping.then_is in
-      let entry = bound (entry_of exclusions at code.value part.value class.value mapping.value) _ _ stepped.then_is in
+      let part = part_named name.value in
+      let stepped = bound (step at position code.value part (range_name name.value)) _ _ mapping.then_is in
+      let entry = bound (entry_of exclusions at code.value part class.value mapping.value) _ _ stepped.then_is in
       let both = parts_of_ok stepped.value next entry.value found entry.then_is in
-      let same_code : code.value ≡ r.c = some_is code.value r.c (sym (code_is at data' code.value code.is) ∙ says.0.code) in
+      let same_code : code.value ≡ r.c = some_is code.value r.c (sym (code_is at data' code.value code.is)
+      ∙ says.0.code) in
       let same_class : class.value ≡ r.class
       = some_is class.value r.class (sym (class_is at data' class.value class.is) ∙ says.0.class) in
-      let whole : part.value ≡ Whole
-      = some_holds (field data' 1) (λ name. part_named name ≡ Whole × (part_named name ≡ part.value)) (part.value ≡ Whole)
-      (both_hold (field data' 1) (λ name. is_of_range name ≡ false) (λ name. part_named name ≡ part.value)
-      (λ name. part_named name ≡ Whole × (part_named name ≡ part.value)) says.0.single (part_is at data' part.value part.is)
+      let whole : part ≡ Whole
+      = some_holds (field data' 1) (λ name. part_named name ≡ Whole × (part_named name ≡ part)) (part ≡ Whole)
+      (both_hold (field data' 1) (λ name. is_of_range name ≡ false) (λ name. part_named name ≡ part)
+      (λ name. part_named name ≡ Whole × (part_named name ≡ part)) says.0.single (name_is at data' name.value name.is)
       (λ name single is. (named_single name single, is)))
       (λ name two. sym two.1 ∙ two.0) in
       let same_mapping : (mapping.value.0 ≡ r.compatibility) × (mapping.value.1 ≡ r.mapping)
       = some_holds (field data' 5) (λ text. IsMapping text mapping.value.0 mapping.value.1 × IsMapping text r.compatibility r.mapping)
       ((mapping.value.0 ≡ r.compatibility) × (mapping.value.1 ≡ r.mapping))
-      (both_hold (field data' 5) (λ text. IsMapping text mapping.value.0 mapping.value.1) (λ text. IsMapping text r.compatibility r.mapping)
+      (both_hold (field data' 5) (λ text. IsMapping text mapping.value.0 mapping.value.1)
+      (λ text. IsMapping text r.compatibility r.mapping)
       (λ text. IsMapping text mapping.value.0 mapping.value.1 × IsMapping text r.compatibility r.mapping)
       (mapping_of_is at data' mapping.value mapping.is) says.0.mapping (λ text is wanted. (is, wanted)))
       (λ text two. one_mapping text mapping.value.0 r.compatibility mapping.value.1 r.mapping two.0 two.1) in
       let scalar : is_scalar_value code.value ≡ true = ap is_scalar_value same_code ∙ says.0.scalar in
       let some : is_blank class.value mapping.value.1 ≡ false
-      = ap (λ (k : ℕ). is_blank k mapping.value.1) same_class ∙ ap (λ (x : List ℕ). is_blank r.class x) same_mapping.1 ∙ says.0.some in
+      = ap (λ (k : ℕ). is_blank k mapping.value.1) same_class ∙ ap (λ (x : List ℕ). is_blank r.class x) same_mapping.1
+      ∙ says.0.some in
       let is = made_entry exclusions at code.value class.value mapping.value scalar some in
-      let read : entry_of exclusions at code.value part.value class.value mapping.value ≡ Ok (Some (made exclusions at code.value class.value mapping.value))
-      = subst (λ (p : Part). entry_of exclusions at code.value p class.value mapping.value ≡ Ok (Some (made exclusions at code.value class.value mapping.value))) (sym whole) is in
+      let read : entry_of exclusions at code.value part class.value mapping.value
+      ≡ Ok (Some (made exclusions at code.value class.value mapping.value))
+      = subst (λ (p : Part). entry_of exclusions at code.value p class.value mapping.value
+      ≡ Ok (Some (made exclusions at code.value class.value mapping.value))) (sym whole) is in
       let value : entry.value ≡ Some (made exclusions at code.value class.value mapping.value)
       = ok_is entry.value (Some (made exclusions at code.value class.value mapping.value)) (sym entry.is ∙ read) in
       let listed : is_listed exclusions code.value ≡ r.excluded = ap (is_listed exclusions) same_code ∙ sym says.1 in
@@ -390,16 +422,19 @@ module _ (exclusions : List Exclusion) where
       = λ i. record { c = same_code i; class = same_class i; mapping = same_mapping.1 i; compatibility = same_mapping.0 i; excluded = listed i } in
       sym both.1 ∙ value ∙ ap Some same
 
-  says_line : (n : ℕ) (position next : Position) (line : List ℕ) (found : Option RecordValue) (r : RecordValue) →
+  says_line : (n : ℕ) (position next : PositionValue) (line : List ℕ) (found : Option RecordValue) (r : RecordValue) →
       read_line exclusions n position line ≡ Ok (next, found) → Says exclusions line r →
       (b : RecordValue) × (found ≡ Some b) × (b ≡ r)
   unfolding read_line
   says_line n position next line found r h says = (r, by (length (data_of line) == 0) refl h, refl)
     where
       by : (blank : Bool) → (length (data_of line) == 0) ≡ blank →
-          (if blank then Ok (position, None) else read_fields exclusions (place n) position (data_of line)) ≡ Ok (next, found) →
+          (if blank then Ok (position, None) else read_fields exclusions (place n) position (data_of line))
+          ≡ Ok (next, found) →
           found ≡ Some r
-      by true empty h = absurd (no_code r.c (subst (λ (d : List ℕ). option_and_then code_point (field d 0) ≡ Some r.c) (empty_is (data_of line) empty) says.0.code))
+      by true empty h = absurd (no_code r.c
+          (subst (λ (d : List ℕ). option_and_then code_point (field d 0) ≡ Some r.c)
+          (empty_is (data_of line) empty) says.0.code))
       by false full h = says_fields (place n) position next line found r h says
 
   records_say : (parts : List (List ℕ)) (records : List RecordValue) → records_in exclusions parts ≡ Ok records →
@@ -409,10 +444,12 @@ module _ (exclusions : List Exclusion) where
       let read = bound (read_each (read_line exclusions) 1 start parts) _ _ h in
       let closed = bound (closed_end read.value.0) _ _ read.then_is in
       let same : read.value.1 ≡ records = ok_is read.value.1 records closed.then_is in (
-        λ has. found_says (read_line exclusions) (λ b. b) (Says exclusions) (λ n s t a b is. line_says n s t a b is) 1 start
+        λ has. found_says (read_line exclusions) (λ b. b) (Says exclusions)
+            (λ n s t a b is. line_says n s t a b is) 1 start
             read.value.0 parts read.value.1 read.is r (subst (λ (rs : List RecordValue). Contains rs r) (sym same) has),
         λ says.
-            let found = says_found (read_line exclusions) (λ b. b) (Says exclusions) (λ n s t a f c is. says_line n s t a f c is) 1 start
+            let found = says_found (read_line exclusions) (λ b. b) (Says exclusions)
+            (λ n s t a f c is. says_line n s t a f c is) 1 start
             read.value.0 parts read.value.1 read.is says.0 r says.1 says.2 in
             subst (λ (rs : List RecordValue). Contains rs r) same
             (subst (Contains read.value.1) found.2 found.1),
@@ -437,7 +474,8 @@ unfolding exclusion_of
 exclusion_says n s t line e h = by (length (data_of line) == 0) h
   where
     by : (blank : Bool) →
-        (if blank then Ok (tt, None) else read_code n (option_and_then code_point (field (data_of line) 0))) ≡ Ok (t, Some e) →
+        (if blank then Ok (tt, None) else read_code n (option_and_then code_point (field (data_of line) 0)))
+        ≡ Ok (t, Some e) →
         IsOfCode line e.code
     by true h = absurd (let both = parts_of_ok tt t None (Some e) h in let none = both.1 in cc)
     by false h =
@@ -451,10 +489,12 @@ unfolding exclusion_of
 says_exclusion n s t line found c h says = by (length (data_of line) == 0) refl h
   where
     by : (blank : Bool) → (length (data_of line) == 0) ≡ blank →
-        (if blank then Ok (tt, None) else read_code n (option_and_then code_point (field (data_of line) 0))) ≡ Ok (t, found) →
+        (if blank then Ok (tt, None) else read_code n (option_and_then code_point (field (data_of line) 0)))
+        ≡ Ok (t, found) →
         (e : Exclusion) × (found ≡ Some e) × (e.code ≡ c)
     by true empty h =
-        absurd (no_code c (subst (λ (d : List ℕ). option_and_then code_point (field d 0) ≡ Some c) (empty_is (data_of line) empty) says))
+        absurd (no_code c (subst (λ (d : List ℕ). option_and_then code_point (field d 0) ≡ Some c)
+        (empty_is (data_of line) empty) says))
     by false full h =
         let is = of_code n t (option_and_then code_point (field (data_of line) 0)) found h in
         (listing n is.0, is.2, some_is is.0 c (sym is.1 ∙ says))
@@ -468,10 +508,12 @@ listed_is parts exclusions h c =
       λ listed.
           let (k, e, within, at, is) = Any-from_list_any (λ (x : Exclusion). x.code == c) exclusions listed in
           let there = subst (λ (es : List Exclusion). Contains es e) (sym same) (k, within, at) in
-          let says = found_says exclusion_of (λ (x : Exclusion). x.code) IsOfCode exclusion_says 1 tt read.value.0 parts read.value.1 read.is e there in
+          let says = found_says exclusion_of
+          (λ (x : Exclusion). x.code) IsOfCode exclusion_says 1 tt read.value.0 parts read.value.1 read.is e there in
           (says.0, says.1, subst (IsOfCode says.0) (eqb-true e.code c is) says.2),
       λ says.
-          let found = says_found exclusion_of (λ (x : Exclusion). x.code) IsOfCode says_exclusion 1 tt read.value.0 parts read.value.1 read.is
+          let found = says_found exclusion_of
+          (λ (x : Exclusion). x.code) IsOfCode says_exclusion 1 tt read.value.0 parts read.value.1 read.is
           says.0 c says.1 says.2 in
           let there = subst (λ (es : List Exclusion). Contains es found.0) same found.1 in
           list_any-from_Any (λ (x : Exclusion). x.code == c) exclusions
@@ -480,7 +522,8 @@ listed_is parts exclusions h c =
 
 -- Both files
 
-two_tests : {A : Type 0} (a b : Bool) (e f : LineFault) (x y : A) → (if a then Err e else if b then Ok x else Err f) ≡ Ok y →
+two_tests : {A : Type 0} (a b : Bool) (e f : LineFault) (x y : A) → (if a then Err e else if b then Ok x else Err f)
+    ≡ Ok y →
     y ≡ x
 two_tests true b e f x y h = absurd (cc)
 two_tests false true e f x y h = sym (ok_is x y h)
@@ -523,7 +566,12 @@ records_are_stated unicode_data exclusions records h r =
             excluded = (
               λ yes. (let line = lists.0 (sym found.2.1 ∙ yes) in
                   (line.0, subst (λ (ls : List (List ℕ)). Contains ls line.0) of_listed line.1, line.2)),
-              λ line. found.2.1 ∙ lists.1 (line.0, subst (λ (ls : List (List ℕ)). Contains ls line.0) (sym of_listed) line.1, line.2),
+              λ line. found.2.1 ∙ lists.1 (
+                line.0,
+                subst (λ (ls : List (List ℕ)). Contains ls line.0)
+                    (sym of_listed) line.1,
+                line.2,
+              ),
             );
           },
       λ stated.
@@ -532,8 +580,16 @@ records_are_stated unicode_data exclusions records h r =
             λ yes. (let line = stated.excluded.0 yes in
                 lists.1 (line.0, subst (λ (ls : List (List ℕ)). Contains ls line.0) (sym of_listed) line.1, line.2)),
             λ yes. (let line = lists.0 yes in
-                stated.excluded.1 (line.0, subst (λ (ls : List (List ℕ)). Contains ls line.0) of_listed line.1, line.2)),
+                stated.excluded.1 (
+                  line.0,
+                  subst (λ (ls : List (List ℕ)). Contains ls line.0) of_listed line.1,
+                  line.2,
+                )),
           ) in
           subst (λ (rs : List RecordValue). Contains rs r) is
-          (says.1 (stated.line, subst (λ (ls : List (List ℕ)). Contains ls stated.line) (sym of_lines) stated.there, (stated.states, flag))),
+          (says.1 (
+            stated.line,
+            subst (λ (ls : List (List ℕ)). Contains ls stated.line) (sym of_lines) stated.there,
+            (stated.states, flag),
+          )),
     )

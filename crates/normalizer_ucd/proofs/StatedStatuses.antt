@@ -1,7 +1,9 @@
 -- The mapper's records that are read of a table are those that its lines state.
-use Rattle.std.proofs.Common.{◌≡◌, ◌↔◌, inl, inr, ℕ, zero, suc, ◌+◌, ◌-◌, ◌<◌, ◌≤◌, Bool, true, false, List, [], ◌∷◌, length}
-use Rattle.std.proofs.Common.{Contains, IsSomeAnd, Option, Some, None, Result, Ok, Err, refl, sym, ap, subst, ◌∙◌, arith}
-use Rattle.std.specs.Prelude.{if◌then◌else◌, ◌==◌, nat_lt}
+use Rattle.std.proofs.Common.{◌≡◌, ◌↔◌, inl, inr, ℕ, zero, suc, ◌+◌, ◌-◌, ◌<◌, ◌≤◌, Bool, true, false, List, [], ◌∷◌}
+use Rattle.std.proofs.Common.{length}
+use Rattle.std.proofs.Common.{Contains, IsSomeAnd, Option, Some, None, Result, Ok, Err, refl, sym, ap, subst, ◌∙◌}
+use Rattle.std.proofs.Common.{arith}
+use Rattle.std.specs.Prelude.{if◌then◌else◌, ◌==◌, ◌||◌, nat_lt}
 use Rattle.std.specs.List.{flat_map, range_with_len, slice_split}
 use Rattle.std.specs.Option.{ok_or, option_and_then}
 use Rattle.std.proofs.lemmas.Bool.{ltb-false}
@@ -19,14 +21,18 @@ use Rattle.normalizer_ucd.specs.declared.idna_table.StatusName.TheVariants as na
 use Rattle.normalizer_ucd.specs.FallibleReads.{◌>>=◌, fault, read_each}
 use Rattle.normalizer_ucd.specs.Fields.{characters, code_point, data_of, field, is_scalar_value, lines, number}
 use Rattle.normalizer_ucd.specs.IdnaLines.{AreStatuses, IsDone, StatesStatus}
-use Rattle.normalizer_ucd.specs.IdnaTable.{before_stop, end_of, entries_at, entries_of, first_of, full_end, is_kept, last_of, last_text}
-use Rattle.normalizer_ucd.specs.IdnaTable.{mapping_of, name_of, place, range_status, RangeStatus, ranges_in, read_fields, read_line}
-use Rattle.normalizer_ucd.specs.IdnaTable.{start, status_named, status_of, uts46_records_beside, uts46_records_in, uts46_records_of}
+use Rattle.normalizer_ucd.specs.IdnaTable.{before_stop, end_of, entries_at, entries_of, first_of, full_end, is_kept}
+use Rattle.normalizer_ucd.specs.IdnaTable.{last_of, last_text}
+use Rattle.normalizer_ucd.specs.IdnaTable.{mapping_of, name_of, place, range_status, RangeStatus, ranges_in}
+use Rattle.normalizer_ucd.specs.IdnaTable.{read_fields, read_line}
+use Rattle.normalizer_ucd.specs.IdnaTable.{start, status_named, status_of, uts46_records_beside, uts46_records_in}
+use Rattle.normalizer_ucd.specs.IdnaTable.{uts46_records_of}
 use Rattle.normalizer_ucd.specs.UnicodeLines.{Spells}
 use Rattle.normalizer_ucd.specs.Versions.{agree, stated_in}
 use Rattle.normalizer_ucd.specs.Wholes.{whole_lines}
-use Rattle.normalizer_ucd.proofs.RisingLemmas.{bound, parts_of_ok}
-use Rattle.normalizer_ucd.proofs.StatedRecords.{empty_is, first_has, found_says, later_has, lines_whole, none_has, ok_is, read_field}
+use Rattle.normalizer_ucd.proofs.RisingLemmas.{bound, neither, parts_of_ok}
+use Rattle.normalizer_ucd.proofs.StatedRecords.{empty_is, first_has, found_says, later_has, lines_whole, none_has}
+use Rattle.normalizer_ucd.proofs.StatedRecords.{ok_is, read_field}
 use Rattle.normalizer_ucd.proofs.StatedRecords.{same_characters, says_found, some_is, spelled}
 
 -- the elements of lists, one list after another
@@ -116,7 +122,8 @@ record SaysRange (choice : Disallowed) (line : List ℕ) (g : RangeStatus) : Typ
 characters_spelled : (f : LineFault) (text x : List ℕ) → characters f text ≡ Ok x → Spells text x
 characters_spelled f text x h = spelled f (slice_split (λ b. b == 0x20) text) x h
 
-mapping_says : (at : Place) (line x : List ℕ) → mapping_of at line ≡ Ok x → IsSomeAnd (field line 2) (λ text. Spells text x)
+mapping_says : (at : Place) (line x : List ℕ) → mapping_of at line ≡ Ok x →
+    IsSomeAnd (field line 2) (λ text. Spells text x)
 mapping_says at line x h = of_text (field line 2) h
   where
     of_text : (o : Option (List ℕ)) →
@@ -125,13 +132,15 @@ mapping_says at line x h = of_text (field line 2) h
     of_text None h = absurd (cc)
     of_text (Some text) h = characters_spelled (fault at problems.Mapping) text x h
 
-one_spelled : (o : Option (List ℕ)) (x y : List ℕ) → IsSomeAnd o (λ text. Spells text x) → IsSomeAnd o (λ text. Spells text y) →
+one_spelled : (o : Option (List ℕ)) (x y : List ℕ) → IsSomeAnd o (λ text. Spells text x) →
+    IsSomeAnd o (λ text. Spells text y) →
     x ≡ y
 one_spelled None x y h k = absurd h
 one_spelled (Some text) x y h k = same_characters x y (sym h ∙ k)
 
 module _ (choice : Disallowed) (at : Place) (line : List ℕ) (first last : ℕ) where
-  kept_is : (kept : Bool) (s : Status) → (let r : Result (Option Status) LineFault = Ok (if kept then Some IsDisallowed else None) in r) ≡ Ok (Some s) →
+  kept_is : (kept : Bool) (s : Status) →
+      (let r : Result (Option Status) LineFault = Ok (if kept then Some IsDisallowed else None) in r) ≡ Ok (Some s) →
       (kept ≡ true) × (IsDisallowed ≡ s)
   kept_is true s h = (refl, some_is IsDisallowed s (ok_is (Some IsDisallowed) (Some s) h))
   kept_is false s h = absurd (let none = ok_is None (Some s) h in cc)
@@ -140,7 +149,8 @@ module _ (choice : Disallowed) (at : Place) (line : List ℕ) (first last : ℕ)
       IsDone choice line first last name s
   unfolding status_of
   status_is names.Valid s h = absurd (let none = ok_is None (Some s) h in cc)
-  status_is names.Ignored s h = subst (IsDone choice line first last names.Ignored) (some_is IsIgnored s (ok_is (Some IsIgnored) (Some s) h)) tt
+  status_is names.Ignored s h = subst (IsDone choice line first last names.Ignored)
+      (some_is IsIgnored s (ok_is (Some IsIgnored) (Some s) h)) tt
   status_is names.Disallowed s h =
       let is = kept_is (is_kept choice first last) s h in
       subst (IsDone choice line first last names.Disallowed) is.1 is.0
@@ -149,18 +159,21 @@ module _ (choice : Disallowed) (at : Place) (line : List ℕ) (first last : ℕ)
       let is = some_is (MapsTo mapping.value) s (ok_is (Some (MapsTo mapping.value)) (Some s) mapping.then_is) in
       subst (IsDone choice line first last names.Mapped) is (mapping_says at (data_of line) mapping.value mapping.is)
 
-  done_is : (name : StatusName) (o : Option Status) (s : Status) → status_of choice at (data_of line) first last name ≡ Ok o →
+  done_is : (name : StatusName) (o : Option Status) (s : Status) → status_of choice at (data_of line) first last name
+      ≡ Ok o →
       IsDone choice line first last name s → o ≡ Some s
   unfolding status_of
   done_is names.Ignored o IsIgnored h done = sym (ok_is (Some IsIgnored) o h)
   done_is names.Disallowed o IsDisallowed h done = kept (is_kept choice first last) done h
     where
-      kept : (b : Bool) → b ≡ true → (let r : Result (Option Status) LineFault = Ok (if b then Some IsDisallowed else None) in r) ≡ Ok o → o ≡ Some IsDisallowed
+      kept : (b : Bool) → b ≡ true → (let r : Result (Option Status) LineFault = Ok
+          (if b then Some IsDisallowed else None) in r) ≡ Ok o → o ≡ Some IsDisallowed
       kept true is h = sym (ok_is (Some IsDisallowed) o h)
       kept false is h = absurd (cc)
   done_is names.Mapped o (MapsTo x) h done =
       let mapping = bound (mapping_of at (data_of line)) _ _ h in
-      let same = one_spelled (field (data_of line) 2) mapping.value x (mapping_says at (data_of line) mapping.value mapping.is) done in
+      let same = one_spelled (field (data_of line) 2) mapping.value x
+      (mapping_says at (data_of line) mapping.value mapping.is) done in
       sym (ok_is (Some (MapsTo mapping.value)) o mapping.then_is) ∙ ap (λ y. Some (MapsTo y)) same
   done_is names.Valid o s h done = absurd done
   done_is names.Ignored o s h done = absurd done
@@ -172,19 +185,23 @@ passed : {A : Type 0} (b : Bool) (e : LineFault) (r : Result A LineFault) (y : A
 passed true e r y h = absurd (cc)
 passed false e r y h = (refl, h)
 
-end_says : (at : Place) (next first last end : ℕ) → end_of at next first last ≡ Ok end → (first ≤ last) × (end ≡ last + 1)
+end_says : (at : Place) (next first last end : ℕ) → end_of at next first last ≡ Ok end →
+    (first ≤ last) × (end ≡ last + 1)
 end_says at next first last end h =
-    let a = passed (nat_lt first next) (fault at problems.Order) _ end h in
+    let a = passed (nat_lt first next || nat_lt last first) (fault at problems.Order) _ end h in
     let b = passed (nat_lt next first) (fault at problems.Gap) _ end a.1 in
-    let c = passed (nat_lt last first) (fault at problems.Order) _ end b.1 in
-    (ltb-false last first c.0, sym (ok_is (last + 1) end c.1))
+    (ltb-false last first (neither (nat_lt first next) (nat_lt last first) a.0).1, sym (ok_is (last + 1) end b.1))
 
 range_is : (first end : ℕ) (o : Option Status) (g : RangeStatus) → range_status first end o ≡ Some g →
     (g.first ≡ first) × (g.end ≡ end) × (o ≡ Some g.status)
 range_is first end None g h = absurd (cc)
 range_is first end (Some s) g h =
-    let is = some_is (record { first = first; end = end; status = s }) g h in
-    (sym (ap (λ (q : RangeStatus). q.first) is), sym (ap (λ (q : RangeStatus). q.end) is), ap (λ (q : RangeStatus). Some q.status) is)
+    let is = some_is (record { first = first; end = end; status = s }) g h in (
+      sym (ap (λ (q : RangeStatus). q.first) is),
+      sym (ap (λ (q : RangeStatus). q.end) is),
+      ap
+          (λ (q : RangeStatus). Some q.status) is,
+    )
 
 empty_range : (c : ℕ) → option_and_then (λ text. code_point (before_stop text)) (field [] 0) ≡ Some c → ⊥
 unfolding number
@@ -207,20 +224,23 @@ module _ (choice : Disallowed) where
       let ended = bound (end_of at next first.value last.value) _ _ last.then_is in
       let name = bound (name_of at data') _ _ ended.then_is in
       let status = bound (status_of choice at data' first.value last.value name.value) _ _ name.then_is in
-      let both = parts_of_ok ended.value end (range_status first.value ended.value status.value) (Some g) status.then_is in
+      let both = parts_of_ok ended.value end (range_status first.value ended.value status.value)
+      (Some g) status.then_is in
       let is = range_is first.value ended.value status.value g both.1 in
       let ends = end_says at next first.value last.value ended.value ended.is in
       record {
         last = last.value;
         name = name.value;
-        begins = read_field (field data' 0) (λ text. code_point (before_stop text)) _ _ first.value first.is ∙ ap Some (sym is.0);
+        begins = read_field (field data' 0) (λ text. code_point (before_stop text)) _ _ first.value first.is
+            ∙ ap Some (sym is.0);
         ends = read_field (field data' 0) (λ text. code_point (last_text text)) _ _ last.value last.is;
         named = read_field (field data' 1) status_named _ _ name.value name.is;
         rises = (let low : first.value ≤ last.value = ends.0 in let same = is.0 in omega arith);
         end_is = is.1 ∙ ends.1;
         done = subst (λ (n : ℕ). IsDone choice line n last.value name.value g.status) (sym is.0)
             (status_is choice at line first.value last.value name.value g.status
-            (subst (λ (o : Option Status). status_of choice at data' first.value last.value name.value ≡ Ok o) is.2 status.is));
+            (subst (λ (o : Option Status). status_of choice at data' first.value last.value name.value
+            ≡ Ok o) is.2 status.is));
       }
 
   say_fields : (at : Place) (next end : ℕ) (line : List ℕ) (found : Option RangeStatus) (g : RangeStatus) →
@@ -236,11 +256,15 @@ module _ (choice : Disallowed) where
       let both = parts_of_ok ended.value end (range_status first.value ended.value status.value) found status.then_is in
       let ends = end_says at next first.value last.value ended.value ended.is in
       let same_first : first.value ≡ g.first
-      = some_is first.value g.first (sym (read_field (field data' 0) (λ text. code_point (before_stop text)) _ _ first.value first.is) ∙ says.begins) in
+      = some_is first.value g.first (sym
+      (read_field (field data' 0) (λ text. code_point (before_stop text)) _ _ first.value first.is)
+      ∙ says.begins) in
       let same_last : last.value ≡ says.last
-      = some_is last.value says.last (sym (read_field (field data' 0) (λ text. code_point (last_text text)) _ _ last.value last.is) ∙ says.ends) in
+      = some_is last.value says.last (sym
+      (read_field (field data' 0) (λ text. code_point (last_text text)) _ _ last.value last.is) ∙ says.ends) in
       let same_name : name.value ≡ says.name
-      = some_is name.value says.name (sym (read_field (field data' 1) status_named _ _ name.value name.is) ∙ says.named) in
+      = some_is name.value says.name (sym (read_field (field data' 1) status_named _ _ name.value name.is)
+      ∙ says.named) in
       let same_end : ended.value ≡ g.end = ends.1 ∙ ap (λ n. n + 1) same_last ∙ sym says.end_is in
       let done : IsDone choice line first.value last.value name.value g.status
       = subst (λ (n : ℕ). IsDone choice line n last.value name.value g.status) (sym same_first)
@@ -258,28 +282,36 @@ module _ (choice : Disallowed) where
   line_says n s t line g h = by (length (data_of line) == 0) h
     where
       by : (blank : Bool) →
-          (if blank then Ok (s, None) else (read_fields choice (place n) s.end (data_of line) >>= covered_by n)) ≡ Ok (t, Some g) → SaysRange choice line g
+          (if blank then Ok (s, None) else (read_fields choice (place n) s.end (data_of line) >>= covered_by n))
+          ≡ Ok (t, Some g) → SaysRange choice line g
       by true h = absurd (let both = parts_of_ok s t None (Some g) h in let none = both.1 in cc)
       by false h =
           let read = bound (read_fields choice (place n) s.end (data_of line)) _ _ h in
           let both = parts_of_ok (made_by n read.value.0) t read.value.1 (Some g) read.then_is in
-          fields_say (place n) s.end read.value.0 line g (subst (λ (o : Option RangeStatus). read_fields choice (place n) s.end (data_of line) ≡ Ok (read.value.0, o)) both.1 read.is)
+          fields_say (place n) s.end read.value.0 line g
+          (subst (λ (o : Option RangeStatus). read_fields choice (place n) s.end (data_of line)
+          ≡ Ok (read.value.0, o)) both.1 read.is)
 
   says_line : (n : ℕ) (s t : Covered) (line : List ℕ) (found : Option RangeStatus) (g : RangeStatus) →
-      read_line choice n s line ≡ Ok (t, found) → SaysRange choice line g → (b : RangeStatus) × (found ≡ Some b) × (b ≡ g)
+      read_line choice n s line ≡ Ok (t, found) → SaysRange choice line g →
+      (b : RangeStatus) × (found ≡ Some b) × (b ≡ g)
   unfolding read_line
   says_line n s t line found g h says = (g, by (length (data_of line) == 0) refl h, refl)
     where
       by : (blank : Bool) → (length (data_of line) == 0) ≡ blank →
-          (if blank then Ok (s, None) else (read_fields choice (place n) s.end (data_of line) >>= covered_by n)) ≡ Ok (t, found) → found ≡ Some g
-      by true empty h = absurd (empty_range g.first (subst (λ (d : List ℕ). option_and_then (λ text. code_point (before_stop text)) (field d 0) ≡ Some g.first) (empty_is (data_of line) empty) says.begins))
+          (if blank then Ok (s, None) else (read_fields choice (place n) s.end (data_of line) >>= covered_by n))
+          ≡ Ok (t, found) → found ≡ Some g
+      by true empty h = absurd (empty_range g.first
+          (subst (λ (d : List ℕ). option_and_then (λ text. code_point (before_stop text)) (field d 0) ≡ Some g.first)
+          (empty_is (data_of line) empty) says.begins))
       by false full h =
           let read = bound (read_fields choice (place n) s.end (data_of line)) _ _ h in
           let both = parts_of_ok (made_by n read.value.0) t read.value.1 found read.then_is in
           sym both.1 ∙ say_fields (place n) s.end read.value.0 line read.value.1 g read.is says
 
   -- the ranges of lines
-  ranges_say : (parts : List (List ℕ)) (ranges : List RangeStatus) → ranges_in choice parts ≡ Ok ranges → (g : RangeStatus) →
+  ranges_say : (parts : List (List ℕ)) (ranges : List RangeStatus) → ranges_in choice parts ≡ Ok ranges →
+      (g : RangeStatus) →
       Contains ranges g ↔ ((line : List ℕ) × Contains parts line × SaysRange choice line g)
   unfolding ranges_in
   ranges_say parts ranges h g =
@@ -302,9 +334,11 @@ module _ (choice : Disallowed) where
   unfolding uts46_records_in range_of
   statuses_of parts records h r =
       let ranges = bound (ranges_in choice parts) _ _ h in
-      let made : flat_map entries_of ranges.value ≡ records = ok_is (flat_map entries_of ranges.value) records ranges.then_is in (
+      let made : flat_map entries_of ranges.value
+      ≡ records = ok_is (flat_map entries_of ranges.value) records ranges.then_is in (
         λ has.
-            let found = in_lists entries_of ranges.value r (subst (λ (rs : List Uts46RecordValue). Contains rs r) (sym made) has) in
+            let found = in_lists entries_of ranges.value r
+            (subst (λ (rs : List Uts46RecordValue). Contains rs r) (sym made) has) in
             let line = (ranges_say parts ranges.value ranges.is found.0).0 found.1 in
             let says = line.2 in
             let low : found.0.first ≤ says.last = says.rises in
@@ -344,17 +378,20 @@ module _ (choice : Disallowed) where
             let has = (ranges_say parts ranges.value ranges.is g).1 (stated.0, stated.1, says) in
             subst (λ (rs : List Uts46RecordValue). Contains rs r) made
             (to_lists entries_of ranges.value g r has
-            ((entry_is g r (omega arith)).1 (record { from = low; below = omega arith; scalar = states.scalar; status = refl }))),
+            ((entry_is g r (omega arith)).1
+            (record { from = low; below = omega arith; scalar = states.scalar; status = refl }))),
       )
 
-  pub statuses_are_stated : (table : List ℕ) (records : List Uts46RecordValue) → uts46_records_of choice table ≡ Ok records →
+  pub statuses_are_stated : (table : List ℕ) (records : List Uts46RecordValue) → uts46_records_of choice table
+      ≡ Ok records →
       AreStatuses choice table records
   unfolding uts46_records_of
   statuses_are_stated table records h r =
       let parts = bound (whole_lines files.IdnaMappingTable table) _ _ h in
       let whole : parts.value ≡ lines table = lines_whole files.IdnaMappingTable table parts.value parts.is in
       let here = statuses_of parts.value records parts.then_is r in (
-        λ has. let line = here.0 has in (line.0, subst (λ (ls : List (List ℕ)). Contains ls line.0) whole line.1, line.2),
+        λ has. let line = here.0 has in
+            (line.0, subst (λ (ls : List (List ℕ)). Contains ls line.0) whole line.1, line.2),
         λ line. here.1 (line.0, subst (λ (ls : List (List ℕ)). Contains ls line.0) (sym whole) line.1, line.2),
       )
 
@@ -363,9 +400,11 @@ module _ (choice : Disallowed) where
   unfolding uts46_records_beside
   statuses_beside_are_stated exclusions table records h r =
       let parts = bound (whole_lines files.IdnaMappingTable table) _ _ h in
-      let same = bound (agree (stated_in (lines exclusions)) files.IdnaMappingTable (stated_in parts.value)) _ _ parts.then_is in
+      let same = bound (agree (stated_in (lines exclusions)) files.IdnaMappingTable
+      (stated_in parts.value)) _ _ parts.then_is in
       let whole : parts.value ≡ lines table = lines_whole files.IdnaMappingTable table parts.value parts.is in
       let here = statuses_of parts.value records same.then_is r in (
-        λ has. let line = here.0 has in (line.0, subst (λ (ls : List (List ℕ)). Contains ls line.0) whole line.1, line.2),
+        λ has. let line = here.0 has in
+            (line.0, subst (λ (ls : List (List ℕ)). Contains ls line.0) whole line.1, line.2),
         λ line. here.1 (line.0, subst (λ (ls : List (List ℕ)). Contains ls line.0) (sym whole) line.1, line.2),
       )

@@ -1,5 +1,6 @@
 -- CompositionExclusions.txt: a code point on each line (Unicode Standard Annex #15, section 5.1).
-use Rattle.std.specs.Prelude.{ℕ, List, [], ◌∷◌, length, Option, Some, None, Result, Ok, Err, ◌==◌, ◌&&◌, not, Bool, if◌then◌else◌}
+use Rattle.std.specs.Prelude.{ℕ, List, [], ◌∷◌, length, Option, Some, None, Result, Ok, Err, ◌==◌, ◌&&◌, not, Bool}
+use Rattle.std.specs.Prelude.{if◌then◌else◌}
 use Rattle.std.specs.Option.{ok_or, option_and_then}
 use Rattle.std.specs.List.{list_any}
 use Rattle.normalizer_records.specs.RecordValue.{RecordValue}

@@ -1,5 +1,6 @@
 -- IdnaMappingTable.txt: what is done with the characters of each range (Unicode Technical Standard #46, section 5).
-use Rattle.std.specs.Prelude.{ℕ, ◌+◌, ◌-◌, ◌==◌, ◌<◌, ◌≤◌, Contains, IsSomeAnd, nat_lt, Bool, true, List, [], ◌∷◌, length, codes}
+use Rattle.std.specs.Prelude.{ℕ, ◌+◌, ◌-◌, ◌==◌, ◌||◌, ◌<◌, ◌≤◌, Contains, IsSomeAnd, nat_lt, Bool, true, List, []}
+use Rattle.std.specs.Prelude.{◌∷◌, length, codes}
 use Rattle.std.specs.Prelude.{Option, Some, None, Result, Ok, Err, if◌then◌else◌}
 use Rattle.std.specs.Str.{bytes_eq}
 use Rattle.std.specs.Option.{ok_or, option_and_then, option_map}
@@ -103,9 +104,8 @@ range_status first end status = option_map (λ s. record { first = first; end = 
 -- the end of a range, if it isn't empty and begins where the ranges before it end
 abbrev pub end_of : Place → ℕ → ℕ → ℕ → Result ℕ LineFault
 end_of at next first last =
-    if nat_lt first next then Err (fault at problems.Order)
+    if nat_lt first next || nat_lt last first then Err (fault at problems.Order)
     else if nat_lt next first then Err (fault at problems.Gap)
-    else if nat_lt last first then Err (fault at problems.Order)
     else Ok (last + 1)
 
 unfoldable pub read_fields : Disallowed → Place → ℕ → List ℕ → Result (ℕ × Option RangeStatus) LineFault

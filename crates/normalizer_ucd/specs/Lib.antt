@@ -3,6 +3,10 @@ pub mod Fields
 pub mod IdnaLines
 pub mod IdnaTable
 pub mod FallibleReads
+pub mod Layouts
+pub mod LineFaults
+pub mod TableFaults
+pub mod UnicodeFaults
 pub mod Messages
 pub mod RecordPlaces
 pub mod UnicodeData

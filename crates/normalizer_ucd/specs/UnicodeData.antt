@@ -1,9 +1,9 @@
 -- UnicodeData.txt: a line for each character, or two for a range (Unicode Standard Annex #44, section 4.2.3, table 9).
-use Rattle.std.specs.Prelude.{ℕ, ◌+◌, ◌==◌, ◌&&◌, nat_lt, nat_eq, Bool, true, false, List, [], ◌∷◌, length}
+use Rattle.std.specs.Prelude.{ℕ, ◌+◌, ◌==◌, ◌&&◌, nat_lt, nat_eq, Bool, false, List, [], ◌∷◌, length}
 use Rattle.std.specs.Prelude.{Option, Some, None, Result, Ok, Err, if◌then◌else◌}
-use Rattle.std.specs.Bool.{beq}
-use Rattle.std.specs.Option.{ok_or, option_and_then}
-use Rattle.std.specs.List.{list_any, starts_with, ends_with, after_first}
+use Rattle.std.specs.Option.{ok_or, option_and_then, option_copied, option_map_or, is_some, is_none}
+use Rattle.std.specs.Str.{bytes_eq}
+use Rattle.std.specs.List.{list_any, starts_with, ends_with, after_first, before_first}
 use Rattle.normalizer_records.specs.RecordValue.{RecordValue}
 use Rattle.normalizer_ucd.specs.declared.error.LineFault.{LineFault}
 use Rattle.normalizer_ucd.specs.declared.error.Place.{Place}
@@ -39,11 +39,9 @@ abbrev pub part_named : List ℕ → Part
 part_named name =
     if ends_with nat_eq name first_mark then First else if ends_with nat_eq name last_mark then Last else Whole
 
--- field 1
-abbrev pub part_of : Place → List ℕ → Result Part LineFault
-part_of at line = do
-  name ← field_of at line 1
-  Ok (part_named name)
+-- the name of a range: that of its first and of its last line, up to the comma
+abbrev pub range_name : List ℕ → List ℕ
+range_name name = before_first (λ b. b == 0x2C) name
 
 abbrev pub combining_class : List ℕ → Option ℕ
 combining_class text = option_and_then (λ n. if nat_lt n 255 then Some n else None) (number 10 text)
@@ -75,27 +73,39 @@ mapping_of at line = do
   text ← field_of at line 5
   mapping_in (fault at problems.Mapping) text
 
-abbrev pub is_first : Part → Bool
-is_first Whole = false
-is_first First = true
-is_first Last = false
+-- the position after lines: the least code point that may be next, the name of the range that is open, and the number
+-- of the last line with data
+pub record PositionValue : Type 0 where
+  pub next : ℕ
+  pub range : Option (List ℕ)
+  pub line : ℕ
 
-abbrev pub is_last : Part → Bool
-is_last Whole = false
-is_last First = false
-is_last Last = true
+abbrev pub value_of : Position → PositionValue
+value_of p = record { next = p.next; range = option_copied p.range; line = p.line }
 
 -- before the first line
-abbrev pub start : Position
-start = record { next = 0; is_open = false; line = 0 }
+abbrev pub start : PositionValue
+start = record { next = 0; range = None; line = 0 }
 
--- the position after a line: code points rise, and the last line of a range follows its first
-abbrev pub step : Place → Position → ℕ → Part → Result Position LineFault
-step at position code part =
+-- the last line of a range comes right after its first, and no other line does
+abbrev pub follows : Option (List ℕ) → Part → List ℕ → Bool
+follows range Last name = option_map_or (λ first. bytes_eq first name) range false
+follows range Whole name = is_none range
+follows range First name = is_none range
+
+-- the name of the range that is open after a line
+abbrev pub opened : Part → List ℕ → Option (List ℕ)
+opened First name = Some name
+opened Whole name = None
+opened Last name = None
+
+-- the position after a line: code points rise
+abbrev pub step : Place → PositionValue → ℕ → Part → List ℕ → Result PositionValue LineFault
+step at position code part name =
     if nat_lt code position.next then Err (fault at problems.Order)
-    else if beq position.is_open (is_last part) then Ok (record {
+    else if follows position.range part name then Ok (record {
       next = code + 1;
-      is_open = is_first part;
+      range = opened part name;
       line = at.line;
     })
     else Err (fault at problems.Range)
@@ -127,27 +137,29 @@ entry_of exclusions at code part class mapping =
         excluded = is_listed exclusions code;
       }))
 
--- the fields of a line
-unfoldable pub read_fields : List Exclusion → Place → Position → List ℕ →
-    Result (Position × Option RecordValue) LineFault
+-- the fields of a line; there are fifteen
+unfoldable pub read_fields : List Exclusion → Place → PositionValue → List ℕ →
+    Result (PositionValue × Option RecordValue) LineFault
 read_fields exclusions at position line = do
+  last ← field_of at line 14
   code ← code_of at line
-  part ← part_of at line
+  name ← field_of at line 1
   class ← class_of at line
   mapping ← mapping_of at line
-  next ← step at position code part
-  entry ← entry_of exclusions at code part class mapping
+  next ← step at position code (part_named name) (range_name name)
+  entry ← entry_of exclusions at code (part_named name) class mapping
   Ok (next, entry)
 
 -- a line without data says nothing
-unfoldable pub read_line : List Exclusion → ℕ → Position → List ℕ → Result (Position × Option RecordValue) LineFault
+unfoldable pub read_line : List Exclusion → ℕ → PositionValue → List ℕ →
+    Result (PositionValue × Option RecordValue) LineFault
 read_line exclusions n position line =
     if length (data_of line) == 0 then Ok (position, None)
     else read_fields exclusions (place n) position (data_of line)
 
 -- the last range is closed
-abbrev pub closed_end : Position → Result (Unit {0}) LineFault
-closed_end position = if position.is_open then Err (fault (place position.line) problems.Range) else Ok tt
+abbrev pub closed_end : PositionValue → Result (Unit {0}) LineFault
+closed_end position = if is_some position.range then Err (fault (place position.line) problems.Range) else Ok tt
 
 -- the records of all lines
 unfoldable pub records_in : List Exclusion → List (List ℕ) → Result (List RecordValue) LineFault

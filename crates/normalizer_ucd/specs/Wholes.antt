@@ -8,7 +8,8 @@ use Rattle.std.specs.Str.{bytes_eq}
 use Rattle.normalizer_ucd.specs.declared.error.LineFault.{LineFault}
 use Rattle.normalizer_ucd.specs.declared.error.Problem.TheVariants.{CutOff, NoEndMark}
 use Rattle.normalizer_ucd.specs.declared.error.UcdFile.{UcdFile}
-use Rattle.normalizer_ucd.specs.declared.error.UcdFile.TheVariants.{UnicodeData, CompositionExclusions, IdnaMappingTable}
+use Rattle.normalizer_ucd.specs.declared.error.UcdFile.TheVariants.{UnicodeData, CompositionExclusions}
+use Rattle.normalizer_ucd.specs.declared.error.UcdFile.TheVariants.{IdnaMappingTable}
 use Rattle.normalizer_ucd.specs.FallibleReads.{fault}
 use Rattle.normalizer_ucd.specs.Fields.{lines, trim_end, field, code_point}
 

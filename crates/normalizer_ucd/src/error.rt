@@ -76,7 +76,7 @@ impl fmt::Display for Place {
 /// What is wrong with a line.
 #[derive(Clone, Copy, PartialEq, Eq, Debug)]
 pub enum Problem {
-    /// The line has too few fields.
+    /// The line has too few fields: in `UnicodeData.txt` there are fifteen.
     MissingField,
     /// A code point is not a hexadecimal number up to 10FFFF.
     CodePoint,
@@ -88,7 +88,7 @@ pub enum Problem {
     Status,
     /// The code points of lines aren't sorted, without duplicates.
     Order,
-    /// The first line of a range has no last line right after it, or the last has no first right before it.
+    /// The first line of a range has no last line of its name right after it, or the last no first right before it.
     Range,
     /// A surrogate or a range of code points with a class or a mapping.
     NotACharacter,

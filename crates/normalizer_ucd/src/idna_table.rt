@@ -408,14 +408,11 @@ fn end_of(place: Place, next: u32, first: u32, last: u32) -> Result<u32, UcdErro
     ensures value { Gives (λ end. end) result (end_of place next first last) }
     ensures rising { IfOk result (λ end. first ≤ last) }
 {
-    if first < next {
+    if first < next || last < first {
         return Err(UcdError::Line(place.fault(Problem::Order)));
     }
     if next < first {
         return Err(UcdError::Line(place.fault(Problem::Gap)));
-    }
-    if last < first {
-        return Err(UcdError::Line(place.fault(Problem::Order)));
     }
     Ok(last + 1)
 }

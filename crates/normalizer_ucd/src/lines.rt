@@ -1,6 +1,6 @@
 //! Lines, their fields, and the numbers and characters in them.
-ghost use Rattle.std.specs.Prelude.{◌≡◌, ◌==◌, ◌≤◌, ◌<◌, ◌∷◌, [], length, map, Some, ◌++◌, IfOk, IfSome, OnOk, position};
-ghost use Rattle.std.specs.Option.{option_copied, option_map_or, option_to_list};
+ghost use Rattle.std.specs.Prelude.{◌≡◌, ◌==◌, ◌≤◌, map, Some, ◌++◌, IfOk, OnOk, position};
+ghost use Rattle.std.specs.Option.{option_copied, option_to_list};
 ghost use Rattle.std.specs.List.{after_first, before_first, slice_split};
 ghost use Rattle.normalizer_ucd.specs.Fields.{
   character,
@@ -34,33 +34,22 @@ fn position(text: &[u8], at: u8) -> Option<usize>
     text.iter().position(|b| *b == at)
 }
 
-/// What is before the first of a byte, and what is after it if there is one.
-fn cut(text: &[u8], at: u8) -> (&[u8], Option<&[u8]>)
-    ensures before { result.0.now ≡ before_first (λ b. b == at) text.now }
-    ensures after { option_map_or (λ rest. rest.now) result.1 [] ≡ after_first (λ b. b == at) text.now }
-    ensures parts { slice_split (λ b. b == at) text.now
-        ≡ result.0.now ∷ option_map_or (λ rest. slice_split (λ b. b == at) rest.now) result.1 [] }
-    ensures shorter { IfSome result.1 (λ rest. length rest.now < length text.now) }
-{
-    match position(text, at) {
-        Some(place) => (&text[..place], Some(&text[place + 1..])),
-        None => (text, None),
-    }
-}
-
 /// What is before the first of a byte.
 pub(crate) fn before_first(text: &[u8], at: u8) -> &[u8]
     ensures { result.now ≡ before_first (λ b. b == at) text.now }
 {
-    cut(text, at).0
+    match position(text, at) {
+        Some(place) => &text[..place],
+        None => text,
+    }
 }
 
 /// What is after the first of a byte.
 pub(crate) fn after_first(text: &[u8], at: u8) -> &[u8]
     ensures { result.now ≡ after_first (λ b. b == at) text.now }
 {
-    match cut(text, at).1 {
-        Some(rest) => rest,
+    match position(text, at) {
+        Some(place) => &text[place + 1..],
         None => &[],
     }
 }
@@ -69,14 +58,7 @@ pub(crate) fn after_first(text: &[u8], at: u8) -> &[u8]
 fn split(alloc: Global, text: &[u8], at: u8) -> Result<Vec<&[u8]>, AllocError>
     ensures { IfOk result (λ v. map (λ part. part.now) v.items ≡ slice_split (λ b. b == at) text.now) }
 {
-    let mut parts = Vec::new(alloc);
-    let mut left = Some(text);
-    while let Some(bytes) = left {
-        let (part, rest) = cut(bytes, at);
-        parts.push(part)?;
-        left = rest;
-    }
-    Ok(parts)
+    text.split(|b| *b == at).collect(alloc)
 }
 
 /// What lies between line feeds.
@@ -90,18 +72,14 @@ pub(crate) fn lines(alloc: Global, file: &[u8]) -> Result<Vec<&[u8]>, AllocError
 pub(crate) fn data_of(line: &[u8]) -> &[u8]
     ensures { result.now ≡ data_of line.now }
 {
-    trim(cut(line, b'#').0)
+    trim(before_first(line, b'#'))
 }
 
 /// What lies between the occurrences of a byte, by its number.
 pub(crate) fn part(text: &[u8], at: u8, number: usize) -> Option<&[u8]>
     ensures { option_copied result ≡ part text.now at number }
 {
-    let mut rest = text;
-    for _ in 0..number {
-        rest = cut(rest, at).1?;
-    }
-    Some(cut(rest, at).0)
+    text.split(|b| *b == at).nth(number)
 }
 
 /// A field of a line.

@@ -1,5 +1,7 @@
 //! UnicodeData.txt.
 ghost use Rattle.std.specs.Prelude.{◌≡◌, ◌≤◌, map};
+ghost use Rattle.std.specs.Option.{option_copied};
+ghost use Rattle.std.specs.Str.{bytes_eq};
 ghost use Rattle.normalizer_ucd.specs.UnicodeData.{
   character_of,
   class_of,
@@ -9,15 +11,15 @@ ghost use Rattle.normalizer_ucd.specs.UnicodeData.{
   entry_of,
   field_of,
   is_blank,
-  is_first,
-  is_last,
+  follows,
   is_listed,
   is_tagged,
   mapping_in,
   mapping_of,
   part_named,
-  part_of,
+  opened,
   place,
+  range_name,
   read_fields,
   read_line,
   records_by,
@@ -25,12 +27,15 @@ ghost use Rattle.normalizer_ucd.specs.UnicodeData.{
   records_of,
   step,
   untagged_mapping,
+  value_of,
 };
 ghost use Rattle.normalizer_ucd.specs.FallibleReads.{Gives};
 
 use crate::error::{LineFault, Place, Problem, UcdError, UcdFile};
 use crate::exclusions::{Exclusion, all_mapped, exclusions_in};
-use crate::lines::{after_first, characters, code_point, data_of, field, number, push_found, trim};
+use crate::lines::{
+    after_first, before_first, characters, code_point, data_of, field, number, push_found, trim,
+};
 use crate::stated::agree;
 use crate::wholes::whole_lines;
 use normalizer_records::Record;
@@ -44,12 +49,12 @@ enum Part {
     Last,
 }
 
-/// The position after the lines before: the least code point that may be next, whether a range is open, and the number
-/// of the last line with data.
+/// The position after the lines before: the least code point that may be next, the name of the range that is open, and
+/// the number of the last line with data.
 #[derive(Clone, Copy)]
-struct Position {
+struct Position<'a> {
     next: u32,
-    is_open: bool,
+    range: Option<&'a [u8]>,
     line: usize,
 }
 
@@ -60,7 +65,8 @@ struct Position {
 /// The first line that is wrong, or `Memory`. A file that is cut off is refused before lines are read: the last line
 /// with any text is `# EOF`, or in the first file closes the range up to U+10FFFD, as in Unicode's own. So are files
 /// that state different versions of Unicode. The second file is read before the first. A line of it is wrong too if its
-/// character has no canonical mapping in the first.
+/// character has no canonical mapping in the first. A line of the first has at least fifteen fields, and the two lines
+/// of a range have one name up to the comma; `fault_of_files` says what is wrong with a line.
 ///
 /// # Examples
 /// ```rust
@@ -113,7 +119,7 @@ fn records_in(
     let mut records = Vec::new(alloc);
     let mut position = Position {
         next: 0,
-        is_open: false,
+        range: None,
         line: 0,
     };
     for (index, line) in lines.iter().enumerate() {
@@ -135,24 +141,25 @@ fn place(number: usize) -> Place
 }
 
 /// An error if a range is open at the end.
-fn closed(position: Position) -> Result<(), UcdError>
-    ensures { Gives (λ _. tt) result (closed_end position) }
+fn closed(position: Position<'_>) -> Result<(), UcdError>
+    ensures { Gives (λ _. tt) result (closed_end (value_of position.entry)) }
 {
-    if position.is_open {
+    if position.range.is_some() {
         return Err(UcdError::Line(place(position.line).fault(Problem::Range)));
     }
     Ok(())
 }
 
 #[tactic(auto, unfolding(crate::specs::UnicodeData::read_line))]
-fn read_line(
+fn read_line<'a>(
     alloc: Global,
     exclusions: &[Exclusion],
     number: usize,
-    position: Position,
-    line: &[u8],
-) -> Result<(Position, Option<Record>), UcdError>
-    ensures { Gives (λ x. x) result (read_line exclusions.now number position line.now) }
+    position: Position<'a>,
+    line: &'a [u8],
+) -> Result<(Position<'a>, Option<Record>), UcdError>
+    ensures { Gives (λ x. (value_of x.0, x.1)) result
+        (read_line exclusions.now number (value_of position.entry) line.now) }
 {
     let data = data_of(line);
     if data.is_empty() {
@@ -162,20 +169,23 @@ fn read_line(
 }
 
 #[tactic(auto, unfolding(crate::specs::UnicodeData::read_fields))]
-fn read_fields(
+fn read_fields<'a>(
     alloc: Global,
     exclusions: &[Exclusion],
     place: Place,
-    position: Position,
-    line: &[u8],
-) -> Result<(Position, Option<Record>), UcdError>
-    ensures { Gives (λ x. x) result (read_fields exclusions.now place position line.now) }
+    position: Position<'a>,
+    line: &'a [u8],
+) -> Result<(Position<'a>, Option<Record>), UcdError>
+    ensures { Gives (λ x. (value_of x.0, x.1)) result
+        (read_fields exclusions.now place (value_of position.entry) line.now) }
 {
+    let _last = field_of(place, line, 14)?;
     let code = code_of(place, line)?;
-    let part = part_of(place, line)?;
+    let name = field_of(place, line, 1)?;
     let class = class_of(place, line)?;
     let mapping = mapping_of(alloc, place, line)?;
-    let next = step(place, position, code, part)?;
+    let part = part_named(name);
+    let next = step(place, position, code, part, range_name(name))?;
     let entry = entry_of(exclusions, place, code, part, class, mapping)?;
     Ok((next, entry))
 }
@@ -231,11 +241,11 @@ fn code_of(place: Place, line: &[u8]) -> Result<u32, UcdError>
     Ok(code_point(text).ok_or(place.fault(Problem::CodePoint))?)
 }
 
-fn part_of(place: Place, line: &[u8]) -> Result<Part, UcdError>
-    ensures { Gives (λ part. part) result (part_of place line.now) }
+/// The name of a range: the name of its first and of its last line, up to the comma.
+fn range_name(name: &[u8]) -> &[u8]
+    ensures { result.now ≡ range_name name.now }
 {
-    let name = field_of(place, line, 1)?;
-    Ok(part_named(name))
+    before_first(name, b',')
 }
 
 fn part_named(name: &[u8]) -> Part
@@ -300,32 +310,52 @@ fn untagged(text: &[u8]) -> &[u8]
     }
 }
 
-fn is_first(part: Part) -> bool
-    ensures { result ≡ is_first part }
+/// Whether a line may come next: the last line of a range right after its first, and no other line there.
+fn follows(range: Option<&[u8]>, part: Part, name: &[u8]) -> bool
+    ensures { result ≡ follows (option_copied range.entry) part name.now }
 {
-    matches!(part, Part::First)
+    match part {
+        Part::Whole | Part::First => range.is_none(),
+        Part::Last => range.is_some_and(|first| is_same(first, name)),
+    }
 }
 
-fn is_last(part: Part) -> bool
-    ensures { result ≡ is_last part }
+fn is_same(text: &[u8], other: &[u8]) -> bool
+    ensures { result ≡ bytes_eq text.now other.now }
 {
-    matches!(part, Part::Last)
+    text == other
+}
+
+/// The name of the range that is open after a line.
+fn opened(part: Part, name: &[u8]) -> Option<&[u8]>
+    ensures { option_copied result ≡ opened part name.now }
+{
+    match part {
+        Part::First => Some(name),
+        Part::Whole | Part::Last => None,
+    }
 }
 
 /// The position after a line, if it may follow.
-fn step(place: Place, position: Position, code: u32, part: Part) -> Result<Position, UcdError>
+fn step<'a>(
+    place: Place,
+    position: Position<'a>,
+    code: u32,
+    part: Part,
+    name: &'a [u8],
+) -> Result<Position<'a>, UcdError>
     requires { code ≤ 0x10FFFF }
-    ensures { Gives (λ next. next) result (step place position code part) }
+    ensures { Gives value_of result (step place (value_of position.entry) code part name.now) }
 {
     if code < position.next {
         return Err(UcdError::Line(place.fault(Problem::Order)));
     }
-    if position.is_open != is_last(part) {
+    if !follows(position.range, part, name) {
         return Err(UcdError::Line(place.fault(Problem::Range)));
     }
     Ok(Position {
         next: code + 1,
-        is_open: is_first(part),
+        range: opened(part, name),
         line: place.line,
     })
 }

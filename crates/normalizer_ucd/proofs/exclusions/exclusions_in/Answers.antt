@@ -27,6 +27,7 @@ pub returns : goal.returns
 unfolding exclusions_in
 returns c =
     rw
-    (is_done exclusion_of c.loop-index.exclusions.items (c.loop-index.index + 1) c.loop-index.index tt c.args.lines.now _
+    (is_done exclusion_of c.loop-index.exclusions.items
+    (c.loop-index.index + 1) c.loop-index.index tt c.args.lines.now _
     c.loop-index-test.false c.loop-index.invariant)
     refl

@@ -6,5 +6,6 @@ use Rattle.normalizer_ucd.proofs.exclusions.exclusions_in.Given as goal
 
 abbrev pub invariant-loop-index : goal.invariant-loop-index
 invariant-loop-index l =
-    with_front l.exclusions.items (read_each exclusion_of (l.index + 1) tt (map (λ line. line.now) (drop l.index l.lines)))
+    with_front l.exclusions.items (read_each exclusion_of (l.index + 1) tt
+    (map (λ line. line.now) (drop l.index l.lines)))
     ≡ read_each exclusion_of 1 tt (map (λ line. line.now) l.lines)

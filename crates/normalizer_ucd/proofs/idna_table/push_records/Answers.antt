@@ -9,7 +9,8 @@ loop-code-init c = rw (← c.range.view_is) refl
 
 pub loop-code-preserved : goal.loop-code-preserved
 loop-code-preserved c =
-    let e : c.push_record.new.records.items ≡ c.loop-code.records.items ++ entries_at c.args.range.now.status c.loop-code.code
+    let e : c.push_record.new.records.items
+    ≡ c.loop-code.records.items ++ entries_at c.args.range.now.status c.loop-code.code
     = rw (← c.range.view_is) c.in_ok-push_record.ensures in
     rw e
     (one_more (entries_at c.args.range.now.status) c.loop-code.records.items _ c.loop-code.code c.range.inside.end

@@ -29,13 +29,15 @@ unfolding ranges_in
 returns-in_err-full c =
     let p = err_from_is_err_and c.from_residual-in_err-full.result c.from_residual-in_err-full.ensures.1 in
     let e = c.in_err-full.field-0.0 in
-    let done = is_done (read_line c.args.disallowed) c.loop-index.ranges.items (c.loop-index.index + 1) c.loop-index.index
+    let done = is_done (read_line c.args.disallowed) c.loop-index.ranges.items
+    (c.loop-index.index + 1) c.loop-index.index
     c.loop-index.covered c.args.lines.now _ c.loop-index-test.false c.loop-index.invariant in
     rw (p.1, p.2) (fails_after e _ _ _ done (fails_on e _ _ c.in_err-full.ensures))
 
 pub returns : goal.returns
 unfolding ranges_in
 returns c =
-    let done = is_done (read_line c.args.disallowed) c.loop-index.ranges.items (c.loop-index.index + 1) c.loop-index.index
+    let done = is_done (read_line c.args.disallowed) c.loop-index.ranges.items
+    (c.loop-index.index + 1) c.loop-index.index
     c.loop-index.covered c.args.lines.now _ c.loop-index-test.false c.loop-index.invariant in
     rw (done, c.in_ok-full.ensures) refl

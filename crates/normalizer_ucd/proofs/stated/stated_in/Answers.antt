@@ -28,4 +28,5 @@ loop-index-preserved c =
 pub returns : goal.returns
 unfolding stated_in
 returns c =
-    sym (at_end (c.loop-index.index + 1) c.loop-index.index c.args.lines.now c.loop-index-test.false) ∙ c.loop-index.invariant
+    sym (at_end (c.loop-index.index + 1) c.loop-index.index c.args.lines.now c.loop-index-test.false)
+    ∙ c.loop-index.invariant
