@@ -1,12 +1,12 @@
 //! The complete check of what was loaded: the first of the written conditions that it breaks.
 ghost use Rattle.std.specs.Prelude.{◌≡◌, ◌↔◌, ◌≤◌, IsTrue, IsOk, IfErr, All};
 ghost use Rattle.std.specs.Char.{IsScalar};
-ghost use Rattle.std.specs.List.{Contains, list_any};
+ghost use Rattle.std.specs.List.{Contains};
 ghost use Rattle.normalizer_tables.specs.Conditions.{IsFirstFailing, IsMet};
 ghost use Rattle.normalizer_conditions.specs.Refusals.{RefusesFirstFailing};
 ghost use Rattle.normalizer_tables.specs.Table.{code_points};
 ghost use Rattle.normalizer_tables.specs.declared.condition.Condition.TheVariants as condition;
-ghost use Rattle.normalizer_conditions.specs.inner.Walk.{is_asked_of_words, IsEndOfEqualWords, IsMetApart, IsPlaceOfFirstFailing};
+ghost use Rattle.normalizer_conditions.specs.inner.Walk.{AreUnasked, is_asked_of_words, IsEndOfEqualWords, IsMetApart, IsPlaceOfFirstFailing};
 ghost use Rattle.normalizer_conditions.specs.EachCharacter.{IsMetAt};
 
 use crate::check::met::{is_met_apart, is_met_at};
@@ -50,10 +50,12 @@ pub fn first_failing(data: &LoadedData<'_>, conditions: &[Condition]) -> Option<
 {
     let mut failing = first_failing_apart(data, conditions);
     let hangul_is_sound = asks_hangul(&conditions[..failing]);
+    // Those before say nothing of each character.
+    let asked = first_asked_of_words(conditions);
     let mut from = 0;
-    while from < CODE_POINTS && are_asked_of_words(&conditions[..failing]) {
+    while from < CODE_POINTS && asked < failing {
         let number = data.characters.next_with_word(from);
-        failing = first_failing_at(data, &conditions[..failing], number);
+        failing = asked + first_failing_at(data, &conditions[asked..failing], number);
         from = end_of_equal_words(number, hangul_is_sound);
     }
     conditions.get(failing).copied()
@@ -68,25 +70,33 @@ fn asks_hangul(conditions: &[Condition]) -> bool
         .any(|&condition| condition == Condition::Hangul)
 }
 
-/// Whether one of these conditions says something of each character.
-#[tactic(auto, unfolding(crate::specs::inner::Walk::is_asked_of_words))]
-fn are_asked_of_words(conditions: &[Condition]) -> bool
-    ensures { result ≡ list_any is_asked_of_words conditions.now }
+/// The place of the first condition that says something of each character.
+fn first_asked_of_words(conditions: &[Condition]) -> usize
+    ensures { AreUnasked conditions.now result }
 {
-    conditions.iter().any(|&condition| {
-        matches!(
-            condition,
-            Condition::Words
-                | Condition::Members
-                | Condition::Order
-                | Condition::Passthrough
-                | Condition::RoundTrip
-                | Condition::SafeBeginning
-                | Condition::FdfaForms
-                | Condition::Steps
-                | Condition::WordClasses
-        )
-    })
+    conditions
+        .iter()
+        .position(|&condition| is_asked_of_words(condition))
+        .unwrap_or(conditions.len())
+}
+
+/// Whether a condition says something of each character.
+#[tactic(auto, unfolding(crate::specs::inner::Walk::is_asked_of_words))]
+fn is_asked_of_words(condition: Condition) -> bool
+    ensures { result ≡ is_asked_of_words condition }
+{
+    matches!(
+        condition,
+        Condition::Words
+            | Condition::Members
+            | Condition::Order
+            | Condition::Passthrough
+            | Condition::RoundTrip
+            | Condition::SafeBeginning
+            | Condition::FdfaForms
+            | Condition::Steps
+            | Condition::WordClasses
+    )
 }
 
 /// The end of the numbers for which it suffices to check this one. If Hangul is sound, that is all syllables after it

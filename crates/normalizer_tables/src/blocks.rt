@@ -1,8 +1,8 @@
 //! How the words of a table are stored: in blocks of 64 code points each, equal blocks once.
-ghost use Rattle.std.specs.Prelude.{◌≡◌, ◌+◌, ◌≤◌, ◌<◌, IfOk, OnOk, ℕ, position, nat_eq, replicate, slice_index};
+ghost use Rattle.std.specs.Prelude.{◌≡◌, ◌+◌, ◌*◌, ◌≤◌, ◌<◌, IfOk, ℕ, length, position, nat_eq, slice_index};
 ghost use Rattle.std.specs.Cmp.Lexicographic.{pointwise};
 ghost use Rattle.normalizer_tables.specs.Table.{block_count};
-ghost use Rattle.normalizer_tables.specs.inner.Blocks.{AreFrom, AreLeft, IsBlockOf, IsJoined, IsKnown, IsNumbered, IsRun};
+ghost use Rattle.normalizer_tables.specs.inner.Blocks.{AreFrom, AreLeft, AreNumbered, IsBlockOf, IsJoined, IsRun};
 ghost use Rattle.normalizer_tables.specs.TableSets.{IsSetWithout};
 ghost use Rattle.normalizer_tables.specs.inner.TableSets.{HasPlacesWithout};
 ghost use Rattle.normalizer_tables.specs.Ranges.{word_in, words_of, IsRangeList};
@@ -17,6 +17,9 @@ const BLOCK: u32 = 64;
 
 /// How many blocks the code points have.
 const PLACES: u32 = 17_408;
+
+/// The last code point.
+pub(crate) const LAST_CODE_POINT: u32 = 0x10FFFF;
 
 /// A word for each code point.
 #[derive(Drop)]
@@ -51,12 +54,13 @@ impl Blocks {
     {
         let mut blocks = Vec::new(alloc);
         let mut numbers = Vec::with_capacity(alloc, PLACES as usize)?;
-        let mut known = None;
         let mut left = ranges;
-        for place in 0..PLACES {
-            let (number, next) = numbered(&mut blocks, &mut known, left, place * BLOCK)?;
-            numbers.push(number as u16)?;
+        let mut place = 0;
+        while place < PLACES {
+            let (number, end, next) = numbered(&mut blocks, left, place)?;
+            numbers.resize(end as usize, number as u16)?;
             left = next;
+            place = end;
         }
         Ok(Blocks { blocks, numbers })
     }
@@ -166,7 +170,24 @@ fn joined(blocks: &mut Vec<[u32; 64]>, block: [u32; 64]) -> Result<usize, AllocE
 fn number_of(blocks: &[[u32; 64]], block: &[u32; 64]) -> Option<usize>
     ensures { result ≡ position (pointwise nat_eq block.now) blocks.now }
 {
-    blocks.iter().position(|kept| block == kept)
+    // Most kept blocks differ from it here already.
+    let offset = first_other(block);
+    let word = block[offset];
+    blocks
+        .iter()
+        .position(|kept| kept[offset] == word && block == kept)
+}
+
+/// The first offset at which a block hasn't its first word, if there is one.
+fn first_other(block: &[u32; 64]) -> usize
+    ensures { result < 64 }
+{
+    for offset in 1..64 {
+        if block[offset] != block[0] {
+            return offset;
+        }
+    }
+    0
 }
 
 /// The places of a block whose words have none of the bits, as a bit each.
@@ -182,49 +203,28 @@ fn places_without(block: &[u32; 64], bits: u32) -> u64
     places
 }
 
-/// The number of the block of 64 numbers from one on, and the ranges that don't end among them. `known` is a word with
-/// the number of the block that has it alone.
+/// The number of the block of a place, the end of the places that have it one after another, as far as one range says
+/// so, and the ranges that don't end before that.
 fn numbered<'r>(
     blocks: &mut Vec<[u32; 64]>,
-    known: &mut Option<(u32, usize)>,
     ranges: &'r [(u32, u32, u32)],
-    start: u32,
-) -> Result<(usize, &'r [(u32, u32, u32)]), AllocError>
-    requires known { IsKnown blocks.old.items known.old }
-    requires ranges { AreFrom start ranges.now }
-    requires room { start ≤ 0x10FFC0 }
-    ensures number { IfOk result (λ r. IsNumbered ranges.now start blocks.old.items blocks.new.items r.0) }
-    ensures left { IfOk result (λ r. AreLeft ranges.now (start + 64) r.1.now) }
-    ensures known { OnOk result (IsKnown blocks.new.items known.new) }
+    place: u32,
+) -> Result<(usize, u32, &'r [(u32, u32, u32)]), AllocError>
+    requires ranges { AreFrom (place * 64) ranges.now }
+    requires room { place < 17408 }
+    ensures within { IfOk result (λ r. (place < r.1) × (r.1 ≤ 17408)) }
+    ensures number { IfOk result (λ r. AreNumbered ranges.now place r.1 blocks.old.items blocks.new.items r.0) }
+    ensures left { IfOk result (λ r. AreLeft ranges.now (r.1 * 64) r.2.now) }
 {
-    let (word, last) = run_from(ranges, start);
-    if start + 63 <= last {
-        let number = joined_word(blocks, known, word)?;
-        return Ok((number, behind(ranges, start + 63)));
+    let (word, last) = run_from(ranges, place * BLOCK);
+    let end = (last + 1) / BLOCK;
+    if place < end {
+        let number = joined(blocks, [word; 64])?;
+        return Ok((number, end, behind(ranges, end * BLOCK - 1)));
     }
-    let (block, left) = block_from(ranges, start);
+    let (block, left) = block_from(ranges, place * BLOCK);
     let number = joined(blocks, block)?;
-    Ok((number, left))
-}
-
-/// The number of the block that has one word alone. The block isn't made if it is known.
-fn joined_word(
-    blocks: &mut Vec<[u32; 64]>,
-    known: &mut Option<(u32, usize)>,
-    word: u32,
-) -> Result<usize, AllocError>
-    requires { IsKnown blocks.old.items known.old }
-    ensures number { IfOk result (IsJoined blocks.old.items (replicate 64 word) blocks.new.items) }
-    ensures known { OnOk result (IsKnown blocks.new.items known.new) }
-{
-    match *known {
-        Some((kept, number)) if kept == word => Ok(number),
-        _ => {
-            let number = joined(blocks, [word; 64])?;
-            *known = Some((word, number));
-            Ok(number)
-        }
-    }
+    Ok((number, place + 1, left))
 }
 
 /// The words of 64 numbers from one on, and the ranges that don't end among them.
@@ -236,20 +236,38 @@ fn block_from(ranges: &[(u32, u32, u32)], start: u32) -> ([u32; 64], &[(u32, u32
 {
     let mut block = [0; 64];
     let mut left = ranges;
-    for offset in 0..BLOCK {
-        block[offset as usize] = run_from(left, start + offset).0;
-        left = behind(left, start + offset);
+    let mut offset = 0;
+    while offset < BLOCK {
+        let (word, last) = run_from(left, start + offset);
+        let end = (last + 1 - start).min(BLOCK);
+        write_run(&mut block, offset, end, word);
+        left = behind(left, start + end - 1);
+        offset = end;
     }
     (block, left)
 }
 
+/// Writes a word from an offset on, up to an end.
+fn write_run(block: &mut [u32; 64], from: u32, end: u32, word: u32)
+    requires { end ≤ 64 }
+    ensures length { length block.new ≡ 64 }
+    ensures before { (k : ℕ) → k < from → slice_index block.new k ≡ slice_index block.old k }
+    ensures run { (k : ℕ) → from ≤ k → k < end → slice_index block.new k ≡ word }
+{
+    for offset in from..end {
+        block[offset as usize] = word;
+    }
+}
+
 /// The word of a number, and a number up to which all have it.
 fn run_from(ranges: &[(u32, u32, u32)], number: u32) -> (u32, u32)
-    requires { AreFrom number ranges.now }
-    ensures { IsRun ranges.now number result.0 result.1 }
+    requires ranges { AreFrom number ranges.now }
+    requires code_point { number ≤ 0x10FFFF }
+    ensures run { IsRun ranges.now number result.0 result.1 }
+    ensures within { result.1 ≤ 0x10FFFF }
 {
     match ranges {
-        [] => (0, u32::MAX),
+        [] => (0, LAST_CODE_POINT),
         [(first, _, _), ..] if number < *first => (0, first - 1),
         [(_, last, word), ..] => (*word, *last),
     }

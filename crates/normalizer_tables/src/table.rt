@@ -10,7 +10,7 @@ ghost use Rattle.normalizer_tables.specs.inner.Blocks.{is_range};
 ghost use Rattle.std.specs.List.{list_all};
 ghost use Rattle.normalizer_tables.specs.Table.{word_at, code_points, IsNextWithWord};
 
-use crate::blocks::Blocks;
+use crate::blocks::{Blocks, LAST_CODE_POINT};
 use crate::word::FLAGS;
 use normalizer_sets::CharacterSet;
 use std::alloc::{AllocError, Global};
@@ -189,8 +189,6 @@ impl PartialEq for CodePointTable {
         self.words == other.words && self.past == other.past
     }
 }
-
-const LAST_CODE_POINT: u32 = 0x10FFFF;
 
 /// Whether these are ranges of code points, each before the next.
 fn is_range_list(ranges: &[(u32, u32, u32)]) -> bool

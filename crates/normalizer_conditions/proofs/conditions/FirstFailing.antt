@@ -1,12 +1,11 @@
 -- The first condition that fails, found number by number.
-use Rattle.std.proofs.Common.{◌≡◌, ℕ, min, ◌+◌, ◌<◌, ◌≤◌, inl, inr, false, List, ◌++◌, length, take, drop, All, Bor, IfSome, MatchOption}
-use Rattle.std.proofs.Common.{Option, Some, None, slice_get, slice_index_or, get_or, refl, ap, sym, ◌∙◌, subst, length-take, arith}
-use Rattle.std.specs.List.{AllWithin, Contains, HoldsAt as HoldsAtPlace, list_any}
+use Rattle.std.proofs.Common.{◌≡◌, ℕ, min, ◌+◌, ◌-◌, ◌<◌, ◌≤◌, inl, inr, false, List, ◌++◌, length, take, drop, All, Bor, IfSome, MatchOption}
+use Rattle.std.proofs.Common.{Option, Some, None, slice_get, slice_index_or, get_or, get_or-drop, refl, ap, sym, ◌∙◌, subst, length-drop, length-take, arith}
+use Rattle.std.specs.List.{AllWithin, Contains, HoldsAt as HoldsAtPlace}
 use Rattle.std.specs.Option.{option_copied}
-use Rattle.std.proofs.lemmas.Bool.{cases_lt, false_from_ne_true}
+use Rattle.std.proofs.lemmas.Bool.{cases_lt}
 use Rattle.std.proofs.lemmas.List.{get_or-take, take-append-drop}
 use Rattle.std.proofs.lemmas.List.Elements.{All-contains}
-use Rattle.std.proofs.lemmas.List.Folds.{list_any_at}
 use Rattle.std.proofs.lemmas.Option.{slice_get_within, slice_get-get_or, slice_get_cases, slice_get_past, slice_get_read, get_or_from_slice_get}
 use Rattle.std.specs.Char.{IsScalar}
 use Rattle.normalizer_tables.specs.declared.condition.Condition.{Condition}
@@ -14,7 +13,7 @@ use Rattle.normalizer_tables.specs.declared.condition.Condition.TheVariants.{Han
 use Rattle.normalizer_tables.specs.CharacterConditions.{IsSoundHangul}
 use Rattle.normalizer_tables.specs.Conditions.{IsFirstFailing, IsMet}
 use Rattle.normalizer_tables.specs.Loaded.{Loaded}
-use Rattle.normalizer_conditions.specs.inner.Walk.{is_asked_of_words, IsMetApart, IsPlaceOfFirstFailing}
+use Rattle.normalizer_conditions.specs.inner.Walk.{is_asked_of_words, AreUnasked, IsMetApart, IsPlaceOfFirstFailing}
 use Rattle.normalizer_conditions.specs.EachCharacter.{IsMetAt}
 use Rattle.normalizer_tables.proofs.lists.ListedLemmas.{drop_member}
 use Rattle.normalizer_conditions.proofs.conditions.LoadedLemmas.{IsMet-parts, IsMetAt-unasked}
@@ -83,13 +82,35 @@ FailsFirst-all loaded conditions number place (Some c) h all e = (
 )
 
 -- no condition before the place depends on words
-pub unasked : (loaded : Loaded) (conditions : List Condition) (number place : ℕ) → place ≤ length conditions → list_any is_asked_of_words (take place conditions) ≡ false →
+pub unasked : (loaded : Loaded) (conditions : List Condition) (number place asked : ℕ) → place ≤ asked → AreUnasked conditions asked →
     AllWithin (λ c. IsMetBelow loaded number c → IsMet loaded c) conditions 0 place
-unasked loaded conditions number place within none k d low h met =
-    let c = slice_index_or conditions k d in
-    let other : is_asked_of_words c ≡ false = false_from_ne_true _ (λ asked.
-    (let some = list_any_at is_asked_of_words (take place conditions) k d (simp length-take (omega arith)) (ap is_asked_of_words (get_or-take place conditions k d h) ∙ asked) in cc)) in
-    (IsMet-parts loaded c).1 (met.0, λ n is. IsMetAt-unasked loaded c other n)
+unasked loaded conditions number place asked early none k d low h met =
+    (IsMet-parts loaded (slice_index_or conditions k d)).1 (met.0, λ n is. IsMetAt-unasked loaded _ (none k d low (omega arith)) n)
+
+-- the first that fails is not among those that depend on no word
+pub FirstFailing-asked : (P : Condition → Type 0) (conditions : List Condition) (asked failing place : ℕ) → asked ≤ failing → failing ≤ length conditions →
+    ((c : Condition) → is_asked_of_words c ≡ false → P c) → AreUnasked conditions asked →
+    IsPlaceOfFirstFailing P (take (failing - asked) (drop asked conditions)) place → IsPlaceOfFirstFailing P (take failing conditions) (asked + place)
+FirstFailing-asked P conditions asked failing place early within holds none h =
+    let long : length (drop asked conditions) ≡ length conditions - asked = length-drop asked conditions in
+    let rest : length (take (failing - asked) (drop asked conditions)) ≡ failing - asked = length-take (failing - asked) (drop asked conditions) ∙ omega (arith, long) in
+    let all : length (take failing conditions) ≡ failing = length-take failing conditions ∙ omega arith in
+    let same : (j : ℕ) (d : Condition) → j < failing - asked → get_or (take (failing - asked) (drop asked conditions)) j d ≡ get_or (take failing conditions) (asked + j) d = (λ j d below.
+    get_or-take (failing - asked) (drop asked conditions) j d below ∙ get_or-drop asked conditions j d ∙ sym (get_or-take failing conditions (asked + j) d (omega arith))) in
+    record {
+      within = omega (arith, h.within, rest, all);
+      before = λ k d low kh. elim (cases_lt k asked) [
+        | inl less ↦ subst P (sym (get_or-take failing conditions k d (omega arith))) (holds _ (none k d low less))
+        | inr behind ↦
+            let back : asked + (k - asked) ≡ k = omega arith in
+            let inner : k - asked < failing - asked = omega (arith, h.within, rest, kh) in
+            subst (λ j. P (get_or (take failing conditions) j d)) back (subst P (same (k - asked) d inner) (h.before (k - asked) d (omega arith) (omega arith)))
+      ];
+      fails = λ c e.
+          (let low : asked + place < length (take failing conditions) = slice_get_within (take failing conditions) (asked + place) c e in
+          let inner : place < failing - asked = omega (arith, low, all) in
+          h.fails c (slice_get-get_or (take (failing - asked) (drop asked conditions)) place c (omega (arith, rest)) ∙ ap Some (same place c inner ∙ get_or_from_slice_get (take failing conditions) (asked + place) c c e)));
+    }
 
 -- the result of `get` and `copied` on a slice
 pub copied_slice_get : (conditions : List Condition) (place : ℕ) (o : Option (Bor Condition)) → IfSome o (λ x. x.now ≡ get_or conditions place x.now) →

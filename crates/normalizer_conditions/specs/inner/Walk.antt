@@ -61,6 +61,10 @@ is_asked_of_words Steps = true
 is_asked_of_words WordClasses = true
 is_asked_of_words _ = false
 
+-- no condition before the place does
+abbrev pub AreUnasked : List Condition → ℕ → Type 0
+AreUnasked conditions place = AllWithin (λ c. is_asked_of_words c ≡ false) conditions 0 place
+
 -- the place of the first condition that fails, or their number if none does
 pub record IsPlaceOfFirstFailing (holds : Condition → Type 0) (conditions : List Condition) (place : ℕ) : Type 0 where
   pub within : place ≤ length conditions

@@ -1,16 +1,16 @@
 -- The words of a table in blocks.
 use Rattle.std.proofs.Common.{add-one, ltb, nat_eq, ◌≡◌, ℕ, ◌+◌, ◌*◌, ◌/◌, ◌%◌, ◌<◌, ◌≤◌, List, [], ◌∷◌, ◌++◌, length, get_or}
-use Rattle.std.proofs.Common.{cond, Bool, None, refl, inl, inr, arith, ap, sym, subst, ◌∙◌, zero, suc, zero-add}
+use Rattle.std.proofs.Common.{Bool, None, refl, inl, inr, arith, ap, sym, subst, ◌∙◌, ◌-◌, zero, suc, zero-add, replicate, append_assoc}
 use Rattle.std.specs.List.{position, position_or_len}
 use Rattle.std.proofs.lemmas.Grind.{common_steps}
 use Rattle.std.proofs.lemmas.List.Sums.{passes_at_first, prefix_len-le-length}
 use Rattle.std.specs.Cmp.Lexicographic.{pointwise, bytes_decides}
-use Rattle.std.proofs.lemmas.List.{ext_get_or, get_or_read, get_or_push, get_or_append_left, length_push}
+use Rattle.std.proofs.lemmas.List.{ext_get_or, get_or_read, get_or_push, get_or_append_left, length_push, replicate_more}
 use Rattle.std.proofs.lemmas.List.FromFn.{get_or-map-range_with_len, length-map-range_with_len, map-range_with_len_more}
-use Rattle.std.proofs.lemmas.Bool.{cases_lt, cond_both, ltb-true, ltb-false, eq-eqb, ne_eqb}
+use Rattle.std.proofs.lemmas.Bool.{cases_lt, cond_both, ltb-true, ltb-false, lt-ltb, eq-eqb}
 use Rattle.std.proofs.lemmas.List.Folds.{position_or_len_push}
 use Rattle.normalizer_tables.specs.Table.{Block, block_places}
-use Rattle.normalizer_tables.specs.inner.Blocks.{block_at, stored_word, stored_words, block_of, number_in, joined_blocks, blocks_to, numbers_to, IsStored}
+use Rattle.normalizer_tables.specs.inner.Blocks.{block_at, stored_word, stored_words, block_of, number_in, joined_blocks, blocks_to, numbers_to, AreLeft, AreNumbered, IsStored}
 use Rattle.normalizer_tables.specs.Ranges.{WordRange, word_in, words_of}
 use Rattle.normalizer_tables.specs.Table.{code_points}
 
@@ -56,15 +56,7 @@ module _ (bs : List Block) (b : Block) where
   joined-length : length (joined_blocks bs b) ≤ length bs + 1
   joined-length = cond_both (ltb (number_in bs b) (length bs)) bs (bs ++ b ∷ []) (λ cs. length cs ≤ length bs + 1) (λ _. omega arith) (λ _. omega (arith, length_push bs b))
 
--- the number of a kept block stays when another joins
-pub number_in-kept : (bs : List Block) (b other : Block) → number_in bs b < length bs → (number_in (joined_blocks bs other) b ≡ number_in bs b) × (number_in bs b < length (joined_blocks bs other))
-number_in-kept bs b other kept = (
-  cond_both (ltb (number_in bs other) (length bs)) bs (bs ++ other ∷ []) (λ cs. number_in cs b ≡ number_in bs b) (λ _. refl)
-      (λ _. position_or_len_push (pointwise nat_eq b) bs other ∙ ap (λ c. cond c (length bs + cond (pointwise nat_eq b other) 0 1) (number_in bs b)) (ne_eqb _ _ (λ same. absurd (omega arith)))),
-  (joined-earlier bs other (number_in bs b) kept).0,
-)
-
--- and is that of the block that has joined
+-- the number of a block is that of the block that has joined
 pub number_in-joined : (bs : List Block) (b : Block) → (number_in (joined_blocks bs b) b ≡ number_in bs b) × (number_in bs b < length (joined_blocks bs b))
 number_in-joined bs b = (
   cond_both (ltb (number_in bs b) (length bs)) bs (bs ++ b ∷ []) (λ cs. number_in cs b ≡ number_in bs b) (λ _. refl)
@@ -83,10 +75,71 @@ pub numbers_to-more : (words : List ℕ) (n : ℕ) → numbers_to words (n + 1) 
 unfolding numbers_to
 numbers_to-more words n = map-range_with_len_more (λ place. number_in (blocks_to words place) (block_of words place)) 0 n n (zero-add n)
 
+-- a block that is kept joins as it is
+joined_blocks-kept : (bs : List Block) (b : Block) → number_in bs b < length bs → joined_blocks bs b ≡ bs
+joined_blocks-kept bs b kept = rw (lt-ltb _ _ kept) refl
+
+-- the places before `end` are stored if those before `place` are, and each from there on has this block
+abbrev AreAlike : List ℕ → (place : ℕ) → Block → (n end : ℕ) → Type 0
+AreAlike words place b n end = (blocks_to words end ≡ joined_blocks (blocks_to words place) b)
+    × (numbers_to words end ≡ numbers_to words place ++ replicate n (number_in (blocks_to words place) b))
+
+alike : (words : List ℕ) (place : ℕ) (b : Block) (n : ℕ) → ((k : ℕ) → place ≤ k → k < place + (n + 1) → block_of words k ≡ b) → AreAlike words place b (n + 1) (place + (n + 1))
+alike words place b zero h =
+    let here = h place (omega arith) (omega arith) in (
+      blocks_to-more words place ∙ ap (joined_blocks (blocks_to words place)) here,
+      numbers_to-more words place ∙ ap (λ c. numbers_to words place ++ number_in (blocks_to words place) c ∷ []) here,
+    )
+alike words place b (suc n) h =
+    let before = alike words place b n (λ k from below. h k from (omega arith)) in
+    let m = place + (n + 1) in
+    let x = number_in (blocks_to words place) b in
+    let here : block_of words m ≡ b = h m (omega arith) (omega arith) in
+    let next : place + (n + 1) + 1 ≡ place + (suc n + 1) = omega arith in
+    let more : n + 1 + 1 ≡ suc n + 1 = omega arith in
+    let joins = number_in-joined (blocks_to words place) b in
+    let kept : number_in (joined_blocks (blocks_to words place) b) b < length (joined_blocks (blocks_to words place) b) = omega (arith, joins.0, joins.1) in
+    subst (λ e. AreAlike words place b (suc n + 1) e) next (
+      blocks_to-more words m ∙ ap (λ c. joined_blocks (blocks_to words m) c) here ∙ ap (λ bs. joined_blocks bs b) before.0 ∙ joined_blocks-kept _ b kept,
+      numbers_to-more words m ∙ ap (λ c. numbers_to words m ++ number_in (blocks_to words m) c ∷ []) here ∙ ap (λ bs. numbers_to words m ++ number_in bs b ∷ []) before.0
+          ∙ ap (λ k. numbers_to words m ++ k ∷ []) joins.0 ∙ ap (λ ns. ns ++ x ∷ []) before.1 ∙ append_assoc (numbers_to words place) (replicate (n + 1) x) (x ∷ [])
+          ∙ ap (λ l. numbers_to words place ++ l) (replicate_more (n + 1) x ∙ ap (λ k. replicate k x) more),
+    )
+
+-- places that have a number after those that are stored
+pub numbered_more : (rs left : List WordRange) (place end number : ℕ) (old new : List Block) → place < end → end ≤ block_places → AreLeft rs (place * 64) left
+    → AreNumbered left place end old new number → old ≡ blocks_to (words_of rs) place
+    → (new ≡ blocks_to (words_of rs) end) × (numbers_to (words_of rs) end ≡ numbers_to (words_of rs) place ++ replicate (end - place) number)
+unfolding AreNumbered
+numbered_more rs left place end number old new some low from is before =
+    let words = words_of rs in
+    let n = end - place - 1 in
+    let last : place + (n + 1) ≡ end = omega arith in
+    let count : n + 1 ≡ end - place = omega arith in
+    let same = alike words place is.0 n (λ k first below.
+    (let block = is.1 k first (omega arith) in
+    sym (block_of-words_of rs k is.0 (omega arith) block.long (λ j within. block.words j within ∙ from.words (k * 64 + j) (omega arith))))) in
+    let blocks = subst (λ e. blocks_to words e ≡ joined_blocks (blocks_to words place) is.0) last same.0 in
+    let numbers = subst (λ e. numbers_to words e ≡ numbers_to words place ++ replicate (n + 1) (number_in (blocks_to words place) is.0)) last same.1 in (
+      is.2.0 ∙ ap (λ bs. joined_blocks bs is.0) before ∙ sym blocks,
+      numbers ∙ ap (λ k. numbers_to words place ++ replicate k (number_in (blocks_to words place) is.0)) count
+          ∙ ap (λ bs. numbers_to words place ++ replicate (end - place) (number_in bs is.0)) (sym before)
+          ∙ ap (λ k. numbers_to words place ++ replicate (end - place) k) (sym is.2.1),
+    )
+
 pub length-blocks_to : (words : List ℕ) (n : ℕ) → length (blocks_to words n) ≤ n
 unfolding blocks_to
 length-blocks_to words zero = omega arith
 length-blocks_to words (suc n) = omega (arith, joined-length (blocks_to words n) (block_of words n), length-blocks_to words n)
+
+pub number-low : (rs left : List WordRange) (place end number : ℕ) (old new : List Block) → AreNumbered left place end old new number → old ≡ blocks_to (words_of rs) place → number ≤ place
+unfolding AreNumbered
+number-low rs left place end number old new is before =
+    omega (arith, is.2.1, number_in-le old is.0, ap length before, length-blocks_to (words_of rs) place)
+
+pub length-numbers_to : (words : List ℕ) (n : ℕ) → length (numbers_to words n) ≡ n
+unfolding numbers_to
+length-numbers_to words n = length-map-range_with_len (λ place. number_in (blocks_to words place) (block_of words place)) 0 n
 
 -- the number of each place is that of its block
 block_numbered : (words : List ℕ) (n k : ℕ) → k < n
@@ -112,8 +165,7 @@ block_at-to words n k below =
 
 module _ (blocks : List Block) (numbers words : List ℕ) (s : IsStored blocks numbers words) where
   pub length-numbers : length numbers ≡ block_places
-  unfolding numbers_to
-  length-numbers = ap length s.in_order ∙ length-map-range_with_len (λ place. number_in (blocks_to words place) (block_of words place)) 0 block_places
+  length-numbers = ap length s.in_order ∙ length-numbers_to words block_places
 
   pub block_at-stored : (k : ℕ) → k < block_places → (get_or numbers k 0 < length blocks) × (block_at blocks numbers k ≡ block_of words k)
   block_at-stored k low = rw (s.in_blocks, s.in_order) (block_at-to words block_places k low)

@@ -1,15 +1,14 @@
 -- Look-ups in a list of pairs.
 use Rattle.std.proofs.Common.{ap, inl, inr, ◌≡◌, ◌≢◌, ℕ, ◌<◌, Bool, true, false, List, [], ◌∷◌, length, get_or, Some}
-use Rattle.std.proofs.Common.{None, All, arith, nat_lt, refl, subst, ◌∙◌, ◌↔◌, IsTrue}
+use Rattle.std.proofs.Common.{None, All, arith, subst, ◌∙◌, ◌↔◌, IsTrue}
 use Rattle.std.proofs.lemmas.Bool.{cases_Bool}
 use Rattle.std.proofs.lemmas.Bool.Decides.{nat_tests}
 use Rattle.std.proofs.lemmas.List.Elements.{All-tail}
 use Rattle.std.proofs.lemmas.List.Folds.{find_at}
 use Rattle.std.proofs.lemmas.List.Sums.{position_or_len_is}
-use Rattle.std.proofs.lemmas.Option.{get_or_from_slice_get, slice_get_within, same_Some, slice_get-get_or, slice_get_past, slice_get_read}
+use Rattle.std.proofs.lemmas.Option.{get_or_from_slice_get, slice_get_within, same_Some, slice_get-get_or, slice_get_past}
 use Rattle.std.specs.List.{find, position_or_len, slice_get}
 use Rattle.std.specs.Option.{option_map}
-use Rattle.std.specs.List.Sorted.{IsPartitionPoint, IsPartitionedBy}
 use Rattle.std.specs.List.{AllAdjacentBelow, IsAllAdjacentAnswer}
 use Rattle.normalizer_tables.specs.Pairs.{Pair, pair_at, is_before, is_of, listed_result, AreRising}
 use Rattle.normalizer_tables.proofs.lists.RisingLists.{all_before, all_before-decides}

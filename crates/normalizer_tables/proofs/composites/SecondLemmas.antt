@@ -1,6 +1,6 @@
 -- Which characters are second in a pair, and the bits that say so.
 use Rattle.std.proofs.Common.{◌≡◌, ◌≢◌, ℕ, ◌<◌, ◌≤◌, ◌+◌, ◌*◌, ◌/◌, ◌%◌, ◌^◌, Bool, true, false, List, [], ◌∷◌, length, get_or, set, replicate, take, Some, None, arith, ap, refl, subst, sym, ◌∙◌, inl, inr}
-use Rattle.std.specs.Prelude.{◌==◌, ◌||◌, ◌↔◌, IsTrue, max, not, ◌⊎◌}
+use Rattle.std.specs.Prelude.{◌==◌, ◌||◌, ◌↔◌, IsTrue, max, not}
 use Rattle.std.specs.Int.{bit_at}
 use Rattle.std.specs.Int.RustNames.{bit_or}
 use Rattle.std.specs.List.{list_any}
@@ -12,7 +12,7 @@ use Rattle.std.proofs.lemmas.List.Folds.{list_any_more}
 use Rattle.std.proofs.lemmas.Nat.{one_shl}
 use Rattle.std.proofs.lemmas.Nat.Bits.{bit_at_or, bit_at-pow_other, bit_at-pow_same, bit_at-zero}
 use Rattle.normalizer_tables.specs.HangulComposition.{compose_hangul}
-use Rattle.normalizer_tables.specs.Pairs.{Pair, is_listed_second, is_of, is_vowel_or_trailing_jamo, listed_result, may_be_second, pair_at, pair_of}
+use Rattle.normalizer_tables.specs.Pairs.{Pair, is_listed_second, is_vowel_or_trailing_jamo, listed_result, may_be_second, pair_at, pair_of}
 use Rattle.normalizer_tables.specs.inner.Seconds.{has_bit, AreBitsOf}
 use Rattle.normalizer_tables.proofs.composites.PairLemmas.{is_of_from, is_of_other}
 

@@ -1,7 +1,6 @@
 -- How the words of a table are stored: in blocks of 64 code points each, equal blocks once.
 use Rattle.std.specs.Prelude.{◌≡◌, ℕ, zero, suc, ◌+◌, ◌*◌, ◌/◌, ◌%◌, ◌≤◌, ◌<◌, List, [], ◌∷◌, ◌++◌, All, cond, length}
-use Rattle.std.specs.Prelude.{Bool, ◌&&◌, map, nat_eq, nat_le, nat_lt, replicate, slice_index, slice_index_or}
-use Rattle.std.specs.Prelude.{IfSome, Option}
+use Rattle.std.specs.Prelude.{Bool, ◌&&◌, map, nat_eq, nat_le, nat_lt, slice_index, slice_index_or}
 use Rattle.std.specs.Cmp.Lexicographic.{pointwise}
 use Rattle.std.specs.List.{position_or_len, range_with_len}
 use Rattle.normalizer_tables.specs.Ranges.{WordRange, IsRangeList, word_in}
@@ -34,14 +33,6 @@ joined_blocks blocks block = cond (nat_lt (number_in blocks block) (length block
 -- the number of the block among those kept, to which it is added if it is none of them
 abbrev pub IsJoined : List Block → Block → List Block → ℕ → Type 0
 IsJoined old block new number = (new ≡ joined_blocks old block) × (number ≡ number_in old block)
-
--- the block of one word alone
-abbrev pub block_with : ℕ → Block
-block_with word = replicate 64 word
-
--- the word, if any, comes with the number of the block that has it alone
-abbrev pub IsKnown : List Block → Option (ℕ × ℕ) → Type 0
-IsKnown blocks known = IfSome known (λ k. (number_in blocks (block_with k.0) ≡ k.1) × (k.1 < length blocks))
 
 -- the blocks of the first places, each once, in the order of their first use
 unfoldable pub blocks_to : List ℕ → ℕ → List Block
@@ -76,9 +67,11 @@ pub record IsBlockOf (ranges : List WordRange) (start : ℕ) (block : Block) : T
   pub long : length block ≡ 64
   pub words : (k : ℕ) → k < 64 → slice_index block k ≡ word_in ranges (start + k)
 
--- the number is that of this block, which is added if it is none of those kept
-unfoldable pub IsNumbered : List WordRange → ℕ → List Block → List Block → ℕ → Type 0
-IsNumbered ranges start old new number = (block : Block) × IsBlockOf ranges start block × IsJoined old block new number
+-- all places from `place` on and before `end` have this block, and the number is its, which is added if it is none of
+-- those kept
+unfoldable pub AreNumbered : List WordRange → (place end : ℕ) → List Block → List Block → ℕ → Type 0
+AreNumbered ranges place end old new number =
+    (block : Block) × ((k : ℕ) → place ≤ k → k < end → IsBlockOf ranges (k * 64) block) × IsJoined old block new number
 
 -- the numbers up to `last` have the word, and no range ends before `last`
 pub record IsRun (ranges : List WordRange) (n word last : ℕ) : Type 0 where

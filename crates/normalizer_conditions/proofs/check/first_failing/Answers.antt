@@ -1,12 +1,12 @@
-use Rattle.std.proofs.Common.{◌∙◌, sym, subst, arith}
+use Rattle.std.proofs.Common.{◌+◌, ◌∙◌, subst, arith}
 use Rattle.normalizer_tables.specs.Characters.{IsNextWord}
 use Rattle.normalizer_tables.specs.Table.{code_points}
-use Rattle.normalizer_conditions.proofs.conditions.FirstFailing.{FailsFirst-all, copied_slice_get, FailsFirst-step, has_sound_hangul, unasked}
-use Rattle.normalizer_conditions.proofs.conditions.LoadedLemmas.{IsMet-parts}
+use Rattle.normalizer_conditions.proofs.conditions.FirstFailing.{FailsFirst-all, copied_slice_get, FailsFirst-step, FirstFailing-asked, has_sound_hangul, unasked}
+use Rattle.normalizer_conditions.proofs.conditions.LoadedLemmas.{IsMet-parts, IsMetAt-unasked}
 use Rattle.normalizer_conditions.proofs.composites.PairConditionLemmas.{scalar_below}
 use Rattle.normalizer_conditions.proofs.conditions.WalkLemmas.{IsMetAt-answered}
 use Rattle.normalizer_conditions.proofs.check.first_failing.Goals as goal
-use Rattle.normalizer_conditions.proofs.check.first_failing.Goals.{then-loop-from-test+else-are_asked_of_words, else-loop-from-test}
+use Rattle.normalizer_conditions.proofs.check.first_failing.Goals.{then-loop-from-test+else-asked-failing, else-loop-from-test}
 
 pub loop-from-init : goal.loop-from-init
 loop-from-init c =
@@ -28,12 +28,14 @@ loop-from-preserved c =
     record {
       within = c.end_of_equal_words-from.ensures.within next.within;
       first =
-          FailsFirst-step c.args.data.now c.args.conditions.now c.loop-from.from c.next_with_word-number.result c.end_of_equal_words-from.result c.loop-from.failing c.first_failing_at-failing.result
+          FailsFirst-step c.args.data.now c.args.conditions.now c.loop-from.from c.next_with_word-number.result c.end_of_equal_words-from.result c.loop-from.failing
+          (c.first_asked_of_words-asked.result + c.first_failing_at.result)
           c.loop-from.invariant.first
           (IsMetAt-answered c.args.data.now c.asks_hangul-hangul_is_sound.result
           (λ asked. has_sound_hangul c.args.data.now c.args.conditions.now c.first_failing_apart-failing.result apart (c.asks_hangul-hangul_is_sound.ensures.0 asked)) c.loop-from.from
           c.next_with_word-number.result c.end_of_equal_words-from.result next c.end_of_equal_words-from.ensures)
-          c.first_failing_at-failing.ensures;
+          (FirstFailing-asked _ c.args.conditions.now c.first_asked_of_words-asked.result c.loop-from.failing c.first_failing_at.result (omega arith) c.loop-from.invariant.first.within
+          (λ k none is. IsMetAt-unasked c.args.data.now k none c.next_with_word-number.result) c.first_asked_of_words-asked.ensures c.first_failing_at.ensures);
     }
 
 pub returns : goal.returns
@@ -41,8 +43,8 @@ unfolding code_points
 returns c =
     FailsFirst-all c.args.data.now c.args.conditions.now c.loop-from.from c.loop-from.failing c.copied.result c.loop-from.invariant.first
     (elim c.loop-from-test.branch [
-      | then-loop-from-test+else-are_asked_of_words w ↦
-          unasked c.args.data.now c.args.conditions.now c.loop-from.from c.loop-from.failing c.loop-from.invariant.first.within (sym w.if-are_asked_of_words.ensures)
+      | then-loop-from-test+else-asked-failing w ↦
+          unasked c.args.data.now c.args.conditions.now c.loop-from.from c.loop-from.failing c.first_asked_of_words-asked.result w.if-asked-failing.false c.first_asked_of_words-asked.ensures
       | else-loop-from-test w ↦ λ k d low kh met. (IsMet-parts c.args.data.now _).1 (met.0, λ n is. met.1 n (omega (arith, scalar_below n is)) is)
     ])
     (c.copied.ensures ∙ copied_slice_get c.args.conditions.now c.loop-from.failing c.get.result c.get.ensures.lookup.1 c.get.ensures.lookup.3)
