@@ -1,8 +1,10 @@
 -- The ranges of runs make a table of the words of the runs.
 use Rattle.std.proofs.Common.{◌≡◌, ℕ, ◌+◌, ◌-◌, ◌<◌, ◌≤◌, true, List, [], ◌∷◌, ◌++◌, Option, Some, None, All, AllPairs}
-use Rattle.std.proofs.Common.{length, get_or, replicate, drop, false, eqb, refl, sym, ap, ◌∙◌, inl, inr, arith, append_assoc}
+use Rattle.std.proofs.Common.{length, get_or, replicate, drop, false, eqb, refl, sym, ap, ◌∙◌, inl, inr, arith}
+use Rattle.std.proofs.Common.{append_assoc}
 use Rattle.std.proofs.lemmas.Bool.{cases_lt, leb-true, ltb-true}
-use Rattle.std.proofs.lemmas.List.{ext_get_or, get_or-append_right, get_or-replicate, get_or_append_left, get_or_default}
+use Rattle.std.proofs.lemmas.List.{ext_get_or, get_or-append_right, get_or-replicate, get_or_append_left}
+use Rattle.std.proofs.lemmas.List.{get_or_default}
 use Rattle.std.proofs.lemmas.List.{at_drop_more, at_drop_all, append-nil}
 use Rattle.std.proofs.lemmas.List.{length-append, length-replicate}
 use Rattle.std.proofs.lemmas.List.Elements.{All-cons, All-nil}
@@ -32,7 +34,8 @@ are_ranges n before (r ∷ rs) h =
     let rest = are_ranges (n + r.count) (Some r.word) rs s.3 in
     let first : WordRange = (n, n + r.count - 1, r.word) in
     record {
-      ranges = All-cons IsRange first (ranges_from (n + r.count) rs) (omega (arith, s.0), omega (arith, s.0, s.1)) rest.ranges;
+      ranges = All-cons IsRange first (ranges_from (n + r.count) rs)
+          (omega (arith, s.0), omega (arith, s.0, s.1)) rest.ranges;
       rising = AllPairs-cons (λ (x y : WordRange). x.1 < y.0) first (ranges_from (n + r.count) rs)
           (λ k d below. omega (arith, s.0, starts (n + r.count) rs k d below)) rest.rising;
     }

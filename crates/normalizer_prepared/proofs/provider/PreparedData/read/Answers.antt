@@ -8,11 +8,13 @@ use Rattle.normalizer_prepared.proofs.decoding.Fields.{ok_is}
 use Rattle.normalizer_prepared.proofs.decoding.FileLaws.{is_file, file_again}
 use Rattle.normalizer_prepared.proofs.provider.PreparedData.read.Goals as goal
 
-memory_alone : (e : ReadError) (p : Packed) (read : Result Packed Wrong) → Fails e read → read ≡ Ok p → e ≡ errors.Memory
+memory_alone : (e : ReadError) (p : Packed) (read : Result Packed Wrong) → Fails e read → read ≡ Ok p
+    → e ≡ errors.Memory
 memory_alone errors.Memory p read failed right = refl
 memory_alone (errors.Wrong fault left) p read failed right = absurd cc
 
-first_fault : (bytes : List ℕ) (e : ReadError) → Fails e (file_at bytes) → IsFirstFault bytes (error_for (length bytes) e)
+first_fault : (bytes : List ℕ) (e : ReadError) → Fails e (file_at bytes)
+    → IsFirstFault bytes (error_for (length bytes) e)
 first_fault bytes errors.Memory failed = tt
 first_fault bytes (errors.Wrong fault left) failed = (left, failed, refl)
 
