@@ -1,14 +1,11 @@
 -- A field that is read has these bytes, and what has these bytes is read.
-use Rattle.std.proofs.Common.{◌≡◌, ℕ, zero, suc, ◌+◌, ◌*◌, ◌%◌, ◌/◌, ◌^◌, ◌<◌, ◌≤◌, Bool, true, false, cond, eqb, ltb}
+use Rattle.std.proofs.Common.{◌≡◌, ℕ, zero, suc, ◌+◌, ◌*◌, ◌%◌, ◌/◌, ◌^◌, ◌<◌, Bool, true, false, cond}
 use Rattle.std.proofs.Common.{List, [], ◌∷◌, ◌++◌, length, get_or, Result, Ok, Err, refl, sym, ap, subst, ◌∙◌}
 use Rattle.std.proofs.Common.{append_assoc, arith, All}
 use Rattle.std.proofs.Math.Nat.{pow-succ'}
 use Rattle.std.specs.List.{flat_map}
-use Rattle.std.proofs.lemmas.List.{append-nil}
 use Rattle.std.proofs.lemmas.List.Elements.{All-cons, All-head, All-nil, All-tail}
 use Rattle.std.proofs.lemmas.List.Concat.{flat_map-cons}
-use Rattle.normalizer_prepared.specs.declared.fault.Fault.{Fault}
-use Rattle.normalizer_prepared.specs.declared.fault.Fault.TheVariants.{Short}
 use Rattle.normalizer_prepared.specs.Bytes.{number_bytes, list_bytes}
 use Rattle.normalizer_prepared.specs.Prepared.{FitsList}
 use Rattle.normalizer_prepared.specs.Reading.{◌>>=◌, Read, Wrong, byte_at, number_at, items_at, list_at}

@@ -1,7 +1,7 @@
 -- The laws of the fields of data.
 use Rattle.std.proofs.Common.{◌≡◌, ℕ, zero, suc, ◌+◌, ◌^◌, ◌<◌, ◌≤◌, Bool, true, false, cond, eqb, ltb, Option, Some}
 use Rattle.std.proofs.Common.{None}
-use Rattle.std.proofs.Common.{List, [], ◌∷◌, ◌++◌, length, Result, Ok, Err, refl, sym, ap, subst, ◌∙◌, inl, inr}
+use Rattle.std.proofs.Common.{List, [], ◌∷◌, ◌++◌, length, Ok, Err, refl, sym, ap, subst, ◌∙◌, inl, inr}
 use Rattle.std.proofs.Common.{append_assoc, arith, All, replicate, get_or, ◌%◌}
 use Rattle.std.proofs.lemmas.List.{get_or_append_left, get_or-append-add, get_or-replicate, length-append}
 use Rattle.std.proofs.lemmas.List.{length-replicate}
@@ -9,7 +9,7 @@ use Rattle.std.proofs.lemmas.List.Concat.{flat_map-cons}
 use Rattle.std.proofs.lemmas.List.Elements.{All-append, All-cons, All-head, All-nil, All-replicate, All-tail}
 use Rattle.std.specs.List.{flat_map}
 use Rattle.std.specs.Char.{IsScalar}
-use Rattle.std.proofs.lemmas.Bool.{cases_lt, eqb-true, eqb-false, eq-eqb, ne_eqb, ltb-true, ltb-false, lt-ltb, le-ltb}
+use Rattle.std.proofs.lemmas.Bool.{cases_lt, eqb-true, ne_eqb, ltb-false, lt-ltb, le-ltb}
 use Rattle.std.proofs.Math.Utf8.{scalar, scalar_cases}
 use Rattle.normalizer_tables.specs.Table.{Table, code_points}
 use Rattle.normalizer_tables.specs.Pairs.{Pair}
@@ -22,7 +22,7 @@ use Rattle.normalizer_prepared.specs.Runs.{are_runs_from, is_next}
 use Rattle.normalizer_prepared.specs.Prepared.{decompositions_bytes, lists_bytes, pair_bytes, supplement_bytes}
 use Rattle.normalizer_prepared.specs.Prepared.{FitsTable, FitsDecompositions, FitsList, FitsLists, FitsSupplement}
 use Rattle.normalizer_prepared.specs.Prepared.{IsPair}
-use Rattle.normalizer_prepared.specs.Reading.{◌>>=◌, Read, Wrong, byte_at, number_at, list_at, scalar_at, pair_at}
+use Rattle.normalizer_prepared.specs.Reading.{◌>>=◌, Read, number_at, list_at, scalar_at, pair_at}
 use Rattle.normalizer_prepared.specs.Reading.{next_run_at, runs_from}
 use Rattle.normalizer_prepared.specs.Reading.{long_count_at, count_at, run_at, runs_at, table_at, decompositions_at}
 use Rattle.normalizer_prepared.specs.Reading.{lists_at, supplement_at}
