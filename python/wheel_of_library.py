@@ -1,7 +1,7 @@
 """Builds the wheel of icu_normalizer: `pip install --no-build-isolation ./python`. It needs only a C compiler.
 
 The library is taken from an installed one, whose prefix is ICU_NORMALIZER_PREFIX, or from what `tools/install` installs
-of the crate that `rt lib` built."""
+of the crate that `rt lib --cpu x86-64` built."""
 import base64
 import hashlib
 import os
@@ -40,7 +40,7 @@ def prefix_of_library(room):
     environment = {**os.environ, "DESTDIR": f"{room}/installed"}
     ran = subprocess.run([HERE.parent / "tools/install", "/usr"], env=environment)
     if ran.returncode:
-        sys.exit("icu_normalizer: set ICU_NORMALIZER_PREFIX, or run `rt lib` in crates/icu_normalizer_c first")
+        sys.exit("icu_normalizer: set ICU_NORMALIZER_PREFIX, or run `rt lib --cpu x86-64` in crates/icu_normalizer_c")
     return pathlib.Path(room) / "installed/usr"
 
 

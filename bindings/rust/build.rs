@@ -34,6 +34,6 @@ fn installed() -> PathBuf {
         .status();
     match status {
         Ok(status) if status.success() => room.join("usr"),
-        _ => panic!("set ICU_NORMALIZER_PREFIX, or build the library first: `rt lib` in crates/icu_normalizer_c"),
+        _ => panic!("set ICU_NORMALIZER_PREFIX, or run `rt lib --cpu x86-64` in crates/icu_normalizer_c first"),
     }
 }
