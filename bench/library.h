@@ -43,7 +43,7 @@ struct output {
 /* Makes the call so many times; 0 takes as long as what comes before the first. Returns whether the library has it. */
 typedef int repeat(unsigned form, unsigned call, const struct text *text, size_t times, struct output *output);
 
-repeat rattle_repeat, port_repeat, icu4c_repeat, original_repeat;
+repeat rattle_repeat, direct_repeat, port_repeat, icu4c_repeat, original_repeat;
 
 #ifdef __cplusplus
 }

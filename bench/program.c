@@ -1,12 +1,14 @@
 /* Times calls of libraries, by the processor time of this thread:
 
    program calls DATA ROUNDS FILE [LIBRARY]        each call of each library, but the named one, on the text of FILE
+   program through-c DATA ROUNDS FILE              each call of the C library, and the same in Rattle, on the text
    program row DATA TIMES FILE FORM CALL LIBRARY   one call of a library, so many times, for a profiler
    program start DATA ROUNDS                       building data, and making normalizers over them
    program child COMMAND..                         a program from its start to its end; by the same input and output
 
-   DATA is the folder of UnicodeData.txt and CompositionExclusions.txt. `calls` writes a line for each cell: form, call,
-   library, nanoseconds of a call, and the length and the checksum of what was written, with a tab between each two. */
+   DATA is the folder of UnicodeData.txt, CompositionExclusions.txt and the data prepared of them. `calls` and
+   `through-c` write a line for each cell: form, call, library, nanoseconds of a call, and the length and the checksum of
+   what was written, with a tab between each two. */
 #define _POSIX_C_SOURCE 200809L
 #define _DEFAULT_SOURCE
 
@@ -45,6 +47,7 @@ static const struct library {
 #ifdef WITH_ORIGINAL
     {"Rust", original_repeat},
 #endif
+    {"in Rattle", direct_repeat},
 };
 #define COUNT_OF_LIBRARIES (sizeof LIBRARIES / sizeof *LIBRARIES)
 
@@ -53,7 +56,7 @@ struct file {
     size_t length;
 };
 
-static struct file unicode_data, exclusions;
+static struct file unicode_data, exclusions, prepared;
 static icu_normalizer normalizer = ICU_NORMALIZER_CLOSED;
 
 static void stop(const char *why, const char *of) {
@@ -89,6 +92,7 @@ static struct file file_of(const char *folder, const char *name) {
 static void open_data(const char *folder) {
     unicode_data = file_of(folder, "/UnicodeData.txt");
     exclusions = file_of(folder, "/CompositionExclusions.txt");
+    prepared = file_of(folder, "/prepared");
     if (icu_normalizer_open_unicode_data(&normalizer, unicode_data.at, unicode_data.length, exclusions.at,
                                          exclusions.length))
         stop("its data can't be read", folder);
@@ -151,6 +155,20 @@ int rattle_repeat(unsigned form, unsigned call, const struct text *text, size_t 
     }
 }
 
+/* The calls of the C library as a caller in Rattle makes them. */
+int direct_repeat(unsigned form, unsigned call, const struct text *text, size_t times, struct output *output) {
+    switch (call) {
+        case NORMALIZE_UTF8_TO: return repeated(form, BENCHMARK_WRITE_UTF8, text, times, output);
+        case IS_NORMALIZED_UTF8: return repeated(form, BENCHMARK_CHECK_UTF8, text, times, output);
+        case IS_NORMALIZED_UTF16: return repeated(form, BENCHMARK_CHECK_UTF16, text, times, output);
+        case NORMALIZE_UTF16_TO:
+            repeated(form, BENCHMARK_WRITE_UTF16, text, times, output);
+            output->length /= 2;
+            return 1;
+        default: return 0;
+    }
+}
+
 int port_repeat(unsigned form, unsigned call, const struct text *text, size_t times, struct output *output) {
     switch (call) {
         case IS_NORMALIZED: return repeated(form, BENCHMARK_PORT_CHECK, text, times, output);
@@ -164,6 +182,12 @@ int port_repeat(unsigned form, unsigned call, const struct text *text, size_t ti
 
 static int is_check(unsigned call) {
     return call == IS_NORMALIZED || call == IS_NORMALIZED_UTF8 || call == IS_NORMALIZED_UTF16;
+}
+
+/* Whether the C library has the call. */
+static bool is_exported(unsigned call) {
+    return call == NORMALIZE_UTF8_TO || call == NORMALIZE_UTF16_TO || call == IS_NORMALIZED_UTF8 ||
+           call == IS_NORMALIZED_UTF16;
 }
 
 /* A call of a library on a text. */
@@ -257,8 +281,20 @@ static void say_written(const struct cell *cell) {
     free(output.at);
 }
 
+/* Which libraries are timed. */
+struct choice {
+    bool through_c;      /* the exports of the C library and the same calls in Rattle, else all but the latter */
+    const char *without; /* the name of a library that is left out */
+};
+
+static bool is_chosen(struct choice choice, const struct cell *cell) {
+    repeat *repeat = cell->library->repeat;
+    if (choice.through_c) return is_exported(cell->call) && (repeat == rattle_repeat || repeat == direct_repeat);
+    return repeat != direct_repeat && strcmp(cell->library->name, choice.without) && spent(cell, 0) != NO_CALL;
+}
+
 /* Libraries take turns: a round has a sample of each cell. Checks are timed on the text in the form. */
-static void time_calls(struct text text, size_t rounds, const char *without) {
+static void time_calls(struct text text, size_t rounds, struct choice choice) {
     static struct cell cells[FORMS * CALLS * COUNT_OF_LIBRARIES];
     struct text forms[FORMS];
     size_t count = 0;
@@ -268,7 +304,7 @@ static void time_calls(struct text text, size_t rounds, const char *without) {
             for (size_t i = 0; i < COUNT_OF_LIBRARIES; i++) {
                 struct cell cell = {.form = form, .call = call, .library = &LIBRARIES[i]};
                 cell.text = is_check(call) ? &forms[form] : &text;
-                if (strcmp(LIBRARIES[i].name, without) && spent(&cell, 0) != NO_CALL) cells[count++] = cell;
+                if (is_chosen(choice, &cell)) cells[count++] = cell;
             }
     }
     for (size_t i = 0; i < count; i++) begin(&cells[i]);
@@ -326,6 +362,19 @@ static uint64_t open_spent(unsigned form, uint64_t times) {
     return all;
 }
 
+static uint64_t open_prepared_spent(unsigned form, uint64_t times) {
+    (void)form;
+    icu_normalizer opened = ICU_NORMALIZER_CLOSED;
+    icu_normalizer_defect defect = {0};
+    uint64_t begin = now();
+    for (uint64_t i = 0; i < times; i++)
+        if (icu_normalizer_open_prepared(&opened, prepared.at, prepared.length, &defect))
+            stop("no handle was opened", "open_prepared");
+    uint64_t all = now() - begin;
+    icu_normalizer_close(&opened);
+    return all;
+}
+
 static void time_step(const char *name, uint64_t (*spent)(unsigned, uint64_t), unsigned form, uint64_t times,
                       size_t rounds) {
     uint64_t none = UINT64_MAX, all = UINT64_MAX;
@@ -341,6 +390,7 @@ static void time_start(size_t rounds) {
     time_step("Records::build", build_spent, 0, 4, rounds);
     for (unsigned form = 0; form < FORMS; form++) time_step(FORM_NAMES[form], constructors_spent, form, 50, rounds);
     time_step("open", open_spent, 0, 4, rounds);
+    time_step("open prepared", open_prepared_spent, 0, 16, rounds);
 }
 
 /* Writes the seconds and the kilobytes at the peak of a program to standard error. */
@@ -374,7 +424,11 @@ int main(int count, char **arguments) {
     } else if (!strcmp(arguments[1], "row") && count == 8) {
         time_row(text_of(file_of(arguments[4], "")), rounds, arguments + 5);
     } else if (!strcmp(arguments[1], "calls") && count > 4) {
-        time_calls(text_of(file_of(arguments[4], "")), rounds, count > 5 ? arguments[5] : "");
+        struct choice choice = {false, count > 5 ? arguments[5] : ""};
+        time_calls(text_of(file_of(arguments[4], "")), rounds, choice);
+    } else if (!strcmp(arguments[1], "through-c") && count == 5) {
+        struct choice choice = {true, ""};
+        time_calls(text_of(file_of(arguments[4], "")), rounds, choice);
     }
     icu_normalizer_close(&normalizer);
     return 0;

@@ -1,7 +1,7 @@
 """Builds the wheel of icu_normalizer: `pip install --no-build-isolation ./python`. It needs only a C compiler.
 
 The library is taken from an installed one, whose prefix is ICU_NORMALIZER_PREFIX, or from what `tools/install` installs
-of the crate that `rt lib` built."""
+of the crate that `rt lib --cpu x86-64` built."""
 import base64
 import hashlib
 import os
@@ -27,7 +27,7 @@ Requires-Python: >=3.10
 """
 WHEEL = f"Wheel-Version: 1.0\nGenerator: {NAME}\nRoot-Is-Purelib: false\nTag: {TAG}\n"
 MODULE = f"_native{sysconfig.get_config_var('EXT_SUFFIX')}"
-FILES = ("UnicodeData.txt", "CompositionExclusions.txt", "LICENSE-UNICODE")
+SOURCES = ("__init__.py", "__init__.pyi", "py.typed")
 
 
 def get_requires_for_build_wheel(config_settings=None):
@@ -40,8 +40,15 @@ def prefix_of_library(room):
     environment = {**os.environ, "DESTDIR": f"{room}/installed"}
     ran = subprocess.run([HERE.parent / "tools/install", "/usr"], env=environment)
     if ran.returncode:
-        sys.exit("icu_normalizer: set ICU_NORMALIZER_PREFIX, or build the library first: `rt lib` in crates/icu_normalizer_c")
+        sys.exit("icu_normalizer: set ICU_NORMALIZER_PREFIX, or run `rt lib --cpu x86-64` in crates/icu_normalizer_c")
     return pathlib.Path(room) / "installed/usr"
+
+
+def data_of(prefix):
+    """The data by their names: prepared ones, or Unicode's files if the prefix has none."""
+    folder = prefix / "share/uninorm"
+    names = ["prepared"] if (folder / "prepared").exists() else ["UnicodeData.txt", "CompositionExclusions.txt"]
+    return {name: (folder / name).read_bytes() for name in [*names, "LICENSE-UNICODE"]}
 
 
 def compiled(prefix, room):
@@ -49,24 +56,28 @@ def compiled(prefix, room):
     compiler = shlex.split(os.environ.get("CC") or "cc")
     headers = [f"-I{prefix}/include", f"-I{sysconfig.get_paths()['include']}"]
     library = next(iter(prefix.glob("lib*/**/libicu_normalizer.a")))
-    words = ["-O2", "-shared", "-fPIC", "-fvisibility=hidden", "-Wall", "-Wextra", *headers]
+    # The names of the library stay in the module, so that its calls of them are direct.
+    words = ["-O3", "-shared", "-fPIC", "-fvisibility=hidden", "-Wl,--exclude-libs,ALL", "-Wall", "-Wextra", *headers]
     subprocess.run([*compiler, *words, "-o", module, HERE / NAME / "_native.c", library], check=True)
     return module
+
+
+def digest_of(data):
+    return base64.urlsafe_b64encode(hashlib.sha256(data).digest()).rstrip(b"=").decode()
 
 
 def build_wheel(wheel_directory, config_settings=None, metadata_directory=None):
     with tempfile.TemporaryDirectory() as room:
         prefix = prefix_of_library(room)
-        content = {f"{NAME}/{it}": (HERE / NAME / it).read_bytes() for it in ("__init__.py", "__init__.pyi", "py.typed")}
-        content |= {f"{NAME}/data/{it}": (prefix / "share/uninorm" / it).read_bytes() for it in FILES}
+        content = {f"{NAME}/{it}": (HERE / NAME / it).read_bytes() for it in SOURCES}
+        content |= {f"{NAME}/data/{name}": data for name, data in data_of(prefix).items()}
         content[f"{NAME}/{MODULE}"] = pathlib.Path(compiled(prefix, room)).read_bytes()
     content |= {f"{INFO}/METADATA": METADATA.encode(), f"{INFO}/WHEEL": WHEEL.encode()}
     name = f"{NAME}-{VERSION}-{TAG}.whl"
     with zipfile.ZipFile(f"{wheel_directory}/{name}", "w", zipfile.ZIP_DEFLATED) as file:
         for place, data in content.items():
             file.writestr(place, data)
-        sums = {it: base64.urlsafe_b64encode(hashlib.sha256(data).digest()).rstrip(b"=") for it, data in content.items()}
-        lines = [f"{it},sha256={sums[it].decode()},{len(content[it])}" for it in content]
+        lines = [f"{place},sha256={digest_of(data)},{len(data)}" for place, data in content.items()]
         file.writestr(f"{INFO}/RECORD", "\n".join([*lines, f"{INFO}/RECORD,,", ""]))
     return name
 

@@ -1,5 +1,5 @@
 //! Finds the library and the data: in the prefix ICU_NORMALIZER_PREFIX, or as `tools/install` installs what `rt lib`
-//! built.
+//! built. The data are the prepared ones, or Unicode's files if the prefix has none.
 use std::env;
 use std::path::{Path, PathBuf};
 use std::process::Command;
@@ -14,10 +14,12 @@ fn main() {
         println!("cargo:rustc-link-search=native={}", prefix.join(library).display());
     }
     println!("cargo:rustc-link-lib=static=icu_normalizer");
-    println!(
-        "cargo:rustc-env=ICU_NORMALIZER_DATA={}",
-        prefix.join("share/uninorm").display()
-    );
+    let data = prefix.join("share/uninorm");
+    println!("cargo:rustc-env=ICU_NORMALIZER_DATA={}", data.display());
+    println!("cargo:rustc-check-cfg=cfg(has_prepared_data)");
+    if data.join("prepared").exists() {
+        println!("cargo:rustc-cfg=has_prepared_data");
+    }
 }
 
 fn installed() -> PathBuf {
@@ -32,6 +34,6 @@ fn installed() -> PathBuf {
         .status();
     match status {
         Ok(status) if status.success() => room.join("usr"),
-        _ => panic!("set ICU_NORMALIZER_PREFIX, or build the library first: `rt lib` in crates/icu_normalizer_c"),
+        _ => panic!("set ICU_NORMALIZER_PREFIX, or run `rt lib --cpu x86-64` in crates/icu_normalizer_c first"),
     }
 }

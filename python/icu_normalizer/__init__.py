@@ -13,27 +13,35 @@ Mismatch(offset=1, found='a', expected='\\xe4')
 Text is a `str`, or bytes in UTF-8. Each unpaired surrogate of a `str`, and each maximal ill-formed subpart of bytes,
 reads as U+FFFD. Offsets are in characters of a `str`, or in bytes.
 
-The functions use the data of the package. `Normalizer` uses those of other files, with which it can `map`.
+The functions use the data of the package, which the first call opens. `Normalizer` uses those of other files, with
+which it can `map`.
 """
-import pathlib
-from typing import NamedTuple
+import os
+from collections import namedtuple
 
 from ._native import Normalizer as _Native
 from ._native import version
 
 __all__ = ["Mismatch", "Normalizer", "first_mismatch", "is_normalized", "normalize", "split", "version"]
-_DATA = pathlib.Path(__file__).resolve().parent / "data"
+_DATA = os.path.join(os.path.dirname(__file__), "data")
+_PREPARED = os.path.join(_DATA, "prepared")
+
+Mismatch = namedtuple("Mismatch", ["offset", "found", "expected"])
+Mismatch.__doc__ = """The first place where a text differs from its form.
+
+At an ill-formed sequence of bytes, U+FFFD is found.
+"""
 
 
-class Mismatch(NamedTuple):
-    """The first place where a text differs from its form.
+def _read(*place):
+    with open(os.path.join(*place), "rb") as file:
+        return file.read()
 
-    At an ill-formed sequence of bytes, U+FFFD is found.
-    """
 
-    offset: int
-    found: str
-    expected: str
+def _read_files(directory, disallowed_limit):
+    has_table = os.path.exists(os.path.join(directory, "IdnaMappingTable.txt"))
+    table = _read(directory, "IdnaMappingTable.txt") if has_table else b""
+    return _read(directory, "UnicodeData.txt"), _read(directory, "CompositionExclusions.txt"), table, disallowed_limit
 
 
 class Normalizer(_Native):
@@ -50,14 +58,12 @@ class Normalizer(_Native):
     __slots__ = ()
 
     def __new__(cls, directory=None, disallowed_limit=0x110000, *, prepared=None):
-        folder = _DATA if directory is None else pathlib.Path(directory)
-        if prepared is not None:
-            return super().__new__(cls, pathlib.Path(prepared).read_bytes, Mismatch)
-
         def read():
-            table = folder / "IdnaMappingTable.txt"
-            needed = (folder / "UnicodeData.txt").read_bytes(), (folder / "CompositionExclusions.txt").read_bytes()
-            return *needed, table.read_bytes() if table.exists() else b"", disallowed_limit
+            if prepared is not None:
+                return _read(prepared)
+            if directory is None and os.path.exists(_PREPARED):
+                return _read(_PREPARED)
+            return _read_files(_DATA if directory is None else directory, disallowed_limit)
 
         return super().__new__(cls, read, Mismatch)
 

@@ -138,6 +138,9 @@ static bool text_of(PyObject *object, Text *text) {
         PyErr_SetString(PyExc_TypeError, "a text is a str or bytes");
         return false;
     }
+#if PY_VERSION_HEX < 0x030C0000
+    if (PyUnicode_READY(object)) return false;
+#endif
     size_t length = (size_t)PyUnicode_GET_LENGTH(object);
     text->units = PyUnicode_DATA(object);
     text->length = length;
@@ -151,24 +154,36 @@ static bool text_of(PyObject *object, Text *text) {
     return true;
 }
 
-static void release_text(Text *text) {
-    PyMem_RawFree(text->made);
+static inline void release_text(Text *text) {
+    if (text->made) PyMem_RawFree(text->made);
 }
 
 static size_t size_of(const Text *text) {
     return text->is_wide ? sizeof(uint16_t) : 1;
 }
 
-static PyObject *object_of(const Text *text, const void *units, size_t length) {
-    if (PyBytes_Check(text->object)) return PyBytes_FromStringAndSize(units, (Py_ssize_t)length);
-    if (!text->is_wide) return PyUnicode_DecodeUTF8(units, (Py_ssize_t)length, NULL);
-    const uint16_t *wide = units;
-    unsigned surrogates = 0;
-    for (size_t place = 0; place < length; place++) surrogates |= (wide[place] & 0xF800) == 0xD800;
-    if (!surrogates) return PyUnicode_FromKindAndData(PyUnicode_2BYTE_KIND, units, (Py_ssize_t)length);
+/* The str of 16-bit units. */
+static PyObject *str_of(const uint16_t *units, size_t length) {
+    unsigned bits = 0, surrogates = 0;
+    for (size_t place = 0; place < length; place++) {
+        bits |= units[place];
+        surrogates |= (units[place] & 0xF800) == 0xD800;
+    }
+    if (!surrogates && bits < 0x100)
+        return PyUnicode_FromKindAndData(PyUnicode_2BYTE_KIND, units, (Py_ssize_t)length);
+    if (!surrogates) {
+        PyObject *made = PyUnicode_New((Py_ssize_t)length, 0xFFFF);
+        if (made) memcpy(PyUnicode_2BYTE_DATA(made), units, length * sizeof(uint16_t));
+        return made;
+    }
     const uint16_t one = 1;
     int order = *(const uint8_t *)&one ? -1 : 1;
-    return PyUnicode_DecodeUTF16(units, (Py_ssize_t)(length * sizeof(uint16_t)), NULL, &order);
+    return PyUnicode_DecodeUTF16((const char *)units, (Py_ssize_t)(length * sizeof(uint16_t)), NULL, &order);
+}
+
+static PyObject *object_of(const Text *text, const void *units, size_t length) {
+    if (PyBytes_Check(text->object)) return PyBytes_FromStringAndSize(units, (Py_ssize_t)length);
+    return text->is_wide ? str_of(units, length) : PyUnicode_DecodeUTF8(units, (Py_ssize_t)length, NULL);
 }
 
 /* The text itself, but for a subclass of str or bytes a copy. */
@@ -278,13 +293,24 @@ static bool is_passed(const char *name, Normalizer *self, PyObject *const *passe
     return form_of(passed[0], form) && is_open(self) && text_of(passed[1], text);
 }
 
+/* Whether an object is an ASCII str in the form. Most are, and the answer takes less time than the form. */
+static inline bool is_ascii_in_form(Normalizer *self, icu_normalizer_form form, PyObject *object) {
+    bool is = false;
+    if (PyUnicode_CheckExact(object) && PyUnicode_IS_COMPACT_ASCII(object) && PyUnicode_GET_LENGTH(object) < LONG)
+        icu_normalizer_is_normalized_utf8(&self->handle, form, PyUnicode_1BYTE_DATA(object),
+            (size_t)PyUnicode_GET_LENGTH(object), &is);
+    return is;
+}
+
 static PyObject *normalize(PyObject *self, PyObject *const *passed, Py_ssize_t count) {
     icu_normalizer_form form;
     if (count != 2) {
         PyErr_SetString(PyExc_TypeError, "normalize() takes a form and a text");
         return NULL;
     }
-    return form_of(passed[0], &form) ? written(self, NORMALIZE, form, passed[1]) : NULL;
+    if (!form_of(passed[0], &form)) return NULL;
+    if (is_ascii_in_form((Normalizer *)self, form, passed[1])) return Py_NewRef(passed[1]);
+    return written(self, NORMALIZE, form, passed[1]);
 }
 
 static PyObject *map(PyObject *self, PyObject *text) {

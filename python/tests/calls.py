@@ -69,7 +69,21 @@ def errors():
     class Text(str):
         pass
 
-    assert type(icu_normalizer.normalize("NFC", Text("a"))) is str
+    for text in ("a", "\xE4"):
+        assert type(icu_normalizer.normalize("NFC", Text(text))) is str
+
+
+def other_data():
+    """Data in which an ASCII character has another form."""
+    contents = {"UnicodeData.txt": "0041;;;0;;0042;;;;;;;;;\n# EOF\n", "CompositionExclusions.txt": "# EOF\n"}
+    with tempfile.TemporaryDirectory() as folder:
+        for name, content in contents.items():
+            with open(f"{folder}/{name}", "w") as file:
+                file.write(content)
+        small = icu_normalizer.Normalizer(pathlib.Path(folder))
+        for form in FORMS:
+            assert small.normalize(form, "xA") == "xB" and small.normalize(form, 70000 * "A") == 70000 * "B"
+            assert not small.is_normalized(form, "A") and icu_normalizer.normalize(form, "xA") == "xA"
 
 
 def mapping():
@@ -107,6 +121,7 @@ def threads():
 
 forms()
 errors()
+other_data()
 mapping()
 threads()
 failures, tried = doctest.testmod(icu_normalizer)

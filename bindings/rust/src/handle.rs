@@ -5,8 +5,12 @@ use std::cell::RefCell;
 use std::fmt;
 use std::sync::{Mutex, OnceLock, PoisonError};
 
-const UNICODE_DATA: &[u8] = include_bytes!(concat!(env!("ICU_NORMALIZER_DATA"), "/UnicodeData.txt"));
-const EXCLUSIONS: &[u8] = include_bytes!(concat!(env!("ICU_NORMALIZER_DATA"), "/CompositionExclusions.txt"));
+/// The bytes of a file of the data of this crate.
+macro_rules! own_file {
+    ($name:literal) => {
+        include_bytes!(concat!(env!("ICU_NORMALIZER_DATA"), "/", $name))
+    };
+}
 
 /// The first place where a text differs from its form.
 #[derive(Clone, Copy, Debug, PartialEq, Eq)]
@@ -289,16 +293,25 @@ impl Clone for SharedHandle {
     }
 }
 
+/// Opens a handle over the data of this crate.
+fn open_own() -> Result<SharedHandle, Error> {
+    #[cfg(has_prepared_data)]
+    return SharedHandle::open_prepared(own_file!("prepared"));
+    #[cfg(not(has_prepared_data))]
+    SharedHandle::open(
+        own_file!("UnicodeData.txt"),
+        own_file!("CompositionExclusions.txt"),
+        &[],
+        0,
+    )
+}
+
 /// Calls with this thread's handle over the data of this crate.
 pub(crate) fn with_own<R>(call: impl FnOnce(&mut OpenHandle) -> R) -> R {
     static FIRST: OnceLock<SharedHandle> = OnceLock::new();
     thread_local! {
         static OWN: RefCell<Option<OpenHandle>> = const { RefCell::new(None) };
     }
-    let first = || {
-        FIRST.get_or_init(|| {
-            SharedHandle::open(UNICODE_DATA, EXCLUSIONS, &[], 0).expect("the data of this crate are right")
-        })
-    };
+    let first = || FIRST.get_or_init(|| open_own().expect("the data of this crate are right"));
     OWN.with(|own| call(own.borrow_mut().get_or_insert_with(|| first().with(OpenHandle::shared))))
 }

@@ -15,8 +15,8 @@
 //!
 //! The normalizers of the library are proved; this crate, which calls them through C, is tested. All types are `Send`
 //! and `Sync`. A normalizer over the data of this crate uses a handle of the thread that calls it. One over other data
-//! locks its handle for a call: give each thread a clone, which shares the data and takes less than a microsecond. If an
-//! allocation is refused, the calls end the process, as those of `String` do.
+//! locks its handle for a call: give each thread a clone, which shares the data and takes less than a microsecond. If
+//! an allocation is refused, the calls end the process, as those of `String` do.
 mod ffi;
 mod handle;
 

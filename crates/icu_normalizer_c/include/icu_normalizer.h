@@ -1,7 +1,7 @@
 /* Unicode normalization (Unicode Standard Annex #15) for C and C++: NFD, NFC, NFKD and NFKC of UTF-8 and of UTF-16.
 
        icu_normalizer normalizer = ICU_NORMALIZER_CLOSED;
-       status = icu_normalizer_open_unicode_data(&normalizer, data, data_length, exclusions, exclusions_length);
+       status = icu_normalizer_open_prepared(&normalizer, data, data_length, &defect);
        status = icu_normalizer_normalize_utf8(&normalizer, ICU_NORMALIZER_NFC, input, length, output, room, &needed);
        icu_normalizer_close(&normalizer);
 
@@ -253,9 +253,9 @@ icu_normalizer_status icu_normalizer_open_unicode_data(icu_normalizer *normalize
     const uint8_t *exclusions, size_t exclusions_length);
 
 /* The same, with a mapper by the bytes of IdnaMappingTable.txt, if that maps, ignores or disallows a character. With
-   `idna_table_length` 0 there is no table, and no mapper. Its disallowed ranges of more than `disallowed_limit` code points are left out, and a mapper leaves their characters as
-   they are; most of them are unassigned. With 0x110000 none is left out. On WRONG_LINE and WRONG_RECORDS `*defect` says
-   where the data are wrong; else it is unchanged. */
+   `idna_table_length` 0 there is no table, and no mapper. Its disallowed ranges of more than `disallowed_limit` code
+   points are left out, and a mapper leaves their characters as they are; most of them are unassigned. With 0x110000
+   none is left out. On WRONG_LINE and WRONG_RECORDS `*defect` says where the data are wrong; else it is unchanged. */
 icu_normalizer_status icu_normalizer_open_files(icu_normalizer *normalizer,
     const uint8_t *unicode_data, size_t unicode_data_length, const uint8_t *exclusions, size_t exclusions_length,
     const uint8_t *idna_table, size_t idna_table_length, uint32_t disallowed_limit, icu_normalizer_defect *defect);

@@ -1,5 +1,6 @@
 -- From what a sink over a buffer took to what the buffer has.
-use Rattle.std.proofs.Common.{◌≡◌, ℕ, ◌<◌, ◌≤◌, List, [], ◌++◌, length, take, drop, Result, Ok, Err, refl, sym, ap, ◌∙◌, arith, inl, inr}
+use Rattle.std.proofs.Common.{◌≡◌, ℕ, ◌<◌, ◌≤◌, List, [], ◌++◌, length, take, drop, Result, Ok, Err, refl, sym, ap, ◌∙◌}
+use Rattle.std.proofs.Common.{arith, inl, inr}
 use Rattle.std.specs.Prelude.{⊤}
 use mathlib.Core.Bool.{false≢true}
 use Rattle.std.proofs.lemmas.List.{take-append-le}
@@ -33,7 +34,8 @@ module _ (m : MadeForm) (e : Encoding) (input before after : List ℕ) where
         → WritesFormTo e taken_by (λ s t. ⊥) (TakesNothing taken_by) m (decoded_in e input) old (Ok done) new
         → n ≡ count_of new → Overwrites m e input before after (Ok n)
     overwrites-ok done n w is = record {
-      form = ends (taken-reference old new before form w.written had room) ∙ taken-overwrites old new before form w.written had room;
+      form = ends (taken-reference old new before form w.written had room)
+          ∙ taken-overwrites old new before form w.written had room;
       count = is ∙ taken-count old new before form w.written had room;
       begun = tt;
       room = λ short. refl;
@@ -68,11 +70,13 @@ module _ (m : MadeForm) (e : Encoding) (input before after : List ℕ) where
     abbrev WritesAs : Result ⊤ Fault → Type 0
     WritesAs outcome = WritesForm e input before after count_before count m outcome
 
-    writes-whole : (n : ℕ) (done : ⊤) → n ≡ length form → n ≤ length before → count ≡ n → after ≡ overwritten before form → WritesAs (Ok done)
+    writes-whole : (n : ℕ) (done : ⊤) → n ≡ length form → n ≤ length before → count ≡ n
+        → after ≡ overwritten before form → WritesAs (Ok done)
     writes-whole n done n_is fits counted is =
         let all : List ℕ = form ++ drop (length form) before in
         let len : length all ≡ length before =
-        (let a = length-append form (drop (length form) before) in let d = length-drop (length form) before in omega (arith, a, d, n_is, fits)) in
+        (let a = length-append form (drop (length form) before) in
+        let d = length-drop (length form) before in omega (arith, a, d, n_is, fits)) in
         let whole : overwritten before form ≡ all = ap (λ k. take k all) (sym len) ∙ take-length all in
         record {
           fills = record {
@@ -87,7 +91,8 @@ module _ (m : MadeForm) (e : Encoding) (input before after : List ℕ) where
           room = λ suffices wrong. cc;
         }
 
-    writes-beginning : (n : ℕ) → n ≡ length form → length before < n → count ≡ n → after ≡ overwritten before form → WritesAs (Err fault.BufferTooSmall)
+    writes-beginning : (n : ℕ) → n ≡ length form → length before < n → count ≡ n → after ≡ overwritten before form
+        → WritesAs (Err fault.BufferTooSmall)
     writes-beginning n n_is short counted is =
         let whole : overwritten before form ≡ take (length before) form =
         take-append-le (length before) form (drop (length form) before) (omega (arith, n_is, short)) in
@@ -105,7 +110,8 @@ module _ (m : MadeForm) (e : Encoding) (input before after : List ℕ) where
         }
 
     -- memory was refused, or the form has more units than can be counted
-    writes-no_more : HasBeginning form before after → (NeedsNoMemory e input m → ⊥) → count ≡ count_before → WritesAs (Err fault.Memory)
+    writes-no_more : HasBeginning form before after → (NeedsNoMemory e input m → ⊥) → count ≡ count_before
+        → WritesAs (Err fault.Memory)
     writes-no_more begun needs counted = record {
       fills = record {
         room = tt;
@@ -130,12 +136,14 @@ module _ (m : MadeForm) (e : Encoding) (input before after : List ℕ) where
           let n_is : n ≡ length form = (let c = w.count in let l = s.1.0 in omega (arith, c, l)) in
           rw s.0 (writes-beginning n n_is s.1.1.0 s.1.1.1 w.form)
       | inr s ↦
-          let none : NeedsNoMemory e input m → ⊥ = (λ needs. let c = w.count in let l = s.1.0 in let f = needs.1 in absurd (omega (arith, c, l, f))) in
+          let none : NeedsNoMemory e input m → ⊥ =
+          (λ needs. let c = w.count in let l = s.1.0 in let f = needs.1 in absurd (omega (arith, c, l, f))) in
           rw s.0 (writes-no_more (form, [], sym (append-nil form), w.form) none s.1.1)
     ]
 
     -- an allocation was refused
-    pub WritesForm-memory : (wrong : NormalizeError) → Overwrites m e input before after (Err wrong) → count ≡ count_before
+    pub WritesForm-memory : (wrong : NormalizeError) → Overwrites m e input before after (Err wrong)
+        → count ≡ count_before
         → WritesAs (Err fault.Memory)
     WritesForm-memory wrong w counted =
         writes-no_more w.begun (λ needs. absurd (false≢true (w.room needs.0))) counted

@@ -1,5 +1,6 @@
 -- What the calls of C do.
-use Rattle.std.specs.Prelude.{◌≡◌, ◌⊎◌, ◌↔◌, ℕ, ◌<◌, ◌-◌, ◌^◌, Bool, List, length, ⊤, Result, Ok, Err, Option, Some, None, IsTrue}
+use Rattle.std.specs.Prelude.{◌≡◌, ◌⊎◌, ◌↔◌, ℕ, ◌<◌, ◌-◌, ◌^◌, Bool, List, length, ⊤, Result, Ok, Err, Option, Some}
+use Rattle.std.specs.Prelude.{None, IsTrue}
 use Rattle.std.specs.Prelude.{min, IsOk, IsOkUnless, IfOk, OnOk, OnErr}
 use Rattle.icu_normalizer.specs.ShortRuns.{HasShortRuns}
 use Rattle.icu_normalizer.specs.IgnoredCharacters.{IgnoredCharacters}

@@ -14,6 +14,10 @@ pub(crate) enum Call {
     Check,
     Own,
     Iterate,
+    WriteUtf8,
+    WriteUtf16,
+    CheckUtf8,
+    CheckUtf16,
     /// By the toolchain's port of the Rust crate `unicode-normalization`.
     PortWrite,
     PortCheck,
@@ -27,11 +31,29 @@ pub(crate) fn call_numbered(number: u32) -> Result<Call, Fault> {
         1 => Ok(Call::Check),
         2 => Ok(Call::Own),
         3 => Ok(Call::Iterate),
-        4 => Ok(Call::PortWrite),
-        5 => Ok(Call::PortCheck),
-        6 => Ok(Call::PortIterate),
+        4 => Ok(Call::WriteUtf8),
+        5 => Ok(Call::WriteUtf16),
+        6 => Ok(Call::CheckUtf8),
+        7 => Ok(Call::CheckUtf16),
+        8 => Ok(Call::PortWrite),
+        9 => Ok(Call::PortCheck),
+        10 => Ok(Call::PortIterate),
         _ => Err(Fault::Unreadable),
     }
+}
+
+/// A text in UTF-8 and in UTF-16.
+#[derive(Clone, Copy)]
+pub(crate) struct Text<'a> {
+    pub(crate) utf8: &'a str,
+    pub(crate) utf16: &'a [u16],
+}
+
+/// What a call wrote, in UTF-8 or in UTF-16.
+#[derive(Drop)]
+pub(crate) struct Written {
+    pub(crate) utf8: String,
+    pub(crate) utf16: Vec<u16>,
 }
 
 impl Call {
@@ -41,17 +63,22 @@ impl Call {
         alloc: Global,
         normalizer: &AnyNormalizerBorrowed<'_>,
         form: NormalForm,
-        text: &str,
-        written: &mut String,
+        text: &Text<'_>,
+        written: &mut Written,
     ) -> Result<(), Fault> {
+        let to = &mut written.utf8;
         match self {
-            Call::Write => Ok(normalizer.normalize_to(text, written)?),
-            Call::Check => tell(normalizer.is_normalized(text)?, written),
-            Call::Own => own(normalizer, text, written),
-            Call::Iterate => iterate(normalizer, text, written),
-            Call::PortWrite => write_by_port(alloc, form, text, written),
-            Call::PortCheck => tell(checked_by_port(alloc, form, text)?, written),
-            Call::PortIterate => iterate_by_port(alloc, form, text, written),
+            Call::Write => Ok(normalizer.normalize_to(text.utf8, to)?),
+            Call::Check => tell(normalizer.is_normalized(text.utf8)?, to),
+            Call::Own => own(normalizer, text.utf8, to),
+            Call::Iterate => iterate(normalizer, text.utf8, to),
+            Call::WriteUtf8 => Ok(normalizer.normalize_utf8_to(text.utf8.as_bytes(), to)?),
+            Call::WriteUtf16 => Ok(normalizer.normalize_utf16_to(text.utf16, &mut written.utf16)?),
+            Call::CheckUtf8 => tell(normalizer.is_normalized_utf8(text.utf8.as_bytes())?, to),
+            Call::CheckUtf16 => tell(normalizer.is_normalized_utf16(text.utf16)?, to),
+            Call::PortWrite => write_by_port(alloc, form, text.utf8, to),
+            Call::PortCheck => tell(checked_by_port(alloc, form, text.utf8)?, to),
+            Call::PortIterate => iterate_by_port(alloc, form, text.utf8, to),
         }
     }
 }

@@ -1,15 +1,15 @@
 //! Repeating calls over a text.
-use crate::call::call_numbered;
+use crate::call::{Text, Written, call_numbered};
 use crate::fault::{Fault, status};
 use crate::form::form_numbered;
 use crate::starting::built_of_files;
 use icu_normalizer::FormData;
-use std::alloc::Global;
+use std::alloc::{AllocError, Global};
 use std::str;
 
 /// Makes a normalizer over the data of the two files, and repeats the call over the text. `needed` is then how many
-/// bytes the last call wrote, and `output` begins with as many of them as it has room for. A check writes one byte if
-/// the text is normalized.
+/// bytes the last call wrote, and `output` begins with as many of them as it has room for, those of 16-bit units in the
+/// order of the machine. A check writes one byte if the text is normalized.
 #[unsafe(no_mangle)]
 pub extern "C" fn normalizer_benchmark_repeat(
     alloc: Global,
@@ -28,13 +28,16 @@ pub extern "C" fn normalizer_benchmark_repeat(
         text,
         times,
     };
-    let mut written = String::new(alloc);
-    let outcome = repeat(alloc, unicode_data, exclusions, &task, &mut written);
-    *needed = written.len();
-    for (place, byte) in output.iter_mut().zip(written.as_bytes()) {
-        *place = *byte;
+    match repeat(alloc, unicode_data, exclusions, &task) {
+        Ok(written) => {
+            *needed = written.len();
+            for (place, byte) in output.iter_mut().zip(&written[..]) {
+                *place = *byte;
+            }
+            status(Ok(()))
+        }
+        Err(fault) => status(Err(fault)),
     }
-    status(outcome)
 }
 
 /// The numbers of a form and of a call, the text, and how often the call is made.
@@ -46,21 +49,48 @@ struct Task<'a> {
     times: u64,
 }
 
+/// The bytes that the last call wrote.
 fn repeat(
     alloc: Global,
     unicode_data: &[u8],
     exclusions: &[u8],
     task: &Task<'_>,
-    written: &mut String,
-) -> Result<(), Fault> {
+) -> Result<Vec<u8>, Fault> {
     let form = form_numbered(task.form)?;
     let call = call_numbered(task.call)?;
-    let text = str::from_utf8(task.text).map_err(|_| Fault::Unreadable)?;
+    let utf8 = str::from_utf8(task.text).map_err(|_| Fault::Unreadable)?;
+    let utf16 = units_of(alloc, utf8)?;
+    let text = Text {
+        utf8,
+        utf16: &utf16,
+    };
+    let mut written = Written {
+        utf8: String::new(alloc),
+        utf16: Vec::new(alloc),
+    };
     let owned = built_of_files(alloc, unicode_data, exclusions)?.normalizer(form)?;
     let normalizer = owned.as_borrowed();
     for _ in 0..task.times {
-        written.clear();
-        call.make(alloc, &normalizer, form, text, written)?;
+        written.utf8.clear();
+        written.utf16.clear();
+        call.make(alloc, &normalizer, form, &text, &mut written)?;
     }
-    Ok(())
+    Ok(bytes_of(alloc, &written)?)
+}
+
+fn units_of(alloc: Global, text: &str) -> Result<Vec<u16>, AllocError> {
+    let mut units = Vec::new(alloc);
+    for unit in text.encode_utf16() {
+        units.push(unit)?;
+    }
+    Ok(units)
+}
+
+fn bytes_of(alloc: Global, written: &Written) -> Result<Vec<u8>, AllocError> {
+    let mut bytes = Vec::new(alloc);
+    bytes.extend_from_slice(written.utf8.as_bytes())?;
+    for unit in &written.utf16 {
+        bytes.extend_from_slice(&unit.to_ne_bytes())?;
+    }
+    Ok(bytes)
 }

@@ -1,5 +1,6 @@
 -- Overwriting in steps.
-use Rattle.std.proofs.Common.{◌≡◌, ℕ, ◌≤◌, ◌-◌, ◌+◌, List, [], ◌∷◌, ◌++◌, length, take, drop, min, suc, zero, refl, ap, arith}
+use Rattle.std.proofs.Common.{◌≡◌, ℕ, ◌≤◌, ◌-◌, ◌+◌, List, [], ◌∷◌, ◌++◌, length, take, drop, min, suc, zero, refl, ap}
+use Rattle.std.proofs.Common.{arith}
 use Rattle.std.proofs.Math.Seq.{take-length, take-nil, drop-nil}
 use Rattle.std.proofs.lemmas.List.{length-append, length-drop, length-take, take-append-le, drop-append-le}
 use Rattle.normalizer_buffers.specs.Overwriting.{overwritten}
@@ -34,7 +35,8 @@ module _ {X : Type 0} where
         let b = take (length u) h in let t = drop (length u) h in
         let b_len : length b ≤ greatest = (let e = length-take (length u) h in omega (arith, e, room)) in
         let t_len : count ≡ min (length t) greatest = (let e = length-drop (length u) h in rw e counts) in
-        let whole : take count (overwritten b t) ++ overwritten (drop count (overwritten b t)) us ≡ overwritten b (t ++ us) =
+        let whole : take count (overwritten b t) ++ overwritten (drop count (overwritten b t)) us
+        ≡ overwritten b (t ++ us) =
         overwritten-append b t us count greatest b_len t_len in
         let front : take (length u) (h ++ us) ≡ b = take-append-le (length u) h us had in
         let back : drop (length u) (h ++ us) ≡ t ++ us = drop-append-le (length u) h us had in

@@ -12,7 +12,12 @@ use Rattle.normalizer_handles.specs.contracts.box_parts.Parts as Parts
 use Rattle.normalizer_handles.specs.contracts.slot.Slot as Slots
 
 abbrev pub E : Bx
-E = record { row = Owner.the_row; laws = owner.the_row_laws; al = record { row = Heap.the_row; laws = heap.the_row_laws; g = ghosts; d = dict; drops = impl [] tnil dnil } }
+E =
+    record {
+      row = Owner.the_row;
+      laws = owner.the_row_laws;
+      al = record { row = Heap.the_row; laws = heap.the_row_laws; g = ghosts; d = dict; drops = impl [] tnil dnil };
+    }
 
 abbrev pub FromParts : Slot 0
 FromParts = plain (λ _. Parts.the_row Owner.the_row Heap.the_row ghosts)

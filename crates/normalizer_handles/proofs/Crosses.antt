@@ -18,6 +18,7 @@ use Rattle.normalizer_handles.proofs.owner.Owner.TheSendSync as owner
 pub fields_send : AllSend (fields Slots.the_type)
 fields_send = search sendable
 
-pub owned_crosses : (at : Ptr) (alloc : Global) (value : Option the_row.Denot) → Keyless (slot_owns (ghosts.dealloc_token alloc) at value)
+pub owned_crosses : (at : Ptr) (alloc : Global) (value : Option the_row.Denot)
+    → Keyless (slot_owns (ghosts.dealloc_token alloc) at value)
 owned_crosses at alloc None = tt
 owned_crosses at alloc (Some x) = (lies the_row owner.the_send at x, std.frees.frees alloc (raw (lone the_row.mir)) at)

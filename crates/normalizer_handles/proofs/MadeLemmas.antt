@@ -6,7 +6,8 @@ use Rattle.icu_normalizer.specs.declared.any_normalizer.NormalForm.TheVariants.{
 use Rattle.normalizer_handles.specs.declared.normalizers.Normalizers.{Normalizers}
 use Rattle.normalizer_handles.specs.Made.{made_in}
 
-pub each_form : (n : Normalizers) (Is : NormalForm → MadeForm → Type 0) → Is Nfd (made_by n.nfd) → Is Nfc (made_by n.nfc)
+pub each_form : (n : Normalizers) (Is : NormalForm → MadeForm → Type 0) → Is Nfd (made_by n.nfd)
+    → Is Nfc (made_by n.nfc)
     → Is Nfkd (made_by n.nfkd) → Is Nfkc (made_by n.nfkc) → (form : NormalForm) → Is form (made_in n form)
 each_form n Is nfd nfc nfkd nfkc Nfd = nfd
 each_form n Is nfd nfc nfkd nfkc Nfc = nfc

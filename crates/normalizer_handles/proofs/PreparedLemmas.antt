@@ -1,6 +1,7 @@
 -- A file of data that were built opens what their records mean.
 use Rattle.std.specs.Prelude.{⊤}
-use Rattle.std.proofs.Common.{◌≡◌, ◌≢◌, ℕ, List, [], ◌∷◌, Option, Some, None, IfSome, Result, Ok, Err, refl, sym, ap, subst, ◌∙◌, inl, inr, false, true, All}
+use Rattle.std.proofs.Common.{◌≡◌, ◌≢◌, ℕ, List, [], ◌∷◌, Option, Some, None, IfSome, Result, Ok, Err, refl, sym, ap}
+use Rattle.std.proofs.Common.{subst, ◌∙◌, inl, inr, false, true, All}
 use Rattle.icu_normalizer.specs.Building.{Builds}
 use Rattle.icu_normalizer.specs.ByRecords.{IsRecordedForm, MapsByRecords}
 use Rattle.icu_normalizer.specs.DataError.{DataError}
@@ -39,7 +40,8 @@ module _ (records : List RecordValue) (mapper : List Uts46RecordValue) (p : Pack
       let same : are.0 ≡ p = same_data bytes are.0 p are.1 file in
       let makes : MakeOver n p = subst (λ (q : Packed). MakeOver n q) same are.2 in
       let maps : MapOver n.mapper p = subst (λ (q : Packed). MapOver n.mapper q) same are.3 in (
-        λ form. subst (IsRecordedForm records form) (sym (makes form)) (packed_form-recorded records mapper p builds.means form),
+        λ form. subst (IsRecordedForm records form) (sym (makes form))
+            (packed_form-recorded records mapper p builds.means form),
         maps-by n.mapper maps,
       )
 

@@ -23,7 +23,8 @@ module _ (p : Packed) (e : DataError) where
   third-refuses nfd nfc (inl h) = inl h
   third-refuses nfd nfc (inr h) = inr (inl (inr (nfd, inr (nfc, inl h))))
 
-  pub fourth-refuses : Serves p Nfd → Serves p Nfc → Serves p Nfkd → Fails (RefusesForm Nfkc (held_by p) e) → Fails (Refuses p e)
+  pub fourth-refuses : Serves p Nfd → Serves p Nfc → Serves p Nfkd → Fails (RefusesForm Nfkc (held_by p) e)
+      → Fails (Refuses p e)
   fourth-refuses nfd nfc nfkd (inl h) = inl h
   fourth-refuses nfd nfc nfkd (inr h) = inr (inl (inr (nfd, inr (nfc, inr (nfkd, inl h)))))
 
@@ -34,11 +35,14 @@ module _ (p : Packed) (e : DataError) where
     serves Nfkd = nfkd
     serves Nfkc = nfkc
 
-    pub mapper-refuses : Fails ((p.mapper ≢ p.canonical) × RefusesMapper (Ok (characters_of p Mapper, p.compositions)) e) → Fails (Refuses p e)
+    pub mapper-refuses :
+        Fails ((p.mapper ≢ p.canonical) × RefusesMapper (Ok (characters_of p Mapper, p.compositions)) e)
+        → Fails (Refuses p e)
     mapper-refuses (inl h) = inl h
     mapper-refuses (inr h) = inr (inr (serves, h.0, h.1))
 
-pub file-fault : (bytes : List ℕ) (p : Packed) (e : DataError) → IsFileOf bytes p → (e ≡ data_error.Memory) ⊎ Refuses p e
+pub file-fault : (bytes : List ℕ) (p : Packed) (e : DataError) → IsFileOf bytes p
+    → (e ≡ data_error.Memory) ⊎ Refuses p e
     → IsFaultOfFile bytes (fault_of_data e)
 file-fault bytes p data_error.Memory file r = tt
 file-fault bytes p (data_error.Invalid m c) file (inl h) = absurd cc

@@ -12,7 +12,8 @@ use Rattle.normalizer_ucd.specs.declared.error.UcdFile.{UcdFile}
 use Rattle.normalizer_ucd.specs.declared.error.UcdFile.TheVariants as files
 use Rattle.normalizer_handles.specs.declared.defect.Defect.{Defect}
 use Rattle.normalizer_handles.specs.declared.fault.Fault.{Fault}
-use Rattle.normalizer_handles.specs.declared.fault.Fault.TheVariants.{Line, Records, Record, MapperRecord, Prepared, Unfit}
+use Rattle.normalizer_handles.specs.declared.fault.Fault.TheVariants.{Line, Records, Record, MapperRecord, Prepared}
+use Rattle.normalizer_handles.specs.declared.fault.Fault.TheVariants.{Unfit}
 use Rattle.normalizer_handles.specs.declared.fault.RecordPlace.{RecordPlace}
 use Rattle.normalizer_handles.specs.declared.fault.RecordPlace.TheVariants as places
 use Rattle.normalizer_handles.specs.declared.fault.RecordsFault.{RecordsFault}

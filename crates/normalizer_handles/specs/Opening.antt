@@ -92,20 +92,24 @@ AreOf (Ok source) n = MakeBy n source.0 × MapBy n.mapper source.0 source.1
 AreOf (Err own) n = ⊥
 
 -- the handle has such normalizers, or what it had before
-abbrev pub Holds : (Normalizers → Type 0) → (Fault → Type 0) → (before after : Result Normalizers Fault) → Result ⊤ Fault → Type 0
+abbrev pub Holds : (Normalizers → Type 0) → (Fault → Type 0) → (before after : Result Normalizers Fault)
+    → Result ⊤ Fault → Type 0
 Holds Are IsFault before after (Ok done) = (n : Normalizers) × (after ≡ Ok n) × Are n
 Holds Are IsFault before after (Err fault) = (after ≡ before) × IsFault fault
 
 -- the same, unless a call has what the handle had
-abbrev pub OpensTo : (Normalizers → Type 0) → (Fault → Type 0) → (before after : Result Normalizers Fault) → Result ⊤ Fault → Type 0
+abbrev pub OpensTo : (Normalizers → Type 0) → (Fault → Type 0) → (before after : Result Normalizers Fault)
+    → Result ⊤ Fault → Type 0
 OpensTo Are IsFault before after outcome =
     ((before ≡ Err InUse) × (outcome ≡ Err InUse) × (after ≡ before))
     ⊎ ((before ≢ Err InUse) × Holds Are IsFault before after outcome)
 
 -- the handle has normalizers by the source, or what it had before
 abbrev pub HoldsBy : (Source → Places) → Source → (before after : Result Normalizers Fault) → Result ⊤ Fault → Type 0
-HoldsBy places source before after outcome = Holds (AreOf source) (IsFaultOf (places source) source) before after outcome
+HoldsBy places source before after outcome =
+    Holds (AreOf source) (IsFaultOf (places source) source) before after outcome
 
 -- the same, unless a call has what the handle had
 abbrev pub Opens : (Source → Places) → Source → (before after : Result Normalizers Fault) → Result ⊤ Fault → Type 0
-Opens places source before after outcome = OpensTo (AreOf source) (IsFaultOf (places source) source) before after outcome
+Opens places source before after outcome =
+    OpensTo (AreOf source) (IsFaultOf (places source) source) before after outcome

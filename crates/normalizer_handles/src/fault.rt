@@ -1,6 +1,7 @@
 //! Why a call failed, as a number.
 ghost use Rattle.std.specs.Prelude.{◌≡◌};
-ghost use Rattle.normalizer_handles.specs.Status.{fault_of_data, fault_of_file, fault_of_prepared, number_of, status_of};
+ghost use Rattle.normalizer_handles.specs.Status.{fault_of_data, fault_of_file, fault_of_prepared, number_of};
+ghost use Rattle.normalizer_handles.specs.Status.{status_of};
 
 use icu_normalizer::{BuildError, DataError, NormalizeError, RecordAtFault};
 use normalizer_prepared::{Fault as FileFault, PreparedError};

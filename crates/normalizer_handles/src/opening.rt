@@ -106,7 +106,8 @@ pub fn open_records(
     mapper_records: &[PlainMapperRecord],
     codes: &[u32],
 ) -> Result<(), Fault>
-    ensures { Opens indices_of (both (entries_of codes.now records.now) (mapper_entries_of codes.now mapper_records.now))
+    ensures { Opens indices_of
+        (both (entries_of codes.now records.now) (mapper_entries_of codes.now mapper_records.now))
         (held_normalizers handle.old) (held_normalizers handle.new) result }
 {
     if handle.is_in_use() {

@@ -5,6 +5,7 @@ pub mod FitLemmas
 pub mod Items
 pub mod Loops
 pub mod NumberLoops
+pub mod OwnBytes
 pub mod RunLemmas
 pub mod RunLoops
 pub mod RunRanges

@@ -1,5 +1,5 @@
 -- Reading a file of prepared data.
-use Rattle.std.specs.Prelude.{◌≡◌, ◌⊎◌, ℕ, ◌+◌, ◌-◌, ◌==◌, List, length, drop, Result, Ok, Err, if◌then◌else◌}
+use Rattle.std.specs.Prelude.{◌≡◌, ℕ, ◌-◌, ◌==◌, List, length, drop, Result, Ok, Err, if◌then◌else◌}
 use Rattle.normalizer_packing.specs.declared.Packed.{Packed}
 use Rattle.normalizer_prepared.specs.declared.fault.Fault.{Fault}
 use Rattle.normalizer_prepared.specs.declared.fault.Fault.TheVariants.{Magic, Version, Length, Sum, Trailing}

@@ -1,5 +1,5 @@
 -- The bytes of prepared data.
-use Rattle.std.specs.Prelude.{◌≡◌, ℕ, ◌+◌, ◌<◌, ◌^◌, List, ◌++◌, length, All, true}
+use Rattle.std.specs.Prelude.{◌≡◌, ℕ, ◌+◌, ◌<◌, ◌^◌, List, ◌++◌, length, All, unwrap_or}
 use Rattle.std.specs.Char.{IsScalar}
 use Rattle.normalizer_tables.specs.Table.{Table, code_points}
 use Rattle.normalizer_tables.specs.Pairs.{Pair}
@@ -61,7 +61,16 @@ prepared_bytes p = file_of (data_bytes p)
 
 -- the data in a file that was read
 abbrev pub prepared_in : PreparedData → Packed
-prepared_in d = d.packed
+prepared_in d =
+    record {
+      canonical = d.canonical;
+      compatibility = d.compatibility;
+      mapper = unwrap_or d.mapper d.canonical;
+      tables = d.tables;
+      supplementary_tables = d.supplementary_tables;
+      compositions = d.compositions;
+      supplement = d.supplement;
+    }
 
 -- the numbers of data have room in their fields
 pub record FitsTable (t : Table) : Type 0 where

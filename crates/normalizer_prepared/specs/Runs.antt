@@ -1,9 +1,8 @@
 -- A table of words, as the runs of equal ones.
-use Rattle.std.specs.Prelude.{ℕ, ◌+◌, ◌-◌, ◌==◌, ◌&&◌, not, Bool, true, nat_le, nat_lt, List, [], ◌∷◌, ◌++◌}
+use Rattle.std.specs.Prelude.{ℕ, ◌+◌, ◌==◌, ◌&&◌, not, Bool, true, nat_le, nat_lt, List, [], ◌∷◌, ◌++◌}
 use Rattle.std.specs.Prelude.{Option, Some, None, replicate, if◌then◌else◌}
 use Rattle.std.specs.List.{flat_map}
 use Rattle.normalizer_tables.specs.Table.{Table, code_points}
-use Rattle.normalizer_tables.specs.Ranges.{WordRange}
 use Rattle.normalizer_prepared.specs.declared.run.Run.{Run}
 use Rattle.normalizer_prepared.specs.Bytes.{number_bytes, list_bytes}
 

@@ -1,3 +1,4 @@
 -- What the contracts of private functions alone cite.
+pub mod Own
 pub mod Ranges
 pub mod Typed

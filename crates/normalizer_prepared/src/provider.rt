@@ -3,7 +3,6 @@ ghost use Rattle.std.specs.Prelude.{◌≡◌, ◌↔◌, Ok, Some, IfErr, IfOk,
 ghost use Rattle.normalizer_prepared.specs.Prepared.{prepared_in};
 ghost use Rattle.normalizer_tables.specs.declared.provider.DataError.TheVariants.{Memory};
 
-use normalizer_packing::Packed;
 use normalizer_tables::{
     CanonicalCompositions, DataError, DataProvider, DecompositionData, DecompositionTables,
     NonRecursiveDecompositionSupplement, NormalizerNfcV1, NormalizerNfdDataV1,
@@ -15,13 +14,28 @@ use std::alloc::AllocError;
 /// The data in a file that [`prepared_data`](crate::prepared_data) made: a provider for all seven markers.
 /// [`PreparedData::read`] makes it. `load` copies what is held.
 pub struct PreparedData {
-    pub(crate) packed: Packed,
+    pub(crate) canonical: DecompositionData,
+    pub(crate) compatibility: DecompositionData,
+    /// The mapper's data, unless they are held as the canonical ones.
+    pub(crate) mapper: Option<DecompositionData>,
+    pub(crate) tables: DecompositionTables,
+    pub(crate) supplementary_tables: DecompositionTables,
+    pub(crate) compositions: CanonicalCompositions,
+    pub(crate) supplement: NonRecursiveDecompositionSupplement,
 }
 
 // Written out, so that each place that drops one makes one call.
 impl Drop for PreparedData {
     fn drop(self) {
-        let PreparedData { packed: _packed } = self;
+        let PreparedData {
+            canonical: _canonical,
+            compatibility: _compatibility,
+            mapper: _mapper,
+            tables: _tables,
+            supplementary_tables: _supplementary_tables,
+            compositions: _compositions,
+            supplement: _supplement,
+        } = self;
     }
 }
 
@@ -30,63 +44,69 @@ impl PreparedData {
     pub fn has_canonical_mapper(&self) -> bool
         ensures { IsTrue result ↔ ((prepared_in self.now).mapper ≡ (prepared_in self.now).canonical) }
     {
-        self.packed.mapper == self.packed.canonical
+        match &self.mapper {
+            Some(mapper) => *mapper == self.canonical,
+            None => true,
+        }
     }
 }
 
 impl DataProvider<NormalizerNfdDataV1> for PreparedData {
-    ghost payload = { λ d. Some d.packed.canonical };
+    ghost payload = { λ d. Some d.canonical };
 
     fn load(&self) -> Result<DecompositionData, DataError> {
-        loaded(self.packed.canonical.clone())
+        loaded(self.canonical.clone())
     }
 }
 
 impl DataProvider<NormalizerNfkdDataV1> for PreparedData {
-    ghost payload = { λ d. Some d.packed.compatibility };
+    ghost payload = { λ d. Some d.compatibility };
 
     fn load(&self) -> Result<DecompositionData, DataError> {
-        loaded(self.packed.compatibility.clone())
+        loaded(self.compatibility.clone())
     }
 }
 
 impl DataProvider<NormalizerUts46DataV1> for PreparedData {
-    ghost payload = { λ d. Some d.packed.mapper };
+    ghost payload = { λ d. Some (prepared_in d).mapper };
 
     fn load(&self) -> Result<DecompositionData, DataError> {
-        loaded(self.packed.mapper.clone())
+        match &self.mapper {
+            Some(mapper) => loaded(mapper.clone()),
+            None => loaded(self.canonical.clone()),
+        }
     }
 }
 
 impl DataProvider<NormalizerNfdTablesV1> for PreparedData {
-    ghost payload = { λ d. Some d.packed.tables };
+    ghost payload = { λ d. Some d.tables };
 
     fn load(&self) -> Result<DecompositionTables, DataError> {
-        loaded(self.packed.tables.clone())
+        loaded(self.tables.clone())
     }
 }
 
 impl DataProvider<NormalizerNfkdTablesV1> for PreparedData {
-    ghost payload = { λ d. Some d.packed.supplementary_tables };
+    ghost payload = { λ d. Some d.supplementary_tables };
 
     fn load(&self) -> Result<DecompositionTables, DataError> {
-        loaded(self.packed.supplementary_tables.clone())
+        loaded(self.supplementary_tables.clone())
     }
 }
 
 impl DataProvider<NormalizerNfcV1> for PreparedData {
-    ghost payload = { λ d. Some d.packed.compositions };
+    ghost payload = { λ d. Some d.compositions };
 
     fn load(&self) -> Result<CanonicalCompositions, DataError> {
-        loaded(self.packed.compositions.clone())
+        loaded(self.compositions.clone())
     }
 }
 
 impl DataProvider<NormalizerNfdSupplementV1> for PreparedData {
-    ghost payload = { λ d. Some d.packed.supplement };
+    ghost payload = { λ d. Some d.supplement };
 
     fn load(&self) -> Result<NonRecursiveDecompositionSupplement, DataError> {
-        loaded(self.packed.supplement.clone())
+        loaded(self.supplement.clone())
     }
 }
 

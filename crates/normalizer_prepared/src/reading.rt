@@ -1,10 +1,11 @@
 //! Files of prepared data, as they are read.
-ghost use Rattle.std.specs.Prelude.{◌≡◌, IfErr, IfOk, IsOkUnless, drop};
+ghost use Rattle.std.specs.Prelude.{◌≡◌, IfErr, IfOk, IsOkUnless, drop, unwrap_or};
 ghost use Rattle.normalizer_packing.specs.declared.Packed.{Packed};
 ghost use Rattle.normalizer_prepared.specs.Bytes.{sums};
 ghost use Rattle.normalizer_prepared.specs.Files.{data_at, error_for, file_at, fixed_at, header_at, IsFirstFault};
 ghost use Rattle.normalizer_prepared.specs.Prepared.{header_length, prepared_bytes, prepared_in, Fits};
-ghost use Rattle.normalizer_prepared.specs.Reading.{list_at, pair_at, Gives};
+ghost use Rattle.normalizer_prepared.specs.Reading.{decompositions_at, list_at, pair_at, Gives};
+ghost use Rattle.normalizer_prepared.specs.inner.Own.{IsOwn};
 
 use crate::fault::{Fault, PreparedError, ReadError};
 use crate::items::list_at;
@@ -13,8 +14,7 @@ use crate::provider::PreparedData;
 use crate::sums::sums;
 use crate::tables::{decompositions_at, lists_at, supplement_at};
 use crate::{HEADER_LENGTH, MAGIC, VERSION};
-use normalizer_packing::Packed;
-use normalizer_tables::CanonicalCompositions;
+use normalizer_tables::{CanonicalCompositions, DecompositionData};
 use std::alloc::Global;
 
 impl PreparedData {
@@ -35,8 +35,8 @@ impl PreparedData {
         // Which fault it is, and where.
         ensures fault { IfErr result (IsFirstFault bytes.now) }
     {
-        match packed_in(alloc, bytes) {
-            Ok(packed) => Ok(PreparedData { packed }),
+        match data_in(alloc, bytes) {
+            Ok(data) => Ok(data),
             Err(error) => Err(error_for(bytes.len(), error)),
         }
     }
@@ -57,15 +57,15 @@ fn error_for(length: usize, error: ReadError) -> PreparedError
 
 /// The data in a file.
 #[tactic(auto, unfolding(crate::specs::Files::file_at))]
-fn packed_in(alloc: Global, bytes: &[u8]) -> Result<Packed, ReadError>
-    ensures { Gives (λ p. p) result (file_at bytes.now) }
+fn data_in(alloc: Global, bytes: &[u8]) -> Result<PreparedData, ReadError>
+    ensures { Gives prepared_in result (file_at bytes.now) }
 {
     let rest = header_at(bytes)?;
-    let (packed, rest) = packed_at(alloc, rest)?;
+    let (data, rest) = data_at(alloc, rest)?;
     if !rest.is_empty() {
         return Err(ReadError::Wrong(Fault::Trailing, rest.len()));
     }
-    Ok(packed)
+    Ok(data)
 }
 
 /// The bytes after the header.
@@ -105,17 +105,17 @@ fn fixed_at(fault: Fault, wanted: usize, bytes: &[u8]) -> Result<&[u8], ReadErro
 
 /// The data of all markers.
 #[tactic(auto, unfolding(crate::specs::Files::data_at))]
-fn packed_at(alloc: Global, bytes: &[u8]) -> Result<(Packed, &[u8]), ReadError>
-    ensures { Gives (λ x. (x.0, x.1.now)) result (data_at bytes.now) }
+fn data_at(alloc: Global, bytes: &[u8]) -> Result<(PreparedData, &[u8]), ReadError>
+    ensures { Gives (λ x. (prepared_in x.0, x.1.now)) result (data_at bytes.now) }
 {
-    let (canonical, rest) = decompositions_at(alloc, bytes)?;
+    let (canonical, own, rest) = canonical_at(alloc, bytes)?;
     let (compatibility, rest) = decompositions_at(alloc, rest)?;
-    let (mapper, rest) = decompositions_at(alloc, rest)?;
+    let (mapper, rest) = mapper_at(alloc, &canonical, own, rest)?;
     let (tables, rest) = lists_at(alloc, rest)?;
     let (supplementary_tables, rest) = lists_at(alloc, rest)?;
     let (compositions, rest) = compositions_at(alloc, rest)?;
     let (supplement, rest) = supplement_at(alloc, rest)?;
-    let packed = Packed {
+    let data = PreparedData {
         canonical,
         compatibility,
         mapper,
@@ -124,7 +124,34 @@ fn packed_at(alloc: Global, bytes: &[u8]) -> Result<(Packed, &[u8]), ReadError>
         compositions,
         supplement,
     };
-    Ok((packed, rest))
+    Ok((data, rest))
+}
+
+/// The canonical data, and their bytes.
+fn canonical_at(alloc: Global, bytes: &[u8]) -> Result<(DecompositionData, &[u8], &[u8]), ReadError>
+    ensures read { Gives (λ x. (x.0, x.2.now)) result (decompositions_at bytes.now) }
+    ensures own { IfOk result (λ x. IsOwn x.0 x.1.now) }
+{
+    let (canonical, rest) = decompositions_at(alloc, bytes)?;
+    let (own, _) = bytes.split_at(bytes.len().saturating_sub(rest.len()));
+    Ok((canonical, own, rest))
+}
+
+/// The mapper's data, unless they have the bytes of the canonical ones.
+fn mapper_at<'a>(
+    alloc: Global,
+    canonical: &DecompositionData,
+    own: &[u8],
+    bytes: &'a [u8],
+) -> Result<(Option<DecompositionData>, &'a [u8]), ReadError>
+    requires { IsOwn canonical.now own.now }
+    ensures { Gives (λ x. (unwrap_or x.0 canonical.now, x.1.now)) result (decompositions_at bytes.now) }
+{
+    if let Some(rest) = bytes.strip_prefix(own) {
+        return Ok((None, rest));
+    }
+    let (mapper, rest) = decompositions_at(alloc, bytes)?;
+    Ok((Some(mapper), rest))
 }
 
 /// The composing pairs.

@@ -43,7 +43,8 @@ fn table_at(alloc: Global, bytes: &[u8]) -> Result<(CodePointTable, &[u8]), Read
 /// The ranges of the runs of all code points.
 #[tactic(auto, using(crate::proofs::decoding::RunReading::read_rules), unfolding(crate::specs::Reading::runs_at))]
 fn ranges_at(alloc: Global, bytes: &[u8]) -> Result<(Vec<(u32, u32, u32)>, &[u8]), ReadError>
-    ensures { MatchResult result (λ x. IsReadOf x.0.items x.1.now (runs_at bytes.now)) (λ e. Fails e (runs_at bytes.now)) }
+    ensures { let read = runs_at bytes.now in
+        MatchResult result (λ x. IsReadOf x.0.items x.1.now read) (λ e. Fails e read) }
 {
     let (count, rest) = u32_at(bytes)?;
     let (ranges, rest) = ranges_of(alloc, count, rest)?;

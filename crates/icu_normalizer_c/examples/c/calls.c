@@ -1,5 +1,5 @@
-/* Makes each call of icu_normalizer.h, and compares what it does: calls DIRECTORY TESTS. The status is 0; 3 if a call returned
-   that memory was refused, or the data couldn't be read; 1 if a comparison failed, which is then named. */
+/* Makes each call of icu_normalizer.h, and compares what it does: calls DIRECTORY TESTS. The status is 0; 3 if a call
+   returned that memory was refused, or the data couldn't be read; 1 if a comparison failed, which is then named. */
 #include "icu_normalizer.h"
 
 #include <stdio.h>

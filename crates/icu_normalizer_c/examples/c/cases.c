@@ -1,6 +1,6 @@
 /* Compares the calls of icu_normalizer.h with worked cases: cases DIRECTORY FILE. A line of FILE has the number of bits
-   of a unit, 8 or 16, and an input and its NFD, NFC, NFKD and NFKC, each a `.` and its units in hexadecimal. Each case is
-   compared twice: each array that is passed ends right before memory that can't be accessed, then begins right after
+   of a unit, 8 or 16, and an input and its NFD, NFC, NFKD and NFKC, each a `.` and its units in hexadecimal. Each case
+   is compared twice: each array that is passed ends right before memory that can't be accessed, then begins right after
    such memory, so that what goes past its end or before its beginning stops the program. Buffers have room for each
    number of units from none to one more than is needed. */
 #define _DEFAULT_SOURCE

@@ -1,6 +1,6 @@
-/* Writes the form of standard input to standard output: normalize DIRECTORY FORM. The directory has UnicodeData.txt and
-   CompositionExclusions.txt, and the form is nfd, nfc, nfkd or nfkc. After a third word, `check`, it writes the first
-   mismatch instead: the offset in bytes, the character found, and the one expected; or `normalized`. */
+/* Writes the form of standard input to standard output: normalize FILE FORM. The file has prepared data, and the form is
+   nfd, nfc, nfkd or nfkc. After a third word, `check`, it writes the first mismatch instead: the offset in bytes, the
+   character found, and the one expected; or `normalized`. */
 #include "icu_normalizer.h"
 
 #include <inttypes.h>
@@ -37,13 +37,10 @@ static struct bytes read_all(FILE *file, const char *name) {
     return read;
 }
 
-static struct bytes read_file(const char *directory, const char *name) {
-    char path[4096];
-    int length = snprintf(path, sizeof path, "%s/%s", directory, name);
-    if (length < 0 || (size_t)length >= sizeof path) stop(name, "the path is too long");
-    FILE *file = fopen(path, "rb");
-    if (!file) stop(path, "it can't be opened");
-    struct bytes read = read_all(file, path);
+static struct bytes read_file(const char *name) {
+    FILE *file = fopen(name, "rb");
+    if (!file) stop(name, "it can't be opened");
+    struct bytes read = read_all(file, name);
     fclose(file);
     return read;
 }
@@ -85,15 +82,14 @@ static void normalize(icu_normalizer *normalizer, icu_normalizer_form form, stru
 
 int main(int count, char **words) {
     bool checks = count == 4 && strcmp(words[3], "check") == 0;
-    if (count != 3 && !checks) stop("usage", "normalize DIRECTORY FORM [check]");
+    if (count != 3 && !checks) stop("usage", "normalize FILE FORM [check]");
     icu_normalizer_form form = form_of(words[2]);
-    struct bytes unicode_data = read_file(words[1], "UnicodeData.txt");
-    struct bytes exclusions = read_file(words[1], "CompositionExclusions.txt");
+    struct bytes data = read_file(words[1]);
     icu_normalizer normalizer = ICU_NORMALIZER_CLOSED;
-    icu_normalizer_status status = icu_normalizer_open_unicode_data(
-        &normalizer, unicode_data.at, unicode_data.length, exclusions.at, exclusions.length);
-    free(exclusions.at);
-    free(unicode_data.at);
+    icu_normalizer_defect defect = {0};
+    icu_normalizer_status status = icu_normalizer_open_prepared(&normalizer, data.at, data.length, &defect);
+    free(data.at);
+    if (status == ICU_NORMALIZER_WRONG_PREPARED) stop(words[1], icu_normalizer_reason_text(defect.reason));
     if (status != ICU_NORMALIZER_OK) stop(words[1], icu_normalizer_status_text(status));
 
     struct bytes input = read_all(stdin, "standard input");

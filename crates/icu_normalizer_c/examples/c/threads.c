@@ -71,7 +71,8 @@ int main(int count, char **words) {
     EXPECT(!icu_normalizer_open_unicode_data(&first, (const uint8_t *)unicode_data, unicode_data_length,
         (const uint8_t *)exclusions, exclusions_length));
     for (size_t place = 0; place < THREADS; place++) EXPECT(!icu_normalizer_share(&first, &handles[place]));
-    for (size_t place = 0; place < THREADS; place++) EXPECT(!pthread_create(&threads[place], NULL, run, &handles[place]));
+    for (size_t place = 0; place < THREADS; place++)
+        EXPECT(!pthread_create(&threads[place], NULL, run, &handles[place]));
     icu_normalizer_close(&first);
     for (size_t place = 0; place < THREADS; place++) EXPECT(!pthread_join(threads[place], NULL));
     icu_normalizer_close(NULL);

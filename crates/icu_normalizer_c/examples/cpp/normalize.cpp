@@ -1,6 +1,6 @@
-// Writes the form of standard input to standard output: normalize DIRECTORY FORM. The directory has UnicodeData.txt and
-// CompositionExclusions.txt, and the form is nfd, nfc, nfkd or nfkc. After a third word, `check`, it writes the first
-// mismatch instead: the offset in bytes, the character found, and the one expected; or `normalized`.
+// Writes the form of standard input to standard output: normalize FILE FORM. The file has prepared data, and the form is
+// nfd, nfc, nfkd or nfkc. After a third word, `check`, it writes the first mismatch instead: the offset in bytes, the
+// character found, and the one expected; or `normalized`.
 #include "normalizer.hpp"
 
 #include <array>
@@ -37,9 +37,8 @@ static void write(const std::optional<icu_normalizer_mismatch> &mismatch) {
 
 int main(int count, char **words) try {
     bool checks = count == 4 && words[3] == std::string("check");
-    if (count != 3 && !checks) throw std::runtime_error("usage: normalize DIRECTORY FORM [check]");
-    std::string directory = words[1];
-    Normalizer normalizer(file(directory + "/UnicodeData.txt"), file(directory + "/CompositionExclusions.txt"));
+    if (count != 3 && !checks) throw std::runtime_error("usage: normalize FILE FORM [check]");
+    Normalizer normalizer = Normalizer::prepared(file(words[1]));
     NormalForm form = form_of(words[2]);
     std::string input = all_of(std::cin, "standard input");
     if (checks)

@@ -1,15 +1,14 @@
-"""Writes the form of standard input to standard output: normalize.py LIBRARY DIRECTORY FORM. The directory has
-UnicodeData.txt and CompositionExclusions.txt, and the form is nfd, nfc, nfkd or nfkc. After a fourth word, `check`, it
-writes the first mismatch instead: the offset in bytes, the character found, and the one expected; or `normalized`."""
+"""Writes the form of standard input to standard output: normalize.py LIBRARY FILE FORM. The file has prepared data, and
+the form is nfd, nfc, nfkd or nfkc. After a fourth word, `check`, it writes the first mismatch instead: the offset in
+bytes, the character found, and the one expected; or `normalized`."""
 import pathlib
 import sys
 
 from normalizer import Form, Normalizer
 
 
-def main(library, directory, form, checks=None):
-    files = (pathlib.Path(directory, name).read_bytes() for name in ("UnicodeData.txt", "CompositionExclusions.txt"))
-    with Normalizer(library, *files) as normalizer:
+def main(library, file, form, checks=None):
+    with Normalizer.prepared(library, pathlib.Path(file).read_bytes()) as normalizer:
         call = normalizer.normalize if checks is None else normalizer.first_mismatch
         done = call(Form[form.upper()], sys.stdin.buffer.read())
         sys.stdout.buffer.write(done if checks is None else line_of(done).encode())
@@ -23,5 +22,5 @@ def line_of(mismatch):
 
 if __name__ == "__main__":
     if len(sys.argv) != 4 and sys.argv[4:] != ["check"]:
-        sys.exit("usage: normalize.py LIBRARY DIRECTORY FORM [check]")
+        sys.exit("usage: normalize.py LIBRARY FILE FORM [check]")
     main(*sys.argv[1:])

@@ -1,14 +1,11 @@
 -- A field that is read has these bytes, and what has these bytes is read.
-use Rattle.std.proofs.Common.{◌≡◌, ℕ, zero, suc, ◌+◌, ◌*◌, ◌%◌, ◌/◌, ◌^◌, ◌<◌, ◌≤◌, Bool, true, false, cond, eqb, ltb}
+use Rattle.std.proofs.Common.{◌≡◌, ℕ, zero, suc, ◌+◌, ◌*◌, ◌%◌, ◌/◌, ◌^◌, ◌<◌, Bool, true, false, cond}
 use Rattle.std.proofs.Common.{List, [], ◌∷◌, ◌++◌, length, get_or, Result, Ok, Err, refl, sym, ap, subst, ◌∙◌}
 use Rattle.std.proofs.Common.{append_assoc, arith, All}
 use Rattle.std.proofs.Math.Nat.{pow-succ'}
 use Rattle.std.specs.List.{flat_map}
-use Rattle.std.proofs.lemmas.List.{append-nil}
 use Rattle.std.proofs.lemmas.List.Elements.{All-cons, All-head, All-nil, All-tail}
 use Rattle.std.proofs.lemmas.List.Concat.{flat_map-cons}
-use Rattle.normalizer_prepared.specs.declared.fault.Fault.{Fault}
-use Rattle.normalizer_prepared.specs.declared.fault.Fault.TheVariants.{Short}
 use Rattle.normalizer_prepared.specs.Bytes.{number_bytes, list_bytes}
 use Rattle.normalizer_prepared.specs.Prepared.{FitsList}
 use Rattle.normalizer_prepared.specs.Reading.{◌>>=◌, Read, Wrong, byte_at, number_at, items_at, list_at}
@@ -50,7 +47,8 @@ Takes-then a x b y c p q = record {
 
 -- the two laws of a kind of field: `bytes_of` a value that fits are what is read
 pub record IsField {A : Type 0} (at : List ℕ → Read A) (bytes_of : A → List ℕ) (FitsIn : A → Type 0) : Type 0 where
-  pub takes : (bytes : List ℕ) (x : A × List ℕ) → IsBytes bytes → at bytes ≡ Ok x → Takes bytes (bytes_of x.0) x.1 × FitsIn x.0
+  pub takes : (bytes : List ℕ) (x : A × List ℕ) → IsBytes bytes → at bytes ≡ Ok x
+      → Takes bytes (bytes_of x.0) x.1 × FitsIn x.0
   pub again : (x : A) (rest : List ℕ) → FitsIn x → at (bytes_of x ++ rest) ≡ Ok (x, rest)
 
 -- ---- numbers
@@ -58,7 +56,8 @@ pub record IsField {A : Type 0} (at : List ℕ → Read A) (bytes_of : A → Lis
 IsBytes-rest : (b : ℕ) (bytes : List ℕ) → IsBytes (b ∷ bytes) → IsBytes bytes
 IsBytes-rest b bytes h i = h (suc i)
 
-byte_takes : (bytes : List ℕ) (x : ℕ × List ℕ) → IsBytes bytes → byte_at bytes ≡ Ok x → (bytes ≡ x.0 ∷ x.1) × IsBytes x.1 × (x.0 < 256)
+byte_takes : (bytes : List ℕ) (x : ℕ × List ℕ) → IsBytes bytes → byte_at bytes ≡ Ok x
+    → (bytes ≡ x.0 ∷ x.1) × IsBytes x.1 × (x.0 < 256)
 byte_takes [] x fits e = absurd cc
 byte_takes (b ∷ rest) x fits e =
     subst (λ (y : ℕ × List ℕ). (b ∷ rest ≡ y.0 ∷ y.1) × IsBytes y.1 × (y.0 < 256)) (ok_is (b, rest) x e)
@@ -94,7 +93,8 @@ number_takes (suc width) bytes x fits e =
     subst (λ (y : ℕ × List ℕ). Takes bytes (number_bytes (suc width) y.0) y.1 × (y.0 < 256 ^ suc width))
     (ok_is made x b.2) (record { parts = parts; rest_fits = high.0.rest_fits }, bound)
 
-number_again : (width n : ℕ) (rest : List ℕ) → n < 256 ^ width → number_at width (number_bytes width n ++ rest) ≡ Ok (n, rest)
+number_again : (width n : ℕ) (rest : List ℕ) → n < 256 ^ width
+    → number_at width (number_bytes width n ++ rest) ≡ Ok (n, rest)
 unfolding number_at number_bytes
 number_again zero n rest fits =
     let none : 0 ≡ n = omega (arith, fits) in
@@ -104,7 +104,8 @@ number_again (suc width) n rest fits =
     let whole : n % 256 + 256 * (n / 256) ≡ n = omega arith in
     rw high (ap (λ (k : ℕ). done (k, rest)) whole)
 
-pub IsField-number : (width limit : ℕ) → 256 ^ width ≡ limit → IsField (number_at width) (number_bytes width) (λ n. n < limit)
+pub IsField-number : (width limit : ℕ) → 256 ^ width ≡ limit
+    → IsField (number_at width) (number_bytes width) (λ n. n < limit)
 IsField-number width limit same = record {
   takes = λ bytes x fits e. let t = number_takes width bytes x fits e in (t.0, omega (arith, t.1, same));
   again = λ n rest fits. number_again width n rest (omega (arith, fits, same));
@@ -137,7 +138,8 @@ module _ {A : Type 0} (at : List ℕ → Read A) (bytes_of : A → List ℕ) (Fi
   items_again [] rest fits = refl
   items_again (x ∷ xs) rest fits =
       let regrouped : flat_map bytes_of (x ∷ xs) ++ rest ≡ bytes_of x ++ (flat_map bytes_of xs ++ rest) =
-      ap (λ (t : List ℕ). t ++ rest) (flat_map-cons bytes_of x xs) ∙ append_assoc (bytes_of x) (flat_map bytes_of xs) rest in
+      ap (λ (t : List ℕ). t ++ rest) (flat_map-cons bytes_of x xs)
+      ∙ append_assoc (bytes_of x) (flat_map bytes_of xs) rest in
       ap (items_at at (suc (length xs))) regrouped
       ∙ rw (
         field.again x (flat_map bytes_of xs ++ rest) (All-head FitsIn x xs fits),
@@ -156,7 +158,8 @@ module _ {A : Type 0} (at : List ℕ → Read A) (bytes_of : A → List ℕ) (Fi
         (omega (arith, items.1, count.1), items.2),
       )
 
-  list_again : (xs : List A) (rest : List ℕ) → FitsList FitsIn xs → list_at at (list_bytes bytes_of xs ++ rest) ≡ Ok (xs, rest)
+  list_again : (xs : List A) (rest : List ℕ) → FitsList FitsIn xs
+      → list_at at (list_bytes bytes_of xs ++ rest) ≡ Ok (xs, rest)
   unfolding list_at
   list_again xs rest fits =
       let regrouped = append_assoc (number_bytes 4 (length xs)) (flat_map bytes_of xs) rest in

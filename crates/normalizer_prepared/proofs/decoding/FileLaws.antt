@@ -1,5 +1,6 @@
 -- The laws of files: what is read has these bytes, and what has these bytes is read.
-use Rattle.std.proofs.Common.{◌≡◌, ℕ, zero, suc, ◌+◌, ◌-◌, ◌%◌, ◌/◌, ◌^◌, ◌<◌, Bool, true, cond, eqb, List, [], ◌∷◌, ◌++◌, length, drop}
+use Rattle.std.proofs.Common.{◌≡◌, ℕ, zero, suc, ◌+◌, ◌/◌, ◌^◌, ◌<◌, cond, eqb, List, [], ◌∷◌}
+use Rattle.std.proofs.Common.{◌++◌, length, drop}
 use Rattle.std.proofs.Common.{Result, Ok, Err, refl, sym, ap, subst, ◌∙◌, append_assoc, arith}
 use Rattle.std.specs.List.{fold}
 use Rattle.std.proofs.lemmas.Bool.{eqb-true, eq-eqb}
@@ -10,7 +11,8 @@ use Rattle.normalizer_packing.specs.declared.Packed.{Packed}
 use Rattle.normalizer_prepared.specs.declared.fault.Fault.{Fault}
 use Rattle.normalizer_prepared.specs.declared.fault.Fault.TheVariants.{Magic, Version, Length, Sum, Trailing}
 use Rattle.normalizer_prepared.specs.Bytes.{number_bytes, list_bytes, add_byte, sums}
-use Rattle.normalizer_prepared.specs.Prepared.{decompositions_bytes, lists_bytes, pair_bytes, supplement_bytes, data_bytes}
+use Rattle.normalizer_prepared.specs.Prepared.{decompositions_bytes, lists_bytes, pair_bytes, supplement_bytes}
+use Rattle.normalizer_prepared.specs.Prepared.{data_bytes}
 use Rattle.normalizer_prepared.specs.Prepared.{magic, version, header_length, file_of, prepared_bytes, FitsData, Fits}
 use Rattle.normalizer_prepared.specs.Reading.{◌>>=◌, Read, Wrong, number_at, list_at, pair_at}
 use Rattle.normalizer_prepared.specs.Reading.{decompositions_at, lists_at, supplement_at}
@@ -198,12 +200,14 @@ module _ (bytes : List ℕ) where
       let td = fixed_takes Sum with_sums.0 c.0 d.0 tc.0.rest_fits d.1 in
       let te = fixed_takes Sum with_sums.1 d.0 rest td.0.rest_fits d.2 in
       let ab = Takes-then bytes (number_bytes 4 magic) a.0 (number_bytes 4 version) b.0 ta.0 tb.0 in
-      let abc = Takes-then bytes (number_bytes 4 magic ++ number_bytes 4 version) b.0 (number_bytes 4 (length bytes)) c.0
+      let abc = Takes-then bytes (number_bytes 4 magic ++ number_bytes 4 version) b.0
+      (number_bytes 4 (length bytes)) c.0
       ab tc.0 in
       let abcd = Takes-then bytes (number_bytes 4 magic ++ number_bytes 4 version ++ number_bytes 4 (length bytes)) c.0
       (number_bytes 4 with_sums.0) d.0 abc td.0 in (
         Takes-then bytes
-            (number_bytes 4 magic ++ number_bytes 4 version ++ number_bytes 4 (length bytes) ++ number_bytes 4 with_sums.0)
+            (number_bytes 4 magic ++ number_bytes 4 version ++ number_bytes 4 (length bytes)
+            ++ number_bytes 4 with_sums.0)
             d.0 (number_bytes 4 with_sums.1) rest abcd te.0,
         tc.1,
       )

@@ -1,6 +1,7 @@
 -- What was built has room in its file.
-use Rattle.std.proofs.Common.{◌≡◌, ℕ, zero, suc, ◌+◌, ◌-◌, ◌*◌, ◌^◌, ◌<◌, ◌≤◌, min, Bool, true, false, cond, List, [], ◌∷◌, ◌++◌}
-use Rattle.std.proofs.Common.{length, take, Option, Some, None, All, refl, sym, ap, subst, inl, inr, arith}
+use Rattle.std.proofs.Common.{◌≡◌, ℕ, suc, ◌+◌, ◌-◌, ◌*◌, ◌^◌, ◌<◌, ◌≤◌, Bool, true, false, cond, List, []}
+use Rattle.std.proofs.Common.{◌∷◌, ◌++◌}
+use Rattle.std.proofs.Common.{length, Option, Some, None, All, refl, sym, ap, subst, inl, inr, arith}
 use Rattle.std.specs.Char.{IsScalar}
 use Rattle.std.specs.List.{cons_option, flat_map}
 use Rattle.std.proofs.lemmas.Bool.{cases_eq, cases_lt, eq-eqb, le-ltb, lt-ltb, ne_eqb}
@@ -23,7 +24,8 @@ use Rattle.normalizer_builder.proofs.NoRefusal.{rising}
 use Rattle.normalizer_prepared.specs.declared.run.Run.{Run}
 use Rattle.normalizer_prepared.specs.Bytes.{number_bytes, list_bytes, sums}
 use Rattle.normalizer_prepared.specs.Runs.{count_bytes, joined, run_bytes, runs, table_bytes}
-use Rattle.normalizer_prepared.specs.Prepared.{decompositions_bytes, lists_bytes, pair_bytes, supplement_bytes, data_bytes}
+use Rattle.normalizer_prepared.specs.Prepared.{decompositions_bytes, lists_bytes, pair_bytes, supplement_bytes}
+use Rattle.normalizer_prepared.specs.Prepared.{data_bytes}
 use Rattle.normalizer_prepared.specs.Prepared.{file_of, header_length, prepared_bytes, Fits, FitsData, FitsTable}
 use Rattle.normalizer_prepared.specs.inner.Typed.{AreTyped}
 use Rattle.normalizer_prepared.proofs.decoding.Items.{words_hold}
@@ -32,13 +34,15 @@ use Rattle.normalizer_prepared.proofs.decoding.FileLaws.{header, length_header, 
 
 -- ---- how long fields are
 
-items_bound : {A : Type 0} (f : A → List ℕ) → ((x : A) → length (f x) ≤ 9) → (xs : List A) → length (flat_map f xs) ≤ 9 * length xs
+items_bound : {A : Type 0} (f : A → List ℕ) → ((x : A) → length (f x) ≤ 9) → (xs : List A)
+    → length (flat_map f xs) ≤ 9 * length xs
 items_bound f each [] = omega arith
 items_bound f each (x ∷ xs) =
     let whole = ap length (flat_map-cons f x xs) in
     omega (arith, each x, items_bound f each xs, whole, length-append (f x) (flat_map f xs))
 
-list_bound : {A : Type 0} (f : A → List ℕ) → ((x : A) → length (f x) ≤ 9) → (xs : List A) → length (list_bytes f xs) ≤ 4 + 9 * length xs
+list_bound : {A : Type 0} (f : A → List ℕ) → ((x : A) → length (f x) ≤ 9) → (xs : List A)
+    → length (list_bytes f xs) ≤ 4 + 9 * length xs
 list_bound f each xs =
     let whole = length-append (number_bytes 4 (length xs)) (flat_map f xs) in
     omega (arith, whole, length_number 4 (length xs), items_bound f each xs)
@@ -134,7 +138,8 @@ unfolding pairs_of
 pairs_bound limit low [] rise from below le = omega arith
 pairs_bound limit low (r ∷ rs) rise from below le =
     pairs_step limit low r.c (pairs_of rs) (pair_of_record r) (of_record r) (All-head (λ r. low ≤ r.c) r rs from) below
-    (λ m under within b. pairs_bound limit m rs (λ i j d lt in_range. rise (suc i) (suc j) d (omega (arith, lt)) (omega (arith, in_range)))
+    (λ m under within b. pairs_bound limit m rs
+    (λ i j d lt in_range. rise (suc i) (suc j) d (omega (arith, lt)) (omega (arith, in_range)))
     (λ k d in_range. omega (arith, under, rise 0 (suc k) d (omega arith) (omega (arith, in_range)))) b within)
     le
 
@@ -163,8 +168,14 @@ few-pairs p built typed =
     let recorded : All (λ (q : Pair). q.2 < 0x110000) (pairs_of records) =
     All-permutation (λ (q : Pair). q.2 < 0x110000) packs.pairs (pairs_of records)
     (IsPermutation-sym (pairs_of records) packs.pairs packs.same_pairs) same in
-    let few = pairs_bound 0x110000 0 records (rising records built.1 built.2.unrefused) (λ k d below. omega arith) recorded (omega arith) in
-    omega (arith, few, length_permutation (pairs_of records) packs.pairs packs.same_pairs, ap length packs.packs.compositions)
+    let few = pairs_bound 0x110000 0 records (rising records built.1 built.2.unrefused)
+    (λ k d below. omega arith) recorded (omega arith) in
+    omega (
+      arith,
+      few,
+      length_permutation (pairs_of records) packs.pairs packs.same_pairs,
+      ap length packs.packs.compositions,
+    )
 
 are-few : (p : Packed) (built : AreBuilt p) → AreTyped p → AreFew p
 are-few p built typed =
@@ -179,7 +190,8 @@ are-few p built typed =
       further_narrow = omega (arith, within, ap (λ (l : Lists). length l.scalars16) further);
       further_wide = omega (arith, within, ap (λ (l : Lists). length l.scalars24) further);
       pairs = few-pairs p built typed;
-      steps = omega (arith, ap length steps, length-take step_limit (items_of false (step_lists built.2.packs.entries)));
+      steps =
+          omega (arith, ap length steps, length-take step_limit (items_of false (step_lists built.2.packs.entries)));
     }
 
 fits-data : (p : Packed) → AreTyped p → AreFew p → FitsData p
@@ -187,7 +199,11 @@ fits-data p typed few = record {
   canonical = typed.canonical;
   compatibility = typed.compatibility;
   mapper = typed.mapper;
-  tables = record { narrow = (omega (arith, few.narrow), typed.tables.narrow); wide = (omega (arith, few.wide), typed.tables.wide) };
+  tables =
+      record {
+        narrow = (omega (arith, few.narrow), typed.tables.narrow);
+        wide = (omega (arith, few.wide), typed.tables.wide);
+      };
   supplementary_tables = record {
     narrow = (omega (arith, few.further_narrow), typed.further.narrow);
     wide = (omega (arith, few.further_wide), typed.further.wide);
@@ -230,7 +246,8 @@ data_bound p typed few =
     let abcdef = length-append (a ++ b ++ c ++ d ++ e) f in
     let all = length-append (a ++ b ++ c ++ d ++ e ++ f) g in
     let canonical = decompositions_bound p.canonical.table p.canonical.cap typed.canonical.table.complete in
-    let compatibility = decompositions_bound p.compatibility.table p.compatibility.cap typed.compatibility.table.complete in
+    let compatibility = decompositions_bound p.compatibility.table p.compatibility.cap
+    typed.compatibility.table.complete in
     let mapper = decompositions_bound p.mapper.table p.mapper.cap typed.mapper.table.complete in
     let pairs = list_bound pair_bytes pair_bound p.compositions in
     let steps = supplement_bound p.supplement typed.steps.table.complete in
@@ -270,9 +287,11 @@ fits-built p built typed =
     record { room = fits-data p typed few; file = file_bound (data_bytes p) (data_bound p typed few) }
 
 -- the words of a table, by those of its runs
-pub fits-table : (t : Table) → All (λ r. r.word < 2 ^ 32) (runs t.words) → length t.words ≡ code_points → t.past < 2 ^ 32 → FitsTable t
+pub fits-table : (t : Table) → All (λ r. r.word < 2 ^ 32) (runs t.words) → length t.words ≡ code_points
+    → t.past < 2 ^ 32 → FitsTable t
 fits-table t each all past = record {
-  words = subst (λ (ws : List ℕ). All (λ w. w < 2 ^ 32) ws) (words-runs t.words) (words_hold (λ w. w < 2 ^ 32) (runs t.words) each);
+  words = subst (λ (ws : List ℕ). All (λ w. w < 2 ^ 32) ws) (words-runs t.words)
+      (words_hold (λ w. w < 2 ^ 32) (runs t.words) each);
   complete = all;
   past = past;
 }

@@ -1,13 +1,15 @@
 -- The laws of the fields of data.
-use Rattle.std.proofs.Common.{◌≡◌, ℕ, zero, suc, ◌+◌, ◌^◌, ◌<◌, ◌≤◌, Bool, true, false, cond, eqb, ltb, Option, Some, None}
-use Rattle.std.proofs.Common.{List, [], ◌∷◌, ◌++◌, length, Result, Ok, Err, refl, sym, ap, subst, ◌∙◌, inl, inr}
+use Rattle.std.proofs.Common.{◌≡◌, ℕ, zero, suc, ◌+◌, ◌^◌, ◌<◌, ◌≤◌, Bool, true, false, cond, eqb, ltb, Option, Some}
+use Rattle.std.proofs.Common.{None}
+use Rattle.std.proofs.Common.{List, [], ◌∷◌, ◌++◌, length, Ok, Err, refl, sym, ap, subst, ◌∙◌, inl, inr}
 use Rattle.std.proofs.Common.{append_assoc, arith, All, replicate, get_or, ◌%◌}
-use Rattle.std.proofs.lemmas.List.{get_or_append_left, get_or-append-add, get_or-replicate, length-append, length-replicate}
+use Rattle.std.proofs.lemmas.List.{get_or_append_left, get_or-append-add, get_or-replicate, length-append}
+use Rattle.std.proofs.lemmas.List.{length-replicate}
 use Rattle.std.proofs.lemmas.List.Concat.{flat_map-cons}
 use Rattle.std.proofs.lemmas.List.Elements.{All-append, All-cons, All-head, All-nil, All-replicate, All-tail}
 use Rattle.std.specs.List.{flat_map}
 use Rattle.std.specs.Char.{IsScalar}
-use Rattle.std.proofs.lemmas.Bool.{cases_lt, eqb-true, eqb-false, eq-eqb, ne_eqb, ltb-true, ltb-false, lt-ltb, le-ltb}
+use Rattle.std.proofs.lemmas.Bool.{cases_lt, eqb-true, ne_eqb, ltb-false, lt-ltb, le-ltb}
 use Rattle.std.proofs.Math.Utf8.{scalar, scalar_cases}
 use Rattle.normalizer_tables.specs.Table.{Table, code_points}
 use Rattle.normalizer_tables.specs.Pairs.{Pair}
@@ -15,15 +17,20 @@ use Rattle.normalizer_tables.specs.Data.{Decompositions, Lists, Supplement}
 use Rattle.normalizer_prepared.specs.declared.fault.Fault.TheVariants.{Count, Runs, Scalar}
 use Rattle.normalizer_prepared.specs.declared.run.Run.{Run}
 use Rattle.normalizer_prepared.specs.Bytes.{number_bytes, list_bytes}
-use Rattle.normalizer_prepared.specs.Runs.{run, runs, words_of, count_bytes, run_bytes, table_bytes, are_runs, are_runs_from, is_next}
+use Rattle.normalizer_prepared.specs.Runs.{run, runs, words_of, count_bytes, run_bytes, table_bytes, are_runs}
+use Rattle.normalizer_prepared.specs.Runs.{are_runs_from, is_next}
 use Rattle.normalizer_prepared.specs.Prepared.{decompositions_bytes, lists_bytes, pair_bytes, supplement_bytes}
-use Rattle.normalizer_prepared.specs.Prepared.{FitsTable, FitsDecompositions, FitsList, FitsLists, FitsSupplement, IsPair}
-use Rattle.normalizer_prepared.specs.Reading.{◌>>=◌, Read, Wrong, byte_at, number_at, list_at, scalar_at, pair_at}
+use Rattle.normalizer_prepared.specs.Prepared.{FitsTable, FitsDecompositions, FitsList, FitsLists, FitsSupplement}
+use Rattle.normalizer_prepared.specs.Prepared.{IsPair}
+use Rattle.normalizer_prepared.specs.Reading.{◌>>=◌, Read, number_at, list_at, scalar_at, pair_at}
 use Rattle.normalizer_prepared.specs.Reading.{next_run_at, runs_from}
-use Rattle.normalizer_prepared.specs.Reading.{long_count_at, count_at, run_at, runs_at, table_at, decompositions_at, lists_at, supplement_at}
-use Rattle.normalizer_prepared.proofs.decoding.RunLemmas.{both, run_goes_on, length_words, runs-are, runs-words, words-runs}
+use Rattle.normalizer_prepared.specs.Reading.{long_count_at, count_at, run_at, runs_at, table_at, decompositions_at}
+use Rattle.normalizer_prepared.specs.Reading.{lists_at, supplement_at}
+use Rattle.normalizer_prepared.proofs.decoding.RunLemmas.{both, run_goes_on, length_words, runs-are, runs-words}
+use Rattle.normalizer_prepared.proofs.decoding.RunLemmas.{words-runs}
 use Rattle.normalizer_prepared.proofs.decoding.RunReading.{after_first, are-read, next_holds}
-use Rattle.normalizer_prepared.proofs.decoding.Fields.{IsBytes, IsField, IsField-list, IsField-number, Takes, Takes-then}
+use Rattle.normalizer_prepared.proofs.decoding.Fields.{IsBytes, IsField, IsField-list, IsField-number, Takes}
+use Rattle.normalizer_prepared.proofs.decoding.Fields.{Takes-then}
 use Rattle.normalizer_prepared.proofs.decoding.Fields.{bind_ok, guard_false, guard_true, ok_is}
 
 byte : IsField (number_at 1) (number_bytes 1) (λ n. n < 2 ^ 8)
@@ -67,14 +74,16 @@ pair_takes : (bytes : List ℕ) (x : Pair × List ℕ) → IsBytes bytes → pai
     → Takes bytes (pair_bytes x.0) x.1 × IsPair x.0
 unfolding pair_at pair_bytes
 pair_takes bytes x fits e =
-    let a = bind_ok (scalar_at bytes) (λ s. scalar_at s.1 >>= λ f. scalar_at f.1 >>= λ r. Ok ((s.0, f.0, r.0), r.1)) x e in
+    let a = bind_ok (scalar_at bytes)
+    (λ s. scalar_at s.1 >>= λ f. scalar_at f.1 >>= λ r. Ok ((s.0, f.0, r.0), r.1)) x e in
     let b = bind_ok (scalar_at a.0.1) (λ f. scalar_at f.1 >>= λ r. Ok ((a.0.0, f.0, r.0), r.1)) x a.2 in
     let c = bind_ok (scalar_at b.0.1) (λ r. Ok ((a.0.0, b.0.0, r.0), r.1)) x b.2 in
     let s = scalar_takes bytes a.0 fits a.1 in
     let f = scalar_takes a.0.1 b.0 s.0.rest_fits b.1 in
     let r = scalar_takes b.0.1 c.0 f.0.rest_fits c.1 in
     let two = Takes-then bytes (number_bytes 3 a.0.0) a.0.1 (number_bytes 3 b.0.0) b.0.1 s.0 f.0 in
-    let all = Takes-then bytes (number_bytes 3 a.0.0 ++ number_bytes 3 b.0.0) b.0.1 (number_bytes 3 c.0.0) c.0.1 two r.0 in
+    let all = Takes-then bytes (number_bytes 3 a.0.0 ++ number_bytes 3 b.0.0) b.0.1
+    (number_bytes 3 c.0.0) c.0.1 two r.0 in
     let made : Pair × List ℕ = ((a.0.0, b.0.0, c.0.0), c.0.1) in
     subst (λ (y : Pair × List ℕ). Takes bytes (pair_bytes y.0) y.1 × IsPair y.0) (ok_is made x c.2)
     (all, (s.1, f.1, r.1))
@@ -120,8 +129,10 @@ unfolding count_at count_bytes number_bytes
 count_takes [] x fits e = absurd cc
 count_takes (zero ∷ rest) x fits e =
     let t = long_takes rest x (λ i. fits (suc i)) e in
-    let big : ltb x.0 256 ≡ false = le-ltb x.0 256 t.1 in
-    (record { parts = rw big (ap (λ (s : List ℕ). 0 ∷ s) t.0.parts); rest_fits = t.0.rest_fits }, (omega (arith, t.1), t.2))
+    let big : ltb x.0 256 ≡ false = le-ltb x.0 256 t.1 in (
+      record { parts = rw big (ap (λ (s : List ℕ). 0 ∷ s) t.0.parts); rest_fits = t.0.rest_fits },
+      (omega (arith, t.1), t.2),
+    )
 count_takes (suc b ∷ rest) x fits e =
     let small : ltb (suc b) 256 ≡ true = lt-ltb (suc b) 256 (fits 0) in
     let same : suc b % 256 ≡ suc b = omega (arith, fits 0) in
@@ -186,14 +197,16 @@ run_takes : (bytes : List ℕ) (x : Run × List ℕ) → IsBytes bytes → run_a
     → Takes bytes (run_bytes x.0) x.1 × IsRun x.0
 unfolding run_at run_bytes
 run_takes bytes x fits e =
-    let t = two_take count_at count_bytes IsCount count (number_at 4) (number_bytes 4) (λ n. n < 2 ^ 32) four run bytes x
+    let t = two_take count_at count_bytes IsCount count (number_at 4) (number_bytes 4)
+    (λ n. n < 2 ^ 32) four run bytes x
     fits e in
     subst (λ (r : Run). Takes bytes (run_bytes r) x.1 × IsRun r) t.2 (t.3, (t.4, t.5))
 
 run_again : (r : Run) (rest : List ℕ) → IsRun r → run_at (run_bytes r ++ rest) ≡ Ok (r, rest)
 unfolding run_at run_bytes
 run_again r rest fits =
-    two_again count_at count_bytes IsCount count (number_at 4) (number_bytes 4) (λ n. n < 2 ^ 32) four run r.count r.word
+    two_again count_at count_bytes IsCount count (number_at 4) (number_bytes 4)
+    (λ n. n < 2 ^ 32) four run r.count r.word
     rest fits.0 fits.1
 
 run_field : IsField run_at run_bytes IsRun
@@ -210,10 +223,12 @@ from_takes : (n : ℕ) (before : Option ℕ) (count : ℕ) (bytes : List ℕ) (x
 unfolding runs_from
 from_takes n before zero bytes x fits e =
     let g = guard_true (eqb n code_points) (Runs, length bytes) ([], bytes) x e in
-    subst (λ (y : List Run × List ℕ). AreTaken 0 bytes y) g.1 (record { parts = refl; rest_fits = fits }, refl, All-nil IsRun)
+    subst (λ (y : List Run × List ℕ). AreTaken 0 bytes y) g.1
+    (record { parts = refl; rest_fits = fits }, refl, All-nil IsRun)
 from_takes n before (suc count) bytes x fits e =
     let a = bind_ok (next_run_at n before bytes) (after_first n count) x e in
-    let b = bind_ok (runs_from (n + a.0.0.count) (Some a.0.0.word) count a.0.1) (λ others. Ok (a.0.0 ∷ others.0, others.1)) x a.2 in
+    let b = bind_ok (runs_from (n + a.0.0.count) (Some a.0.0.word) count a.0.1)
+    (λ others. Ok (a.0.0 ∷ others.0, others.1)) x a.2 in
     let first = run_takes bytes a.0 fits (next_holds n before bytes a.0 a.1).0 in
     let others = from_takes (n + a.0.0.count) (Some a.0.0.word) count a.0.1 b.0 first.0.rest_fits b.1 in
     let both = Takes-then bytes (run_bytes a.0.0) a.0.1 (flat_map run_bytes b.0.0) b.0.1 first.0 others.0 in
@@ -235,16 +250,20 @@ runs_take bytes x fits e =
 next_again : (n : ℕ) (before : Option ℕ) (r : Run) (rest : List ℕ) → IsRun r → is_next n before r ≡ true
     → next_run_at n before (run_bytes r ++ rest) ≡ Ok (r, rest)
 unfolding next_run_at
-next_again n before r rest fits next = rw (run_again r rest fits) (ap (λ (b : Bool). cond b (Ok (r, rest)) (Err (Runs, length (run_bytes r ++ rest)))) next)
+next_again n before r rest fits next =
+    rw (run_again r rest fits)
+    (ap (λ (b : Bool). cond b (Ok (r, rest)) (Err (Runs, length (run_bytes r ++ rest)))) next)
 
-from_again : (n : ℕ) (before : Option ℕ) (rs : List Run) (rest : List ℕ) → are_runs_from n before rs ≡ true → All IsRun rs
+from_again : (n : ℕ) (before : Option ℕ) (rs : List Run) (rest : List ℕ) → are_runs_from n before rs ≡ true
+    → All IsRun rs
     → runs_from n before (length rs) (flat_map run_bytes rs ++ rest) ≡ Ok (rs, rest)
 unfolding runs_from are_runs_from
 from_again n before [] rest are fits = rw are refl
 from_again n before (r ∷ rs) rest are fits =
     let parts = both (is_next n before r) (are_runs_from (n + r.count) (Some r.word) rs) are in
     let regrouped : flat_map run_bytes (r ∷ rs) ++ rest ≡ run_bytes r ++ (flat_map run_bytes rs ++ rest) =
-    ap (λ (t : List ℕ). t ++ rest) (flat_map-cons run_bytes r rs) ∙ append_assoc (run_bytes r) (flat_map run_bytes rs) rest in
+    ap (λ (t : List ℕ). t ++ rest) (flat_map-cons run_bytes r rs)
+    ∙ append_assoc (run_bytes r) (flat_map run_bytes rs) rest in
     ap (runs_from n before (suc (length rs))) regrouped
     ∙ rw (
       next_again n before r (flat_map run_bytes rs ++ rest) (All-head IsRun r rs fits) parts.0,
@@ -373,7 +392,8 @@ lists_again : (l : Lists) (rest : List ℕ) → FitsLists l → lists_at (lists_
 unfolding lists_at lists_bytes
 lists_again l rest fits =
     two_again (list_at (number_at 2)) (list_bytes (number_bytes 2)) (FitsList (λ n. n < 2 ^ 16)) narrow_list
-    (list_at scalar_at) (list_bytes (number_bytes 3)) (FitsList IsScalar) wide_list lists_of l.scalars16 l.scalars24 rest
+    (list_at scalar_at) (list_bytes (number_bytes 3)) (FitsList IsScalar) wide_list lists_of l.scalars16 l.scalars24
+    rest
     fits.narrow fits.wide
 
 pub lists : IsField lists_at lists_bytes FitsLists
@@ -388,7 +408,8 @@ unfolding supplement_at supplement_bytes
 supplement_takes bytes x fits e =
     let t = two_take table_at table_bytes FitsTable table (list_at scalar_at) (list_bytes (number_bytes 3))
     (FitsList IsScalar) wide_list supplement_of bytes x fits e in
-    subst (λ (s : Supplement). Takes bytes (supplement_bytes s) x.1 × FitsSupplement s) t.2 (t.3, record { table = t.4; scalars = t.5 })
+    subst (λ (s : Supplement). Takes bytes (supplement_bytes s) x.1 × FitsSupplement s) t.2
+    (t.3, record { table = t.4; scalars = t.5 })
 
 supplement_again : (s : Supplement) (rest : List ℕ) → FitsSupplement s
     → supplement_at (supplement_bytes s ++ rest) ≡ Ok (s, rest)

@@ -1,11 +1,11 @@
 -- Reading items one after another, as a loop does.
-use Rattle.std.proofs.Common.{◌≡◌, ℕ, suc, ◌-◌, ◌+◌, ◌≤◌, ◌<◌, List, [], ◌∷◌, ◌++◌, Result, Ok, Err, refl, sym, ap}
+use Rattle.std.proofs.Common.{◌≡◌, ℕ, suc, ◌-◌, ◌+◌, ◌≤◌, ◌<◌, List, [], ◌∷◌, ◌++◌, Ok, Err, refl, sym, ap}
 use Rattle.std.proofs.Common.{◌∙◌, append_assoc, arith, subst, length, take, get_or, All}
 use Rattle.std.proofs.lemmas.List.{append-nil, take_more}
 use Rattle.std.proofs.lemmas.List.Elements.{All-append, All-cons, All-nil}
 use Rattle.normalizer_prepared.specs.declared.fault.ReadError.{ReadError}
 use Rattle.normalizer_prepared.specs.declared.fault.ReadError.TheVariants as errors
-use Rattle.normalizer_prepared.specs.Reading.{◌>>=◌, Fails, items_at, Read, Wrong}
+use Rattle.normalizer_prepared.specs.Reading.{◌>>=◌, Fails, items_at, Read}
 
 module _ {A : Type 0} where
   -- what was read before, and what is still read

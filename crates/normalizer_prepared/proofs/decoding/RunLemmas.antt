@@ -1,7 +1,9 @@
 -- The runs of words, and the words of runs.
-use Rattle.std.proofs.Common.{◌≡◌, ◌≢◌, ℕ, zero, suc, ◌+◌, ◌-◌, ◌<◌, ◌≤◌, ◌&&◌, Bool, true, false, not, List, [], ◌∷◌, ◌++◌}
-use Rattle.std.proofs.Common.{Option, Some, None, length, get_or, drop, replicate, eqb, refl, sym, ap, subst, ◌∙◌, inl, inr, arith, append_assoc}
-use Rattle.std.proofs.lemmas.Bool.{cases_eq, eqb-true, eqb-false, eq-eqb, ne_eqb, ltb-true, leb-true, lt-ltb, le-leb}
+use Rattle.std.proofs.Common.{◌≡◌, ◌≢◌, ℕ, zero, suc, ◌+◌, ◌-◌, ◌<◌, ◌≤◌, ◌&&◌, Bool, true, false, not, List, [], ◌∷◌}
+use Rattle.std.proofs.Common.{◌++◌}
+use Rattle.std.proofs.Common.{Option, Some, None, length, get_or, drop, replicate, eqb, refl, sym, ap, subst, ◌∙◌, inl}
+use Rattle.std.proofs.Common.{inr, arith}
+use Rattle.std.proofs.lemmas.Bool.{cases_eq, eqb-true, eq-eqb, ne_eqb, ltb-true, leb-true, lt-ltb, le-leb}
 use Rattle.std.proofs.lemmas.List.{at_drop_more, drop_all, length-append, length-replicate}
 use Rattle.normalizer_tables.specs.Table.{code_points}
 use Rattle.normalizer_prepared.specs.declared.run.Run.{Run}
@@ -163,4 +165,5 @@ pub runs-last : (words : List ℕ) (n w : ℕ) → n + 1 ≡ length words → ge
     → runs (drop n words) ≡ run 1 w ∷ []
 unfolding runs joined
 runs-last words n w last same =
-    runs-more words n w (omega (arith, last)) same ∙ ap (λ (x : List ℕ). joined w (runs x)) (drop_all (n + 1) words (omega (arith, last)))
+    runs-more words n w (omega (arith, last)) same
+    ∙ ap (λ (x : List ℕ). joined w (runs x)) (drop_all (n + 1) words (omega (arith, last)))

@@ -1,9 +1,9 @@
 -- The ranges of runs make a table of the words of the runs.
-use Rattle.std.proofs.Common.{◌≡◌, ℕ, ◌+◌, ◌-◌, ◌<◌, ◌≤◌, true, List, [], ◌∷◌, ◌++◌, Option, Some, None, All, AllPairs}
-use Rattle.std.proofs.Common.{length, get_or, replicate, drop, false, eqb, refl, sym, ap, ◌∙◌, inl, inr, arith, append_assoc}
-use Rattle.std.proofs.lemmas.Bool.{cases_lt, leb-true, ltb-true}
-use Rattle.std.proofs.lemmas.List.{ext_get_or, get_or-append_right, get_or-replicate, get_or_append_left, get_or_default}
-use Rattle.std.proofs.lemmas.List.{at_drop_more, at_drop_all, append-nil}
+use Rattle.std.proofs.Common.{◌≡◌, ℕ, ◌+◌, ◌-◌, ◌<◌, ◌≤◌, true, List, [], ◌∷◌, Option, Some, None, All}
+use Rattle.std.proofs.Common.{length, get_or, replicate, refl, sym, ap, ◌∙◌, inl, inr, arith}
+use Rattle.std.proofs.lemmas.Bool.{cases_lt}
+use Rattle.std.proofs.lemmas.List.{ext_get_or, get_or-append_right, get_or-replicate, get_or_append_left}
+use Rattle.std.proofs.lemmas.List.{get_or_default}
 use Rattle.std.proofs.lemmas.List.{length-append, length-replicate}
 use Rattle.std.proofs.lemmas.List.Elements.{All-cons, All-nil}
 use Rattle.std.proofs.lemmas.List.Kept.{AllPairs-cons}
@@ -11,9 +11,9 @@ use Rattle.normalizer_tables.specs.Table.{Table, code_points, word_at}
 use Rattle.normalizer_tables.specs.Ranges.{WordRange, IsRange, IsRangeList, IsTableOf, IsComplete, word_in}
 use Rattle.normalizer_tables.proofs.code_points.WordsInRanges.{word_in-held, word_in-missed}
 use Rattle.normalizer_prepared.specs.declared.run.Run.{Run}
-use Rattle.normalizer_prepared.specs.Runs.{words_of, are_runs, are_runs_from, is_next}
+use Rattle.normalizer_prepared.specs.Runs.{words_of, are_runs, are_runs_from}
 use Rattle.normalizer_prepared.specs.inner.Ranges.{ranges_from}
-use Rattle.normalizer_prepared.proofs.decoding.RunLemmas.{both, run_goes_on, length_words}
+use Rattle.normalizer_prepared.proofs.decoding.RunLemmas.{run_goes_on, length_words}
 
 starts : (n : ℕ) (rs : List Run) → All (λ s. n ≤ s.0) (ranges_from n rs)
 unfolding ranges_from
@@ -32,7 +32,8 @@ are_ranges n before (r ∷ rs) h =
     let rest = are_ranges (n + r.count) (Some r.word) rs s.3 in
     let first : WordRange = (n, n + r.count - 1, r.word) in
     record {
-      ranges = All-cons IsRange first (ranges_from (n + r.count) rs) (omega (arith, s.0), omega (arith, s.0, s.1)) rest.ranges;
+      ranges = All-cons IsRange first (ranges_from (n + r.count) rs)
+          (omega (arith, s.0), omega (arith, s.0, s.1)) rest.ranges;
       rising = AllPairs-cons (λ (x y : WordRange). x.1 < y.0) first (ranges_from (n + r.count) rs)
           (λ k d below. omega (arith, s.0, starts (n + r.count) rs k d below)) rest.rising;
     }

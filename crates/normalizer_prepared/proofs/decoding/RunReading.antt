@@ -1,6 +1,8 @@
 -- Runs that are read one after another, and their ranges.
-use Rattle.std.proofs.Common.{◌≡◌, ◌≢◌, ℕ, zero, suc, ◌+◌, ◌-◌, ◌<◌, ◌≤◌, ◌&&◌, Bool, true, false, cond, eqb, List, [], ◌∷◌, ◌++◌}
-use Rattle.std.proofs.Common.{Option, Some, None, length, Result, Ok, Err, refl, sym, ap, subst, ◌∙◌, arith, append_assoc}
+use Rattle.std.proofs.Common.{◌≡◌, ◌≢◌, ℕ, zero, suc, ◌+◌, ◌-◌, ◌<◌, ◌≤◌, ◌&&◌, Bool, true, false, cond, eqb, List, []}
+use Rattle.std.proofs.Common.{◌∷◌, ◌++◌}
+use Rattle.std.proofs.Common.{Option, Some, None, length, Ok, Err, refl, sym, ap, subst, ◌∙◌, arith}
+use Rattle.std.proofs.Common.{append_assoc}
 use Rattle.std.proofs.lemmas.Bool.{eq-eqb, ne_eqb}
 use Rattle.std.proofs.lemmas.List.{append-nil}
 use Rattle.normalizer_tables.specs.Ranges.{WordRange}
@@ -42,7 +44,8 @@ are-read n before zero bytes x e =
     subst (λ (y : List Run × List ℕ). are_runs_from n before y.0 ≡ true) g.1 g.0
 are-read n before (suc count) bytes x e =
     let a = bind_ok (next_run_at n before bytes) (after_first n count) x e in
-    let b = bind_ok (runs_from (n + a.0.0.count) (Some a.0.0.word) count a.0.1) (λ others. Ok (a.0.0 ∷ others.0, others.1)) x a.2 in
+    let b = bind_ok (runs_from (n + a.0.0.count) (Some a.0.0.word) count a.0.1)
+    (λ others. Ok (a.0.0 ∷ others.0, others.1)) x a.2 in
     let next = next_holds n before bytes a.0 a.1 in
     let rest = are-read (n + a.0.0.count) (Some a.0.0.word) count a.0.1 b.0 b.1 in
     subst (λ (y : List Run × List ℕ). are_runs_from n before y.0 ≡ true) (ok_is (a.0.0 ∷ b.0.0, b.0.1) x b.2)
@@ -98,7 +101,8 @@ module _ (ranges : List WordRange) (count i n : ℕ) (before : Option ℕ) (byte
 -- ---- what was read
 
 pub read-ok : (count : ℕ) (bytes : List ℕ) (ranges : List WordRange) (rest : List ℕ)
-    → with_ranges [] 0 (runs_from 0 None count bytes) ≡ Ok (ranges, rest) → IsReadOf ranges rest (runs_from 0 None count bytes)
+    → with_ranges [] 0 (runs_from 0 None count bytes) ≡ Ok (ranges, rest)
+    → IsReadOf ranges rest (runs_from 0 None count bytes)
 unfolding with_ranges
 read-ok count bytes ranges rest e =
     let a = bind_ok (runs_from 0 None count bytes) (λ x. Ok (ranges_from 0 x.0, x.1)) (ranges, rest) e in

@@ -1,5 +1,5 @@
 -- What the types of data say of their numbers.
-use Rattle.std.specs.Prelude.{ℕ, ◌<◌, ◌^◌, All}
+use Rattle.std.specs.Prelude.{◌<◌, ◌^◌, All}
 use Rattle.std.specs.Char.{IsScalar}
 use Rattle.normalizer_tables.specs.Data.{Lists, Supplement}
 use Rattle.normalizer_packing.specs.declared.Packed.{Packed}

@@ -5,7 +5,8 @@ use Rattle.icu_normalizer_c.proofs.writing.overwrite_utf16.Goals as goal
 pub returns-in_err-outcome : goal.returns-in_err-outcome
 returns-in_err-outcome c =
     overwrites-fault _ _ _ _ _ c.new-buffer.result c.normalize_utf16_to-outcome.new.sink c.new-buffer.ensures.history
-    c.new-buffer.ensures.room (search rules) _ _ c.in_err-outcome.was c.normalize_utf16_to-outcome.ensures.form _ (search rules)
+    c.new-buffer.ensures.room (search rules) _ _ c.in_err-outcome.was c.normalize_utf16_to-outcome.ensures.form _
+    (search rules)
 
 pub returns : goal.returns
 returns c =

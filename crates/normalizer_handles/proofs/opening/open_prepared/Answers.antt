@@ -11,4 +11,5 @@ returns-clause-records c = λ records mapper p builds file.
     let forms = packed-unrefused p never (accepted.nfd records mapper p builds) (accepted.nfc records mapper p builds)
     (accepted.nfkd records mapper p builds) (accepted.nfkc records mapper p builds) in
     opens-by records mapper p builds c.args.prepared.now file forms
-    (λ e refuses. never _ _ NormalizerUts46DataV1 e (accepted.mapper records mapper p builds) refuses) _ _ _ c.open_file.ensures
+    (λ e refuses. never _ _ NormalizerUts46DataV1 e (accepted.mapper records mapper p builds) refuses) _ _ _
+    c.open_file.ensures

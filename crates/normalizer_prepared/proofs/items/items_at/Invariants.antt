@@ -5,4 +5,5 @@ use Rattle.normalizer_prepared.proofs.items.items_at.Given as goal
 
 abbrev pub invariant-loop : goal.invariant-loop
 invariant-loop g l =
-    with_front l.items.items (items_at g.T.Item.item_at (l.count - l.counter) l.rest) ≡ items_at g.T.Item.item_at l.count l.bytes
+    with_front l.items.items (items_at g.T.Item.item_at (l.count - l.counter) l.rest)
+    ≡ items_at g.T.Item.item_at l.count l.bytes

@@ -9,6 +9,8 @@ invariant_of-self g c =
     let us = c.args.units.now in
     record {
       had = still_had b.units.now v b.history.units _ us b.count _ o.fits b.had b.counts o.len c.and-history.ensures;
-      has = still_has b.units.now v b.history.units _ us b.count _ o.fits b.had b.counts o.len c.and-history.ensures b.has o.after;
-      counts = still_counts b.units.now v b.history.units _ us b.count _ o.fits b.had b.counts o.len c.and-history.ensures _ c.saturating_add-self.ensures;
+      has = still_has b.units.now v b.history.units _ us b.count _ o.fits b.had b.counts o.len c.and-history.ensures
+          b.has o.after;
+      counts = still_counts b.units.now v b.history.units _ us b.count _ o.fits b.had b.counts o.len
+          c.and-history.ensures _ c.saturating_add-self.ensures;
     }

@@ -1,28 +1,31 @@
-use Rattle.std.proofs.Common.{◌≡◌, ℕ, List, length, Result, Ok, Err, refl, ap, sym, subst, ◌∙◌, arith}
+use Rattle.std.proofs.Common.{◌≡◌, ℕ, List, length, Result, Ok, refl, ap, sym, ◌∙◌, arith}
 use Rattle.normalizer_packing.specs.declared.Packed.{Packed}
 use Rattle.normalizer_prepared.specs.declared.fault.ReadError.{ReadError}
 use Rattle.normalizer_prepared.specs.declared.fault.ReadError.TheVariants as errors
 use Rattle.normalizer_prepared.specs.Files.{error_for, file_at, IsFirstFault}
+use Rattle.normalizer_prepared.specs.Prepared.{prepared_in}
 use Rattle.normalizer_prepared.specs.Reading.{Fails, Wrong}
 use Rattle.normalizer_prepared.proofs.decoding.Fields.{ok_is}
 use Rattle.normalizer_prepared.proofs.decoding.FileLaws.{is_file, file_again}
 use Rattle.normalizer_prepared.proofs.provider.PreparedData.read.Goals as goal
 
-memory_alone : (e : ReadError) (p : Packed) (read : Result Packed Wrong) → Fails e read → read ≡ Ok p → e ≡ errors.Memory
+memory_alone : (e : ReadError) (p : Packed) (read : Result Packed Wrong) → Fails e read → read ≡ Ok p
+    → e ≡ errors.Memory
 memory_alone errors.Memory p read failed right = refl
 memory_alone (errors.Wrong fault left) p read failed right = absurd cc
 
-first_fault : (bytes : List ℕ) (e : ReadError) → Fails e (file_at bytes) → IsFirstFault bytes (error_for (length bytes) e)
+first_fault : (bytes : List ℕ) (e : ReadError) → Fails e (file_at bytes)
+    → IsFirstFault bytes (error_for (length bytes) e)
 first_fault bytes errors.Memory failed = tt
 first_fault bytes (errors.Wrong fault left) failed = (left, failed, refl)
 
 pub returns-in-Ok-clause-found : goal.returns-in-Ok-clause-found
 returns-in-Ok-clause-found c =
-    is_file c.args.bytes.now c.in-Ok.packed (λ i. omega (arith, c.type_inv.bytes i)) c.in-Ok.ensures
+    is_file c.args.bytes.now (prepared_in c.in-Ok.data) (λ i. omega (arith, c.type_inv.bytes i)) c.in-Ok.ensures
 
 pub returns-in-Ok-clause-only : goal.returns-in-Ok-clause-only
 returns-in-Ok-clause-only c = λ p fits e.
-    (ok_is c.in-Ok.packed p (sym c.in-Ok.ensures ∙ ap file_at e ∙ file_again p fits), tt)
+    (ok_is (prepared_in c.in-Ok.data) p (sym c.in-Ok.ensures ∙ ap file_at e ∙ file_again p fits), tt)
 
 pub returns-in-Err-clause-only : goal.returns-in-Err-clause-only
 returns-in-Err-clause-only c = λ p fits e.
