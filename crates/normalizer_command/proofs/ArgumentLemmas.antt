@@ -1,5 +1,5 @@
 -- What words ask for, by what each is found to name.
-use Rattle.std.proofs.Common.{◌≡◌, ◌∷◌, ℕ, List, [], Option, Some, None, Result, Ok, Err, Bor, Bool, codes, map, subst, true, refl, option_map, unwrap_or, IfOk, IfErr, IfSome, is_some, false, sym, ◌↔◌, ap, inl, inr, ◌∙◌}
+use Rattle.std.proofs.Common.{◌≡◌, ◌≢◌, ◌∷◌, ℕ, List, [], Option, Some, None, Result, Ok, Err, Bor, Bool, codes, map, subst, true, refl, option_map, unwrap_or, IfOk, IfErr, IfSome, is_some, false, sym, ◌↔◌, ap, inl, inr, ◌∙◌}
 use Rattle.clap.proofs.OnLiterals.{clap_on_literals}
 use Rattle.clap.proofs.WalkLemmas.{one_text-rows}
 use Rattle.clap.specs.Matches.{found_of, one_text}
@@ -7,7 +7,7 @@ use Rattle.clap.specs.declared.parser.matches.Found.{Found}
 use Rattle.clap.specs.Simple.{App, HasMatchesOf, is_simple, matches_of}
 use Rattle.clap.specs.Takes.{takes}
 use Rattle.clap.specs.Values.{kind_of}
-use Rattle.clap.specs.Walk.{Text, one_of, rows_of}
+use Rattle.clap.specs.Walk.{Row, Text, first_of, one_of, rows_of}
 use Rattle.clap.specs.declared.error.kind.ErrorKind.TheVariants.{OutOfMemory}
 use Rattle.clap.specs.declared.parser.matches.ArgMatches.{ArgMatches}
 use Rattle.clap.specs.declared.error.Error.{Error}
@@ -20,10 +20,12 @@ use Rattle.normalizer_replies.specs.declared.reply.Task.{Task}
 use Rattle.normalizer_replies.specs.declared.reply.Task.TheVariants.{Write, Check, Locate}
 use Rattle.normalizer_replies.specs.declared.worker.Command.{Command}
 use Rattle.normalizer_replies.specs.declared.worker.Command.TheVariants.{OfForm, OfMapper}
-use Rattle.normalizer_command.specs.Arguments.{AreKnown, AsksFor, IsCommandWord, IsMode, IsScheme, NamesForm, NamesMapperTask, NamesTask}
+use Rattle.normalizer_command.specs.Arguments.{files_of, flag_of, word_of, AreKnown, Asks, AsksFor, HasKnownWords, IsCommandWord, IsFlag, IsMode, IsScheme, NamesForm, NamesMapperTask, NamesTask, PreparesTo, Requests}
+use Rattle.normalizer_command.specs.declared.arguments.Request.{Request}
+use Rattle.normalizer_command.specs.declared.arguments.Request.TheVariants.{Files, Prepare, Unclear, Version}
 use Rattle.normalizer_command.specs.CommandLine.{uninorm}
 
-differ : false ≡ true → ⊥
+pub differ : false ≡ true → ⊥
 differ e = let e = e in cc
 
 -- a task that is followed by a form
@@ -58,10 +60,10 @@ missed None = λ names no x named. let some : is_some (Some x) ≡ false = ap is
 known_word : (word : Option (List ℕ)) (after : List (List ℕ)) (encoding : Option (List ℕ)) (mode : ErrorMode) (command : Command) (names : List (List ℕ))
     → AsksFor (unwrap_or word []) after encoding mode command names → IfSome word IsCommandWord
 known_word None after encoding mode command names asked = tt
-known_word (Some word) after encoding mode (OfMapper t scheme m) names asked = inl (t, asked.0)
-known_word (Some word) after encoding mode (OfForm Write scheme m f) names asked = inr (inr (f, asked.0))
-known_word (Some word) after encoding mode (OfForm Check scheme m f) names asked = inr (inl (Check, asked.0))
-known_word (Some word) after encoding mode (OfForm Locate scheme m f) names asked = inr (inl (Locate, asked.0))
+known_word (Some word) after encoding mode (OfMapper t scheme m) names asked = inr (inl (t, asked.0))
+known_word (Some word) after encoding mode (OfForm Write scheme m f) names asked = inr (inr (inr (f, asked.0)))
+known_word (Some word) after encoding mode (OfForm Check scheme m f) names asked = inr (inr (inl (Check, asked.0)))
+known_word (Some word) after encoding mode (OfForm Locate scheme m f) names asked = inr (inr (inl (Locate, asked.0)))
 
 known_scheme : (word : List ℕ) (after : List (List ℕ)) (encoding : Option (List ℕ)) (mode : ErrorMode) (command : Command) (names : List (List ℕ))
     → AsksFor word after encoding mode command names → (scheme : EncodingScheme) × IsScheme encoding scheme
@@ -109,12 +111,27 @@ pub taken_are : (a : App) (words : List Text) (r : Result ArgMatches Error) → 
 taken_are a words (Ok m) e passes = tt
 taken_are a words (Err x) e passes = λ taken. passes (ap (λ b. takes b words) e ∙ taken)
 
+-- what a flag says
+pub flag_is : (f : Found) (name : Text) (flag : Bool) → (one_text f name ≡ None → flag ≡ false) → (one_text f name ≡ Some (codes "false") → flag ≡ false) → (one_text f name ≡ Some (codes "true") → flag ≡ true)
+    → IsFlag (one_of name (rows_of f)) flag
+flag_is f name true none other value = ((λ e. differ (sym (none (one_text-rows f name ∙ e)))), (λ e. differ (sym (other (one_text-rows f name ∙ e)))))
+flag_is f name false none other value = λ e. differ (value (one_text-rows f name ∙ e))
+
 -- what the flag of `--strict` says
 pub mode_is : (f : Found) (is_strict : Bool) (mode : ErrorMode) → (one_text f (codes "strict") ≡ None → is_strict ≡ false) → (one_text f (codes "strict") ≡ Some (codes "false") → is_strict ≡ false)
     → (one_text f (codes "strict") ≡ Some (codes "true") → is_strict ≡ true) → (is_strict ≡ true → mode ≡ Fatal) → (is_strict ≡ false → mode ≡ Replacement)
     → IsMode (one_of (codes "strict") (rows_of f)) mode
-mode_is f true mode none other value strict not_strict =
-    subst (IsMode (one_of (codes "strict") (rows_of f))) (sym (strict refl))
-    ((λ e. differ (sym (none (one_text-rows f (codes "strict") ∙ e)))), (λ e. differ (sym (other (one_text-rows f (codes "strict") ∙ e)))))
-mode_is f false mode none other value strict not_strict =
-    subst (IsMode (one_of (codes "strict") (rows_of f))) (sym (not_strict refl)) (λ e. differ (value (one_text-rows f (codes "strict") ∙ e)))
+mode_is f true mode none other value strict not_strict = subst (IsMode (one_of (codes "strict") (rows_of f))) (sym (strict refl)) (flag_is f (codes "strict") true none other value)
+mode_is f false mode none other value strict not_strict = subst (IsMode (one_of (codes "strict") (rows_of f))) (sym (not_strict refl)) (flag_is f (codes "strict") false none other value)
+
+-- where no command is requested
+pub without_command : (rows : List Row) (r : Request) → (flag_of rows ≢ Some (codes "true")) → HasKnownWords rows → ((command : Command) (names : List (List ℕ)) → Asks rows command names → ⊥)
+    → PreparesTo (word_of rows) (first_of (codes "data") rows) (files_of rows) r → Requests rows r
+without_command rows (Prepare request) version known nothing p = (version, known, p.0, p.1)
+without_command rows (Unclear reason) version known nothing p = ((λ _. version), inr (nothing, λ name _ asks. p name asks))
+without_command rows (Files request) version known nothing p = absurd p
+without_command rows (Version directory) version known nothing p = absurd p
+
+pub prepares_the_same : (word word' : List ℕ) (directory directory' : Option (List ℕ)) (names names' : List (List ℕ)) (r : Request) → word ≡ word' → directory ≡ directory' → names ≡ names'
+    → PreparesTo word directory names r → PreparesTo word' directory' names' r
+prepares_the_same word word' directory directory' names names' r e f g p = rw (← e, ← f, ← g) p

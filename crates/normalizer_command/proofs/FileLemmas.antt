@@ -9,6 +9,7 @@ use Rattle.normalizer_command.specs.declared.fault.Fault.{Fault}
 use Rattle.normalizer_command.specs.declared.fault.Fault.TheVariants.{Open, Read, Write, Memory, Line, Records, IllFormed, Replaced}
 use Rattle.normalizer_command.specs.FileFaults.{IsFileFault}
 use Rattle.normalizer_command.specs.Devices.{Devices}
+use Rattle.normalizer_command.specs.declared.listing.Listing.{Listing}
 use Rattle.normalizer_command.specs.Outcomes.{AreDone, IsDone, State}
 use Rattle.normalizer_replies.specs.Works.{Work}
 
@@ -21,24 +22,24 @@ name_at names i = (get_or names i (record { ref_ptr = (0, 0); now = [] })).now
 one_more : (names : List (Bor (List ℕ))) (i : ℕ) → i < length names → texts (drop i names) ≡ name_at names i ∷ texts (drop (i + 1) names)
 one_more names i lt = let e : i + 1 ≡ suc i = omega arith in rw e (ap texts (drop-cons names i (record { ref_ptr = (0, 0); now = [] }) lt))
 
-module _ {W : Type 0} (d : Devices W) (w : Work) (names : List (Bor (List ℕ))) (i : ℕ) (s next : State W)
-    (outcome : Result Answer Fault) (lt : i < length names) (done : IsDone d w (name_at names i) s next outcome) where
+module _ {W : Type 0} (d : Devices W) (l : Listing) (w : Work) (names : List (Bor (List ℕ))) (i : ℕ) (s next : State W)
+    (outcome : Result Answer Fault) (lt : i < length names) (done : IsDone d l w (name_at names i) s next outcome) where
   -- one more file, and those after it
-  pub goes_on : (end : State W) → ¬ IsErrOf outcome Write → AreDone d w (texts (drop (i + 1) names)) next end
-      → AreDone d w (texts (drop i names)) s end
+  pub goes_on : (end : State W) → ¬ IsErrOf outcome Write → AreDone d l w (texts (drop (i + 1) names)) next end
+      → AreDone d l w (texts (drop i names)) s end
   unfolding AreDone
   goes_on end unrefused rest = rw (one_more names i lt) (outcome, next, done, (λ refused. absurd (unrefused refused)), λ _. rest)
 
   -- the last file, whose write is refused
-  pub stops : IsErrOf outcome Write → AreDone d w (texts (drop i names)) s next
+  pub stops : IsErrOf outcome Write → AreDone d l w (texts (drop i names)) s next
   unfolding AreDone
   stops refused = rw (one_more names i lt) (outcome, next, done, (λ _. refl), λ unrefused. absurd (unrefused refused))
 
 -- no file is left
-pub is_done : {W : Type 0} (d : Devices W) (w : Work) (names : List (Bor (List ℕ))) (i : ℕ) (s : State W)
-    → length names ≤ i → AreDone d w (texts (drop i names)) s s
+pub is_done : {W : Type 0} (d : Devices W) (l : Listing) (w : Work) (names : List (Bor (List ℕ))) (i : ℕ) (s : State W)
+    → length names ≤ i → AreDone d l w (texts (drop i names)) s s
 unfolding AreDone
-is_done d w names i s le = rw (drop_of_length-le names le) refl
+is_done d l w names i s le = rw (drop_of_length-le names le) refl
 
 -- a fault of what is done with all that was read
 pub fault_of_reply : (Refused Written AllRead Unrefused : Type 0) (r : Result Answer Fault) → AllRead
@@ -53,16 +54,21 @@ fault_of_reply Refused Written AllRead Unrefused (Err (Records error)) read why 
 fault_of_reply Refused Written AllRead Unrefused (Err (IllFormed scheme at)) read why = why
 fault_of_reply Refused Written AllRead Unrefused (Err (Replaced count)) read why = why
 
+-- a fault for other reasons
+pub other_reasons : (Refused Refused' Written Written' Unrefused Unrefused' : Type 0) (Cannot : ErrorKind → Type 0) → (Refused → Refused') → (Written → Written') → (Unrefused → Unrefused')
+    → (fault : Fault) → IsFileFault (λ _. ⊥) Refused Written Unrefused fault → IsFileFault Cannot Refused' Written' Unrefused' fault
+other_reasons Refused Refused' Written Written' Unrefused Unrefused' Cannot f g h (Open kind) why = absurd why
+other_reasons Refused Refused' Written Written' Unrefused Unrefused' Cannot f g h Read why = f why
+other_reasons Refused Refused' Written Written' Unrefused Unrefused' Cannot f g h Write why = g why
+other_reasons Refused Refused' Written Written' Unrefused Unrefused' Cannot f g h Memory why = h why
+other_reasons Refused Refused' Written Written' Unrefused Unrefused' Cannot f g h (Line fault) why = why
+other_reasons Refused Refused' Written Written' Unrefused Unrefused' Cannot f g h (Records fault) why = why
+other_reasons Refused Refused' Written Written' Unrefused Unrefused' Cannot f g h (IllFormed scheme at) why = why
+other_reasons Refused Refused' Written Written' Unrefused Unrefused' Cannot f g h (Replaced count) why = why
+
 -- a fault of an open file is one of the file
 pub fault_of_open_file : (Cannot : ErrorKind → Type 0) (Refused Refused' Written Unrefused Unrefused' : Type 0) (r : Result Answer Fault)
     → (Refused → Refused') → (Unrefused → Unrefused')
     → IfErr r (IsFileFault (λ _. ⊥) Refused Written Unrefused) → IfErr r (IsFileFault Cannot Refused' Written Unrefused')
 fault_of_open_file Cannot Refused Refused' Written Unrefused Unrefused' (Ok answer) f g why = tt
-fault_of_open_file Cannot Refused Refused' Written Unrefused Unrefused' (Err (Open kind)) f g why = absurd why
-fault_of_open_file Cannot Refused Refused' Written Unrefused Unrefused' (Err Read) f g why = f why
-fault_of_open_file Cannot Refused Refused' Written Unrefused Unrefused' (Err Write) f g why = why
-fault_of_open_file Cannot Refused Refused' Written Unrefused Unrefused' (Err Memory) f g why = g why
-fault_of_open_file Cannot Refused Refused' Written Unrefused Unrefused' (Err (Line fault)) f g why = why
-fault_of_open_file Cannot Refused Refused' Written Unrefused Unrefused' (Err (Records error)) f g why = why
-fault_of_open_file Cannot Refused Refused' Written Unrefused Unrefused' (Err (IllFormed scheme at)) f g why = why
-fault_of_open_file Cannot Refused Refused' Written Unrefused Unrefused' (Err (Replaced count)) f g why = why
+fault_of_open_file Cannot Refused Refused' Written Unrefused Unrefused' (Err fault) f g why = other_reasons Refused Refused' Written Written Unrefused Unrefused' Cannot f (λ x. x) g fault why

@@ -9,16 +9,16 @@ use Rattle.std.proofs.lemmas.List.Elements.{All-drop, All-head, All-take}
 use Rattle.std.specs.declared.io.ErrorKind.{ErrorKind}
 use Rattle.std.specs.declared.io.ErrorKind.TheVariants.{NotFound}
 use Rattle.normalizer_ucd.specs.declared.error.UcdFile.{UcdFile}
-use Rattle.normalizer_replies.specs.declared.mapping.MapperTask.TheVariants as mapper
 use Rattle.normalizer_replies.specs.declared.reply.Answer.{Answer}
-use Rattle.normalizer_replies.specs.declared.reply.Task.TheVariants as task
 use Rattle.normalizer_replies.specs.declared.worker.Command.{Command}
 use Rattle.normalizer_replies.specs.Replies.{IsReply}
-use Rattle.normalizer_replies.specs.Works.{Work, OfForm, OfMapper, work_by}
+use Rattle.normalizer_replies.specs.Works.{Work, work_by}
+use Rattle.normalizer_command.specs.Listings.{listed}
+use Rattle.normalizer_command.specs.declared.listing.Listing.{Listing}
 use Rattle.normalizer_command.specs.Devices.{Devices, devices}
 use Rattle.normalizer_command.specs.FileReports.{Report, Tells}
 use Rattle.normalizer_command.specs.InMemory.{bytes_in, reports_of, AreHandled, Effect, IsEffectOf, IsFaultInMemory, IsHandled, IsThere, LacksDataInMemory, NamedBytes, RunsInMemory}
-use Rattle.normalizer_command.specs.Outcomes.{fault_told, greater, status_of, AreDone, IsDone, Leaves, State, state}
+use Rattle.normalizer_command.specs.Outcomes.{fault_told, greater, status_of, AreDone, IsDone, State, state}
 use Rattle.normalizer_command.specs.Runs.{IsRun, LacksData, RunsByFiles}
 use Rattle.normalizer_command.specs.UnicodeFiles.{path_of, IsDataFault, IsReadFault}
 use Rattle.normalizer_command.specs.inner.Kept.{is_refusal, IsOfData}
@@ -57,13 +57,6 @@ told-of : (before now : Option (List Report)) (name : List ℕ) (fault : Option 
 told-of before now name None after known h = record { told = after; was = sym h ∙ known; parts = sym (append-nil after) }
 told-of before now name (Some fault) after known h = told-before before name fault after (subst (λ x. Tells before x (name, fault)) known h)
 
--- nothing is written for a file that can't be opened
-unwritten-open : (w : Work) (kind : ErrorKind) (Unwritten CutOff : Type 0) → Leaves w (Open kind) Unwritten CutOff → Unwritten
-unwritten-open (OfForm task.Write s mode m) kind Unwritten CutOff h = h
-unwritten-open (OfForm task.Check s mode m) kind Unwritten CutOff h = h
-unwritten-open (OfForm task.Locate s mode m) kind Unwritten CutOff h = h
-unwritten-open (OfMapper t s mode m) kind Unwritten CutOff h = h
-
 module _ {W : Type 0} (taken : W → Option (List ℕ)) (items : W → List ℕ) (known : (x : W) → taken x ≡ Some (items x)) (write_refused : W → W → Type 0) (files : List NamedBytes) where
   abbrev pub d : Devices W
   d = devices (bytes_in files) (IsThere files) (λ name kind. (bytes_in files name ≡ None) × (kind ≡ NotFound)) (λ _. ⊤) (λ _. ⊤) taken write_refused
@@ -74,14 +67,14 @@ module _ {W : Type 0} (taken : W → Option (List ℕ)) (items : W → List ℕ)
       by : (t u : Option (List ℕ)) → t ≡ Some (items x) → u ≡ Some (items y) → Appends t u output → items y ≡ items x ++ output
       by t u e f h = let h : Appends (Some (items x)) (Some (items y)) output = subst (λ t. Appends t (Some (items y)) output) e (subst (λ u. Appends t u output) f h) in h
 
-  module _ (w : Work) where
+  module _ (l : Listing) (w : Work) where
     -- ---- one file
 
     record One (name : List ℕ) (s next : State W) (outcome : Result Answer Fault) (after : List Report) : Type 0 where
       told : Told s.told name (fault_told outcome) after
       output : List ℕ
       written : items next.writer ≡ items s.writer ++ output
-      handled : IsHandled w name (bytes_in files name) outcome output
+      handled : IsHandled l w name (bytes_in files name) outcome output
       goes_on : IsErrOf outcome Write → ⊥
 
     one-refused : {A : Type 0} (name : List ℕ) (s next : State W) (fault : Fault) (after : List Report) → Told s.told name (Some fault) after → All IsOfData after → is_refusal fault ≡ true → A
@@ -89,28 +82,28 @@ module _ {W : Type 0} (taken : W → Option (List ℕ)) (items : W → List ℕ)
         absurd (true≢false (sym refused ∙ last-of-data t.told (name, fault) (subst (All IsOfData) t.parts of_data)))
 
     one-replied : (name : List ℕ) (bytes : Option (List ℕ)) → (given : (b : List ℕ) × (bytes ≡ Some b)) → (answer : Answer) (input output : List ℕ) → IfSome bytes (λ all. input ≡ all)
-        → IsReply w name input answer output → IsHandled w name bytes (Ok answer) output
+        → IsReply w name input answer output → IsHandled l w name bytes (Ok answer) (listed l name answer output)
     one-replied name None given answer input output whole reply = let never = given.1 in cc
-    one-replied name (Some all) given answer input output whole reply = (answer, refl, subst (λ x. IsReply w name x answer output) whole reply)
+    one-replied name (Some all) given answer input output whole reply = (answer, output, refl, subst (λ x. IsReply w name x answer output) whole reply, refl)
 
-    one-missing : (name : List ℕ) (bytes : Option (List ℕ)) (kind : ErrorKind) → bytes ≡ None → kind ≡ NotFound → IsHandled w name bytes (Err (Open kind)) []
+    one-missing : (name : List ℕ) (bytes : Option (List ℕ)) (kind : ErrorKind) → bytes ≡ None → kind ≡ NotFound → IsHandled l w name bytes (Err (Open kind)) []
     one-missing name None kind none not_found = (ap (λ k. Err (Open k)) not_found, refl)
     one-missing name (Some all) kind none not_found = cc
 
-    one : (name : List ℕ) (s next : State W) (outcome : Result Answer Fault) (after : List Report) → IsDone d w name s next outcome → next.told ≡ Some after → All IsOfData after → One name s next outcome after
+    one : (name : List ℕ) (s next : State W) (outcome : Result Answer Fault) (after : List Report) → IsDone d l w name s next outcome → next.told ≡ Some after → All IsOfData after → One name s next outcome after
     one name s next (Ok answer) after done now of_data =
         let r = done.done.1 in
         record {
           told = told-of s.told next.told name (fault_told (Ok answer)) after now done.told;
-          output = done.done.0;
-          written = appended s.writer next.writer done.done.0 done.done.2;
+          output = listed l name answer done.done.0;
+          written = appended s.writer next.writer (listed l name answer done.done.0) done.done.2;
           handled = one-replied name (bytes_in files name) done.opened answer r.input done.done.0 r.whole r.reply;
           goes_on = λ refused. cc;
         }
     one name s next (Err (Open kind)) after done now of_data = record {
       told = told-of s.told next.told name (Some (Open kind)) after now done.told;
       output = [];
-      written = ap items (unwritten-open w kind (next.writer ≡ s.writer) _ done.left) ∙ sym (append-nil (items s.writer));
+      written = ap items done.left ∙ sym (append-nil (items s.writer));
       handled = one-missing name (bytes_in files name) kind done.why.0 done.why.1;
       goes_on = λ refused. cc;
     }
@@ -131,7 +124,7 @@ module _ {W : Type 0} (taken : W → Option (List ℕ)) (items : W → List ℕ)
       reported : after ≡ told ++ effect.reports
       written : items t.writer ≡ items s.writer ++ effect.output
       status : t.status ≡ greater s.status effect.status
-      handled : AreHandled files w names effect
+      handled : AreHandled files l w names effect
 
     nothing : (s t : State W) (after : List Report) → s ≡ t → t.told ≡ Some after → Handled [] s t after
     nothing s t after same now = record {
@@ -172,7 +165,7 @@ module _ {W : Type 0} (taken : W → Option (List ℕ)) (items : W → List ℕ)
     }
 
     -- the last file, whose write is refused, is none that is handled
-    last-write : {A : Type 0} (name : List ℕ) (s next t : State W) (after : List Report) → IsDone d w name s next (Err Write) → next ≡ t → t.told ≡ Some after → All IsOfData after → A
+    last-write : {A : Type 0} (name : List ℕ) (s next t : State W) (after : List Report) → IsDone d l w name s next (Err Write) → next ≡ t → t.told ≡ Some after → All IsOfData after → A
     last-write name s next t after done same now of_data =
         let first = one name s next (Err Write) after done (ap (λ x. x.told) same ∙ now) of_data in absurd (first.goes_on refl)
 
@@ -187,7 +180,7 @@ module _ {W : Type 0} (taken : W → Option (List ℕ)) (items : W → List ℕ)
     is-write (Err (IllFormed scheme at)) = inr (λ refused. cc)
     is-write (Err (Replaced count)) = inr (λ refused. cc)
 
-    handled : (names : List (List ℕ)) (s t : State W) → AreDone d w names s t → (after : List Report) → t.told ≡ Some after → All IsOfData after → Handled names s t after
+    handled : (names : List (List ℕ)) (s t : State W) → AreDone d l w names s t → (after : List Report) → t.told ≡ Some after → All IsOfData after → Handled names s t after
     unfolding AreDone
     handled [] s t same after now of_data = nothing s t after same now
     handled (name ∷ names) s t done after now of_data =
@@ -195,7 +188,7 @@ module _ {W : Type 0} (taken : W → Option (List ℕ)) (items : W → List ℕ)
         let next = done.1 in
         elim (is-write outcome) [
           | inl write ↦
-              let here = subst (IsDone d w name s next) write done.2 in
+              let here = subst (IsDone d l w name s next) write done.2 in
               last-write name s next t after here (done.3 (subst (λ o. IsErrOf o Write) (sym write) refl)) now of_data
           | inr other ↦
               let rest = handled names next t (done.4 other) after now of_data in
@@ -212,10 +205,10 @@ module _ {W : Type 0} (taken : W → Option (List ℕ)) (items : W → List ℕ)
       → (let e : Effect = record { output = o; reports = r; status = n } in e) ≡ (let e : Effect = record { output = o'; reports = r'; status = n' } in e)
   effect-same o o' r r' n n' a b c = rw (a, b, c) refl
 
-  runs : (command : Command) (directory : List ℕ) (names : List (List ℕ)) (s t : State W) (after : List Report) → s.told ≡ Some [] → items s.writer ≡ [] → s.status ≡ 0 → t.told ≡ Some after
-      → All IsOfData after → RunsByFiles d command directory names s t → RunsInMemory files command directory names (record { output = items t.writer; reports = after; status = t.status })
-  runs command directory names s t after none empty zero now of_data r =
-      let h = handled (work_by r.records r.uts46 command) names s t r.done after now of_data in
+  runs : (command : Command) (l : Listing) (directory : List ℕ) (names : List (List ℕ)) (s t : State W) (after : List Report) → s.told ≡ Some [] → items s.writer ≡ [] → s.status ≡ 0 → t.told ≡ Some after
+      → All IsOfData after → RunsByFiles d command l directory names s t → RunsInMemory files command l directory names (record { output = items t.writer; reports = after; status = t.status })
+  runs command l directory names s t after none empty zero now of_data r =
+      let h = handled l (work_by r.records r.uts46 command) names s t r.done after now of_data in
       let told : h.told ≡ [] = some-same h.told [] (sym h.was ∙ none) in
       let output : items t.writer ≡ h.effect.output = h.written ∙ ap (λ x. x ++ h.effect.output) empty in
       let reports : after ≡ h.effect.reports = h.reported ∙ ap (λ x. x ++ h.effect.reports) told in
@@ -228,7 +221,7 @@ module _ {W : Type 0} (taken : W → Option (List ℕ)) (items : W → List ℕ)
         records = r.records;
         uts46 = r.uts46;
         recorded = r.recorded;
-        handled = subst (AreHandled files (work_by r.records r.uts46 command) names) (sym (effect-same (items t.writer) h.effect.output after h.effect.reports t.status h.effect.status output reports status)) h.handled;
+        handled = subst (AreHandled files l (work_by r.records r.uts46 command) names) (sym (effect-same (items t.writer) h.effect.output after h.effect.reports t.status h.effect.status output reports status)) h.handled;
       }
     where
       zero-greater : (n : ℕ) → greater 0 n ≡ n
@@ -238,15 +231,15 @@ module _ {W : Type 0} (taken : W → Option (List ℕ)) (items : W → List ℕ)
           by true is = rw is refl
           by false is = rw is (omega (arith, ltb-false 0 n is))
 
-  read-fault : (directory : List ℕ) (command : Command) (file : UcdFile) (fault : Fault) → is_refusal fault ≡ false → IsReadFault d directory file fault → IsFaultInMemory files command directory file fault
-  read-fault directory command file (Open kind) of_data why = inl (why.0, ap Open why.1)
+  read-fault : (directory : List ℕ) (command : Command) (file : UcdFile) (fault : Fault) → is_refusal fault ≡ false → IsReadFault d directory command file fault → IsFaultInMemory files command directory file fault
+  read-fault directory command file (Open kind) of_data why = inl (why.0, why.1.0, ap Open why.1.1)
   read-fault directory command file Read of_data why = cc
   read-fault directory command file Write of_data why = cc
   read-fault directory command file Memory of_data why = cc
-  read-fault directory command file (Line fault) of_data why = absurd why
-  read-fault directory command file (Records error) of_data why = absurd why
-  read-fault directory command file (IllFormed scheme at) of_data why = absurd why
-  read-fault directory command file (Replaced count) of_data why = absurd why
+  read-fault directory command file (Line fault) of_data why = absurd why.1
+  read-fault directory command file (Records error) of_data why = absurd why.1
+  read-fault directory command file (IllFormed scheme at) of_data why = absurd why.1
+  read-fault directory command file (Replaced count) of_data why = absurd why.1
 
   lacks : (command : Command) (directory : List ℕ) (s t : State W) (after : List Report) → s.told ≡ Some [] → items s.writer ≡ [] → t.told ≡ Some after → All IsOfData after
       → LacksData d command directory s t → LacksDataInMemory files command directory (record { output = items t.writer; reports = after; status = t.status })
@@ -264,9 +257,9 @@ module _ {W : Type 0} (taken : W → Option (List ℕ)) (items : W → List ℕ)
         effect = effect-same (items t.writer) [] after (report ∷ []) t.status 2 output parts l.status;
       }
 
-  pub effect-of-run : (command : Command) (directory : List ℕ) (names : List (List ℕ)) (s t : State W) (after : List Report) → s.told ≡ Some [] → items s.writer ≡ [] → s.status ≡ 0 → t.told ≡ Some after
-      → All IsOfData after → IsRun d command directory names s t → IsEffectOf files command directory names (record { output = items t.writer; reports = after; status = t.status })
-  effect-of-run command directory names s t after none empty zero now of_data run = elim run [
-    | inl r ↦ inl (runs command directory names s t after none empty zero now of_data r)
-    | inr l ↦ inr (lacks command directory s t after none empty now of_data l)
+  pub effect-of-run : (command : Command) (l : Listing) (directory : List ℕ) (names : List (List ℕ)) (s t : State W) (after : List Report) → s.told ≡ Some [] → items s.writer ≡ [] → s.status ≡ 0 → t.told ≡ Some after
+      → All IsOfData after → IsRun d command l directory names s t → IsEffectOf files command l directory names (record { output = items t.writer; reports = after; status = t.status })
+  effect-of-run command l directory names s t after none empty zero now of_data run = elim run [
+    | inl r ↦ inl (runs command l directory names s t after none empty zero now of_data r)
+    | inr no_data ↦ inr (lacks command directory s t after none empty now of_data no_data)
   ]

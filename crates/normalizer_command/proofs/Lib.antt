@@ -4,3 +4,5 @@ pub mod WriteLemmas
 pub mod InMemoryLemmas
 pub mod NamedFiles
 pub mod KeptLemmas
+pub mod ListingLemmas
+pub mod CodePointLemmas

@@ -1,6 +1,6 @@
 -- What is written of the form of a file, or of its comparison with it, is what the work is to write, or a beginning.
 use Rattle.std.proofs.Common.{◌≡◌, ◌≢◌, ℕ, List, Option, Result, Ok, Err, IfOk, IfErr, ap, refl, subst, sym}
-use Rattle.std.specs.Prelude.{IsErrAnd, IsErrOf}
+use Rattle.std.specs.Prelude.{IsErrAnd, IsErrOf, MatchBool, true}
 use Rattle.std.specs.Io.KnownBytes.{Appends}
 use Rattle.icu_normalizer.specs.AnyNormalizers.{kind_by, reading_of}
 use Rattle.icu_normalizer.specs.EncodedForm.{encoded_form}
@@ -27,9 +27,21 @@ use Rattle.normalizer_replies.specs.Replies.{IsReplyOfComparison, IsReplyOfForm}
 use Rattle.normalizer_replies.specs.Works.{Does, OfForm, OfMapper, Work}
 use Rattle.normalizer_replies.proofs.MismatchLemmas.{compares-by}
 use Rattle.normalizer_command.specs.FileFaults.{fault_of_transfer}
-use Rattle.normalizer_command.specs.Outcomes.{IsCutOff, IsWritten, Leaves, Replies}
+use Rattle.normalizer_command.specs.Written.{IsCutOff, IsWritten, Replies}
+use Rattle.normalizer_command.specs.Outcomes.{is_unwritten_by, Leaves}
 use Rattle.normalizer_command.specs.declared.fault.Fault.{Fault}
 use Rattle.normalizer_command.specs.declared.fault.Fault.TheVariants as fault
+
+-- what a comparison that fails so leaves
+of_comparison : (f : Fault) (Unwritten CutOff : Type 0) → (f ≡ fault.Write → CutOff) → (f ≢ fault.Write → Unwritten) → MatchBool (is_unwritten_by true f) Unwritten CutOff
+of_comparison (fault.Open kind) Unwritten CutOff cut un = un (λ e. cc)
+of_comparison fault.Read Unwritten CutOff cut un = un (λ e. cc)
+of_comparison fault.Write Unwritten CutOff cut un = cut refl
+of_comparison fault.Memory Unwritten CutOff cut un = un (λ e. cc)
+of_comparison (fault.Line l) Unwritten CutOff cut un = un (λ e. cc)
+of_comparison (fault.Records e) Unwritten CutOff cut un = un (λ e. cc)
+of_comparison (fault.IllFormed e at) Unwritten CutOff cut un = un (λ e. cc)
+of_comparison (fault.Replaced count) Unwritten CutOff cut un = un (λ e. cc)
 
 module _ (s : EncodingScheme) (mode : ErrorMode) (n : AnyNormalizer) (m : Making) (makes : Makes n m) (name : List ℕ) (left before after : Option (List ℕ)) where
   same_form : (text : List ℕ) → form_by s n text ≡ bytes_of s (encoded_form (encoding_of s) m.reading m.form (units_of s text))
@@ -76,54 +88,19 @@ module _ (s : EncodingScheme) (mode : ErrorMode) (n : AnyNormalizer) (m : Making
   comparison_written task other c x (Ok answer) w = (w.0, compared task other c x answer w.0 w.1, w.2)
   comparison_written task other c x (Err fault) w = tt
 
-  leaves_write : (task : Task) → task ≢ Write → (Unwritten CutOff : Type 0) → CutOff → Leaves (OfForm task s mode m) fault.Write Unwritten CutOff
-  leaves_write Write other Unwritten CutOff cut = cut
-  leaves_write Check other Unwritten CutOff cut = cut
-  leaves_write Locate other Unwritten CutOff cut = cut
-
-  pub leaves_other : (task : Task) → task ≢ Write → (f : Fault) → f ≢ fault.Write → (Unwritten CutOff : Type 0) → Unwritten → Leaves (OfForm task s mode m) f Unwritten CutOff
-  leaves_other Write other f differs Unwritten CutOff un = absurd (other refl)
-  leaves_other Check other f differs Unwritten CutOff un = by f differs
-    where
-      by : (f : Fault) → f ≢ fault.Write → Leaves (OfForm Check s mode m) f Unwritten CutOff
-      by (fault.Open kind) differs = un
-      by fault.Read differs = un
-      by fault.Write differs = absurd (differs refl)
-      by fault.Memory differs = un
-      by (fault.Line l) differs = un
-      by (fault.Records e) differs = un
-      by (fault.IllFormed e at) differs = un
-      by (fault.Replaced count) differs = un
-  leaves_other Locate other f differs Unwritten CutOff un = by f differs
-    where
-      by : (f : Fault) → f ≢ fault.Write → Leaves (OfForm Locate s mode m) f Unwritten CutOff
-      by (fault.Open kind) differs = un
-      by fault.Read differs = un
-      by fault.Write differs = absurd (differs refl)
-      by fault.Memory differs = un
-      by (fault.Line l) differs = un
-      by (fault.Records e) differs = un
-      by (fault.IllFormed e at) differs = un
-      by (fault.Replaced count) differs = un
+  -- only a refused write leaves a part of a comparison's reply
+  left_of : (task : Task) → task ≢ Write → (f : Fault) (Unwritten CutOff : Type 0) → (f ≡ fault.Write → CutOff) → (f ≢ fault.Write → Unwritten) → Leaves (OfForm task s mode m) f Unwritten CutOff
+  left_of Write other f Unwritten CutOff cut un = absurd (other refl)
+  left_of Check other f Unwritten CutOff cut un = of_comparison f Unwritten CutOff cut un
+  left_of Locate other f Unwritten CutOff cut un = of_comparison f Unwritten CutOff cut un
 
   pub comparison_left : (task : Task) → task ≢ Write → (c : Comparison) → IsComparison s mode (reading_of n) (kind_by n) left c → (r : Result Answer Fault)
       → (IsErrOf r fault.Write → (answer : Answer) × (output : List ℕ) × TellsComparison task s name c answer output × AppendsFront before after output)
       → (Unwritten : Type 0) → IfErr r (λ f. f ≢ fault.Write → Unwritten)
       → IfErr r (λ f. Leaves (OfForm task s mode m) f Unwritten (IsCutOff (OfForm task s mode m) name left before after))
   comparison_left task other c x (Ok answer) cut Unwritten un = tt
-  comparison_left task other c x (Err f) cut Unwritten un = by f (λ e. cut (ap (λ y. Err y) e)) un
-    where
-      by : (f : Fault) → (f ≡ fault.Write → (answer : Answer) × (output : List ℕ) × TellsComparison task s name c answer output × AppendsFront before after output)
-          → (f ≢ fault.Write → Unwritten) → Leaves (OfForm task s mode m) f Unwritten (IsCutOff (OfForm task s mode m) name left before after)
-      by fault.Write cut un = let k = cut refl in
-          leaves_write task other Unwritten (IsCutOff (OfForm task s mode m) name left before after) (k.0, k.1, compared task other c x k.0 k.1 k.2, k.3)
-      by (fault.Open kind) cut un = leaves_other task other (fault.Open kind) (λ e. cc) Unwritten _ (un (λ e. cc))
-      by fault.Read cut un = leaves_other task other fault.Read (λ e. cc) Unwritten _ (un (λ e. cc))
-      by fault.Memory cut un = leaves_other task other fault.Memory (λ e. cc) Unwritten _ (un (λ e. cc))
-      by (fault.Line l) cut un = leaves_other task other (fault.Line l) (λ e. cc) Unwritten _ (un (λ e. cc))
-      by (fault.Records e) cut un = leaves_other task other (fault.Records e) (λ e. cc) Unwritten _ (un (λ e. cc))
-      by (fault.IllFormed e at) cut un = leaves_other task other (fault.IllFormed e at) (λ e. cc) Unwritten _ (un (λ e. cc))
-      by (fault.Replaced count) cut un = leaves_other task other (fault.Replaced count) (λ e. cc) Unwritten _ (un (λ e. cc))
+  comparison_left task other c x (Err f) cut Unwritten un = left_of task other f Unwritten (IsCutOff (OfForm task s mode m) name left before after)
+      (λ e. let k = cut (ap (λ y. Err y) e) in (k.0, k.1, compared task other c x k.0 k.1 k.2, k.3)) un
 
 -- what holds for each form that a worker may be of holds for its work
 pub work_of_form : (task : Task) (s : EncodingScheme) (mode : ErrorMode) (n : AnyNormalizer) (self : Worker) → self ≡ worker.OfForm task s mode n → (P : Work → Type 0)

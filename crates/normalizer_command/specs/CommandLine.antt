@@ -32,8 +32,30 @@ version_rule = record (new_rule (codes "version")) { long = Some (codes "version
 abbrev pub strict_rule : Rule
 strict_rule = record (new_rule (codes "strict")) { long = Some (codes "strict"); action = Some SetTrue }
 
+-- --quiet, -q
+abbrev pub quiet_rule : Rule
+quiet_rule = record (new_rule (codes "quiet")) { long = Some (codes "quiet"); short = Some 113; action = Some SetTrue }
+
+-- --name-only, -l
+abbrev pub name_only_rule : Rule
+name_only_rule = record (new_rule (codes "name-only")) {
+  long = Some (codes "name-only");
+  short = Some 108;
+  action = Some SetTrue;
+}
+
+-- --null, -z
+abbrev pub null_rule : Rule
+null_rule = record (new_rule (codes "null")) { long = Some (codes "null"); short = Some 122; action = Some SetTrue }
+
+abbrev pub with_reading : App → App
+with_reading a = with_rule (with_rule (with_rule a directory_rule) encoding_rule) strict_rule
+
+abbrev pub with_listing : App → App
+with_listing a = with_rule (with_rule (with_rule a quiet_rule) name_only_rule) null_rule
+
 abbrev pub with_options : App → App
-with_options a = with_rule (with_rule (with_rule (with_rule a directory_rule) encoding_rule) strict_rule) version_rule
+with_options a = with_rule (with_listing (with_reading a)) version_rule
 
 abbrev pub uninorm : App
 uninorm = with_options (with_rule (with_rule (new_app (codes "uninorm")) word_rule) after_rule)

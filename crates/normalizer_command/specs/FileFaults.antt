@@ -5,8 +5,6 @@ use Rattle.std.specs.declared.io.ErrorKind.{ErrorKind}
 use Rattle.normalizer_io.specs.Transfer.{IsUnrefused}
 use Rattle.normalizer_io.specs.declared.outcome.TransferError.{TransferError}
 use Rattle.normalizer_io.specs.declared.outcome.TransferError.TheVariants as transfer
-use Rattle.icu_normalizer.specs.BuildError.{BuildError}
-use Rattle.icu_normalizer.specs.BuildError.TheVariants as build_error
 use Rattle.normalizer_ucd.specs.declared.error.UcdError.{UcdError}
 use Rattle.normalizer_ucd.specs.declared.error.UcdError.TheVariants as ucd
 use Rattle.normalizer_command.specs.declared.fault.Fault.{Fault}
@@ -21,10 +19,6 @@ abbrev pub fault_of_file : UcdError → Fault
 fault_of_file (ucd.Line fault) = Line fault
 fault_of_file ucd.Memory = Memory
 
-abbrev pub fault_of_records : BuildError → Fault
-fault_of_records build_error.Memory = Memory
-fault_of_records error = Records error
-
 -- When a file may fail so: it can't be opened, or a read of it or a write failed, or memory was. That memory was
 -- refused can't be stated; `no_other` says what excludes the other reasons then.
 abbrev pub IsFileFault : (cannot_open : ErrorKind → Type 0) (read_refused write_refused no_other : Type 0) → Fault
@@ -34,7 +28,7 @@ IsFileFault cannot_open read_refused write_refused no_other Read = read_refused
 IsFileFault cannot_open read_refused write_refused no_other Write = write_refused
 IsFileFault cannot_open read_refused write_refused no_other Memory = no_other
 IsFileFault cannot_open read_refused write_refused no_other (Line fault) = ⊥
-IsFileFault cannot_open read_refused write_refused no_other (Records error) = ⊥
+IsFileFault cannot_open read_refused write_refused no_other (Records f) = ⊥
 IsFileFault cannot_open read_refused write_refused no_other (IllFormed scheme at) = ⊥
 IsFileFault cannot_open read_refused write_refused no_other (Replaced count) = ⊥
 

@@ -8,9 +8,11 @@ use Rattle.normalizer_replies.specs.declared.reply.Answer.{Answer}
 use Rattle.normalizer_replies.specs.declared.worker.Command.{Command}
 use Rattle.normalizer_replies.specs.Replies.{IsReply}
 use Rattle.normalizer_replies.specs.Works.{Work, work_by}
+use Rattle.normalizer_command.specs.Listings.{listed}
+use Rattle.normalizer_command.specs.declared.listing.Listing.{Listing}
 use Rattle.normalizer_command.specs.FileReports.{Report}
 use Rattle.normalizer_command.specs.Outcomes.{fault_told, greater, status_of}
-use Rattle.normalizer_command.specs.UnicodeFiles.{AreFiles, AreRecorded, IsFaultOf, path_of}
+use Rattle.normalizer_command.specs.UnicodeFiles.{AreFiles, AreRecorded, IsFaultOf, NeedsFile, path_of}
 use Rattle.normalizer_command.specs.declared.fault.Fault.{Fault}
 use Rattle.normalizer_command.specs.declared.fault.Fault.TheVariants.{Memory, Open}
 use Rattle.normalizer_command.specs.declared.memory.NamedFile.{NamedFile}
@@ -44,21 +46,22 @@ effect_of o = record {
   status = o.status;
 }
 
--- what comes of a file, and what is written: its reply; or no such file is there, and nothing is written
-abbrev pub IsHandled : Work → (name : List ℕ) → (bytes : Option (List ℕ)) → Result Answer Fault → (output : List ℕ) → Type 0
-IsHandled w name None outcome output = (outcome ≡ Err (Open NotFound)) × (output ≡ [])
-IsHandled w name (Some bytes) outcome output =
-    (answer : Answer) × (outcome ≡ Ok answer) × IsReply w name bytes answer output
+-- what comes of a file, and what is written: what is listed of its reply; or no such file is there, and nothing is written
+abbrev pub IsHandled : Listing → Work → (name : List ℕ) → (bytes : Option (List ℕ)) → Result Answer Fault → (output : List ℕ) → Type 0
+IsHandled l w name None outcome output = (outcome ≡ Err (Open NotFound)) × (output ≡ [])
+IsHandled l w name (Some bytes) outcome output =
+    (answer : Answer) × (reply : List ℕ) × (outcome ≡ Ok answer) × IsReply w name bytes answer reply
+    × (output ≡ listed l name answer reply)
 
 -- what is reported of a file
 abbrev pub reports_of : (name : List ℕ) → Result Answer Fault → List Report
 reports_of name outcome = option_to_list (option_map (λ fault. (name, fault)) (fault_told outcome))
 
 -- the files of some names, one after another: outputs and reports are joined, and the status is the greatest
-abbrev pub AreHandled : List NamedBytes → Work → (names : List (List ℕ)) → Effect → Type 0
-AreHandled files w [] e = e ≡ record { output = []; reports = []; status = 0 }
-AreHandled files w (name ∷ names) e = (outcome : Result Answer Fault) × (output : List ℕ) × (rest : Effect)
-    × IsHandled w name (bytes_in files name) outcome output × AreHandled files w names rest
+abbrev pub AreHandled : List NamedBytes → Listing → Work → (names : List (List ℕ)) → Effect → Type 0
+AreHandled files l w [] e = e ≡ record { output = []; reports = []; status = 0 }
+AreHandled files l w (name ∷ names) e = (outcome : Result Answer Fault) × (output : List ℕ) × (rest : Effect)
+    × IsHandled l w name (bytes_in files name) outcome output × AreHandled files l w names rest
     × (e ≡ record {
       output = output ++ rest.output;
       reports = reports_of name outcome ++ rest.reports;
@@ -66,7 +69,7 @@ AreHandled files w (name ∷ names) e = (outcome : Result Answer Fault) × (outp
     })
 
 -- the command is done with each file by what the lines of Unicode's files in a directory mean
-pub record RunsInMemory (files : List NamedBytes) (command : Command) (directory : List ℕ) (names : List (List ℕ)) (e : Effect)
+pub record RunsInMemory (files : List NamedBytes) (command : Command) (l : Listing) (directory : List ℕ) (names : List (List ℕ)) (e : Effect)
     : Type 0 where
   pub unicode_data : List ℕ
   pub exclusions : List ℕ
@@ -75,12 +78,12 @@ pub record RunsInMemory (files : List NamedBytes) (command : Command) (directory
   pub records : List RecordValue
   pub uts46 : List Uts46RecordValue
   pub recorded : AreRecorded unicode_data exclusions table records uts46
-  pub handled : AreHandled files (work_by records uts46 command) names e
+  pub handled : AreHandled files l (work_by records uts46 command) names e
 
--- why there are no data: a file isn't there, or the bytes of the files make none
+-- why there are no data: a file that the command needs isn't there, or the bytes of the files make none
 abbrev pub IsFaultInMemory : List NamedBytes → Command → (directory : List ℕ) → UcdFile → Fault → Type 0
 IsFaultInMemory files command directory file fault =
-    ((bytes_in files (path_of directory file) ≡ None) × (fault ≡ Open NotFound))
+    (NeedsFile command file × (bytes_in files (path_of directory file) ≡ None) × (fault ≡ Open NotFound))
     ⊎ ((unicode_data : List ℕ) × (exclusions : List ℕ) × (table : Option (List ℕ))
     × AreFiles (bytes_in files) (IsThere files) directory command unicode_data exclusions table
     × IsFaultOf unicode_data exclusions table file fault)
@@ -94,6 +97,6 @@ pub record LacksDataInMemory (files : List NamedBytes) (command : Command) (dire
   pub effect : e ≡ record { output = []; reports = (path_of directory file, fault) ∷ []; status = 2 }
 
 -- what the program makes of files, by those of Unicode in a directory
-abbrev pub IsEffectOf : List NamedBytes → Command → (directory : List ℕ) → (names : List (List ℕ)) → Effect → Type 0
-IsEffectOf files command directory names e =
-    RunsInMemory files command directory names e ⊎ LacksDataInMemory files command directory e
+abbrev pub IsEffectOf : List NamedBytes → Command → Listing → (directory : List ℕ) → (names : List (List ℕ)) → Effect → Type 0
+IsEffectOf files command l directory names e =
+    RunsInMemory files command l directory names e ⊎ LacksDataInMemory files command directory e

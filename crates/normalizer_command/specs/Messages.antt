@@ -1,6 +1,15 @@
 -- What is printed of a file that failed.
-use Rattle.std.specs.Prelude.{ℕ, List, ◌∷◌, ◌++◌, codes, decimal, Option, Some, None, option_map, option_copied}
+use Rattle.std.specs.Prelude.{ℕ, List, [], ◌∷◌, ◌++◌, codes, decimal, Option, Some, None, option_map, option_copied}
+use Rattle.icu_normalizer.specs.BuildError.{BuildError}
+use Rattle.icu_normalizer.specs.BuildError.TheVariants as errors
+use Rattle.icu_normalizer.specs.DataMarkerInfo.{DataMarkerInfo}
+use Rattle.icu_normalizer.specs.DataMarkerInfo.TheVariants as markers
+use Rattle.icu_normalizer.specs.RecordAtFault.{RecordAtFault}
+use Rattle.icu_normalizer.specs.RecordAtFault.TheVariants.{OfCharacter, OfMapper}
 use Rattle.normalizer_ucd.specs.Messages.{text_of_problem}
+use Rattle.normalizer_ucd.specs.declared.error.Place.{Place}
+use Rattle.normalizer_replies.specs.Mismatches.{code_point_digits}
+use Rattle.normalizer_command.specs.declared.fault.RecordsFault.{RecordsFault}
 use Rattle.std.specs.declared.io.ErrorKind.TheVariants.{Deadlock, InvalidData, NotFound}
 use Rattle.normalizer_streams.specs.declared.scheme.EncodingScheme.TheVariants.{Utf8, Utf16}
 use Rattle.normalizer_command.specs.FileReports.{Report}
@@ -17,6 +26,44 @@ name_in None name = name
 abbrev pub report_of : Message → Report
 report_of m = (name_in (option_copied m.directory) m.name.now, m.fault)
 
+abbrev pub name_of_marker : DataMarkerInfo → List ℕ
+name_of_marker markers.NormalizerNfdDataV1 = codes "NormalizerNfdDataV1"
+name_of_marker markers.NormalizerNfkdDataV1 = codes "NormalizerNfkdDataV1"
+name_of_marker markers.NormalizerUts46DataV1 = codes "NormalizerUts46DataV1"
+name_of_marker markers.NormalizerNfdTablesV1 = codes "NormalizerNfdTablesV1"
+name_of_marker markers.NormalizerNfkdTablesV1 = codes "NormalizerNfkdTablesV1"
+name_of_marker markers.NormalizerNfcV1 = codes "NormalizerNfcV1"
+name_of_marker markers.NormalizerNfdSupplementV1 = codes "NormalizerNfdSupplementV1"
+
+-- why records can't be built
+abbrev pub text_of_error : BuildError → List ℕ
+text_of_error errors.Order = codes "the records don't strictly rise by character"
+text_of_error errors.Fixed = codes "a record of U+FFFD, a conjoining jamo or a Hangul syllable"
+text_of_error errors.Class = codes "a class of 255, or a list that begins with a mark"
+text_of_error errors.Mapping = codes "a mapping of a wrong length or with a character that it may not have"
+text_of_error errors.Chain = codes "more than 16 records lead from one to the next"
+text_of_error errors.Length = codes "a list is too long"
+text_of_error errors.Pair = codes "two records give the same pair"
+text_of_error (errors.Unfit marker condition) =
+    codes "the data of " ++ (name_of_marker marker ++ (codes " break condition " ++ decimal condition))
+text_of_error errors.TableFull = codes "the lists have more items than the tables hold"
+text_of_error errors.Memory = codes "out of memory"
+
+abbrev pub character_of : RecordAtFault → ℕ
+character_of (OfCharacter c) = c
+character_of (OfMapper c) = c
+
+-- the line of a record, if it is known, and its character, if a single record is at fault
+abbrev pub text_of_record : Option Place → Option RecordAtFault → List ℕ
+text_of_record (Some place) (Some r) =
+    codes "line " ++ (decimal place.line ++ (codes ": U+" ++ (code_point_digits (character_of r) ++ codes ": ")))
+text_of_record None (Some r) = codes "U+" ++ (code_point_digits (character_of r) ++ codes ": ")
+text_of_record place None = []
+
+-- line 15: U+00C0: WHY
+abbrev pub text_of_records : RecordsFault → List ℕ
+text_of_records f = text_of_record f.place f.at_fault ++ text_of_error f.error
+
 -- why, in words that are known; those of other kinds of errors are of the types of these
 abbrev pub text_of_fault : Fault → Option (List ℕ)
 text_of_fault (Open NotFound) = Some (codes "no such file or directory")
@@ -28,7 +75,7 @@ text_of_fault Write = Some (codes "it can't be written")
 text_of_fault Memory = Some (codes "out of memory")
 text_of_fault (Line fault) =
     Some (codes "line " ++ (decimal fault.place.line ++ (codes ": " ++ text_of_problem fault.problem)))
-text_of_fault (Records error) = None
+text_of_fault (Records f) = Some (text_of_records f)
 text_of_fault (IllFormed Utf8 at) = Some (codes "ill-formed UTF-8")
 text_of_fault (IllFormed (Utf16 order) at) = Some (codes "ill-formed UTF-16")
 text_of_fault (Replaced count) = Some (codes "ill-formed sequences replaced by U+FFFD: " ++ decimal count)

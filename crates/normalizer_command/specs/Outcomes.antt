@@ -1,8 +1,7 @@
 -- What becomes of files, one after another.
 use Rattle.std.specs.Prelude.{◌≡◌, ◌⊎◌, ◌==◌, ℕ, List, [], ◌∷◌, Option, Some, None, Result, Ok, Err, IfOk, IfErr, IfSome, IsErrOf, OnOk}
-use Rattle.std.specs.Prelude.{MatchOption, nat_lt, if◌then◌else◌}
-use Rattle.std.specs.Io.KnownBytes.{Appends}
-use Rattle.normalizer_io.specs.Transfer.{AppendsFront, IsUnrefused}
+use Rattle.std.specs.Prelude.{Bool, true, false, MatchBool, MatchOption, nat_lt, if◌then◌else◌}
+use Rattle.normalizer_io.specs.Transfer.{IsUnrefused}
 use Rattle.normalizer_replies.specs.declared.reply.Answer.{Answer}
 use Rattle.normalizer_replies.specs.declared.reply.Answer.TheVariants.{Done, No, Ended}
 use Rattle.normalizer_streams.specs.declared.ill_formed.Ending.TheVariants.{Whole, Stopped}
@@ -12,7 +11,8 @@ use Rattle.normalizer_replies.specs.declared.reply.Task.TheVariants as task
 use Rattle.normalizer_streams.specs.Streams.{IsEndless}
 use Rattle.normalizer_command.specs.Devices.{Devices}
 use Rattle.normalizer_command.specs.FileFaults.{IsFileFault}
-use Rattle.normalizer_replies.specs.Replies.{IsReply}
+use Rattle.normalizer_command.specs.Listings.{IsListed, IsListedInPart}
+use Rattle.normalizer_command.specs.declared.listing.Listing.{Listing}
 use Rattle.normalizer_command.specs.FileReports.{Report, Tells}
 use Rattle.normalizer_replies.specs.Works.{Work, OfForm}
 
@@ -24,23 +24,6 @@ pub record State (W : Type 0) : Type 0 where
 
 abbrev pub state : {W : Type 0} → W → Option (List Report) → ℕ → State W
 state writer told status = record { writer = writer; told = told; status = status }
-
--- the work has this reply to all the bytes of the file, if they are known
-pub record Replies (w : Work) (name : List ℕ) (bytes : Option (List ℕ)) (answer : Answer) (output : List ℕ)
-    : Type 0 where
-  pub input : List ℕ
-  pub whole : IfSome bytes (λ all. input ≡ all)
-  pub reply : IsReply w name input answer output
-
--- the whole reply is written
-abbrev pub IsWritten : Work → (name : List ℕ) → (bytes before after : Option (List ℕ)) → Answer → Type 0
-IsWritten w name bytes before after answer =
-    (output : List ℕ) × Replies w name bytes answer output × Appends before after output
-
--- a prefix of the reply is written
-abbrev pub IsCutOff : Work → (name : List ℕ) → (bytes before after : Option (List ℕ)) → Type 0
-IsCutOff w name bytes before after =
-    (answer : Answer) × (output : List ℕ) × Replies w name bytes answer output × AppendsFront before after output
 
 -- the exit status after a file: 0, or 1 if it isn't in the form or had ill-formed sequences that were replaced, or 2 if
 -- it failed or one was fatal
@@ -63,32 +46,42 @@ fault_told (Err fault) = Some fault
 abbrev pub greater : ℕ → ℕ → ℕ
 greater a b = if nat_lt a b then b else a
 
--- What work leaves that fails so: nothing is written, or a prefix of the reply is. A form is written while its file is
--- read, another reply only then.
-abbrev pub Leaves : Work → Fault → (Unwritten CutOff : Type 0) → Type 0
-Leaves (OfForm task.Write scheme mode m) (Open kind) Unwritten CutOff = Unwritten
-Leaves (OfForm task.Write scheme mode m) fault Unwritten CutOff = CutOff
-Leaves other Write Unwritten CutOff = CutOff
-Leaves other fault Unwritten CutOff = Unwritten
+-- a form is written while the file is read, and another reply once all of it is known
+abbrev pub is_known_first : Work → Bool
+is_known_first (OfForm task.Write scheme mode m) = false
+is_known_first other = true
 
--- One file: it is opened, and its reply is written, or a report says why it failed. A report also says what was
+-- nothing is written of work that fails so
+abbrev pub is_unwritten_by : (known_first : Bool) → Fault → Bool
+is_unwritten_by known_first (Open kind) = true
+is_unwritten_by known_first Write = false
+is_unwritten_by known_first fault = known_first
+
+abbrev pub is_unwritten : Work → Fault → Bool
+is_unwritten w fault = is_unwritten_by (is_known_first w) fault
+
+-- what it leaves: nothing, or a prefix of what is to be listed
+abbrev pub Leaves : Work → Fault → (Unwritten CutOff : Type 0) → Type 0
+Leaves w fault Unwritten CutOff = MatchBool (is_unwritten w fault) Unwritten CutOff
+
+-- One file: it is opened, and its reply is listed, or a report says why it failed. A report also says what was
 -- ill-formed in a form. A source of 2^64 - 1 bytes may count as failed. If memory ran out, the file was opened, and no
 -- read or write failed.
-pub record IsDone {W : Type 0} (d : Devices W) (w : Work) (name : List ℕ) (s t : State W)
+pub record IsDone {W : Type 0} (d : Devices W) (l : Listing) (w : Work) (name : List ℕ) (s t : State W)
     (outcome : Result Answer Fault) : Type 0 where
   pub opened : OnOk outcome (d.can_open name)
-  pub done : IfOk outcome (IsWritten w name (d.bytes_of name) (d.taken s.writer) (d.taken t.writer))
+  pub done : IfOk outcome (IsListed l w name (d.bytes_of name) (d.taken s.writer) (d.taken t.writer))
   pub why : IfErr outcome
       (IsFileFault (d.cannot_open name) (d.read_refused name ⊎ IsEndless (d.bytes_of name))
       (d.write_refused s.writer t.writer) (d.unrefused name × IsUnrefused d.write_refused s.writer t.writer))
   pub left : IfErr outcome (λ fault. Leaves w fault (t.writer ≡ s.writer)
-      (IsCutOff w name (d.bytes_of name) (d.taken s.writer) (d.taken t.writer)))
+      (IsListedInPart l w name (d.bytes_of name) (d.taken s.writer) (d.taken t.writer)))
   pub told : MatchOption (fault_told outcome) (t.told ≡ s.told) (λ fault. Tells s.told t.told (name, fault))
   pub status : t.status ≡ greater s.status (status_of outcome)
 
 -- each file in turn, and none after a failed write
-unfoldable pub AreDone : {W : Type 0} → Devices W → Work → (names : List (List ℕ)) → State W → State W → Type 0
-AreDone d w [] s t = s ≡ t
-AreDone {W} d w (name ∷ names) s t =
-    (outcome : Result Answer Fault) × (next : State W) × IsDone d w name s next outcome
-    × (IsErrOf outcome Write → next ≡ t) × ((IsErrOf outcome Write → ⊥) → AreDone d w names next t)
+unfoldable pub AreDone : {W : Type 0} → Devices W → Listing → Work → (names : List (List ℕ)) → State W → State W → Type 0
+AreDone d l w [] s t = s ≡ t
+AreDone {W} d l w (name ∷ names) s t =
+    (outcome : Result Answer Fault) × (next : State W) × IsDone d l w name s next outcome
+    × (IsErrOf outcome Write → next ≡ t) × ((IsErrOf outcome Write → ⊥) → AreDone d l w names next t)

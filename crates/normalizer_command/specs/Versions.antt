@@ -1,7 +1,9 @@
 -- What is written of versions.
-use Rattle.std.specs.Prelude.{◌≡◌, ◌≢◌, ◌⊎◌, ◌==◌, not, ℕ, List, [], ◌∷◌, ◌++◌, codes, take_while, ⊤}
+use Rattle.std.specs.Prelude.{◌≡◌, ◌≢◌, ◌⊎◌, ℕ, List, [], ◌∷◌, ◌++◌, codes, decimal, Option, Some, None, ⊤}
 use Rattle.std.specs.Io.KnownBytes.{Appends}
 use Rattle.normalizer_io.specs.Transfer.{AppendsFront}
+use Rattle.normalizer_ucd.specs.Versions.{stated_version}
+use Rattle.normalizer_ucd.specs.declared.stated.Version.{Version}
 use Rattle.normalizer_ucd.specs.declared.error.UcdFile.{UcdFile}
 use Rattle.normalizer_ucd.specs.declared.error.UcdFile.TheVariants.{CompositionExclusions}
 use Rattle.normalizer_command.specs.UnicodeFiles.{path_of, IsFile}
@@ -12,13 +14,16 @@ use Rattle.normalizer_command.specs.FileReports.{Tells}
 use Rattle.normalizer_command.specs.declared.fault.Fault.{Fault}
 use Rattle.normalizer_command.specs.declared.fault.Fault.TheVariants.{Write}
 
--- the first line, without its line feed
-abbrev pub first_line : List ℕ → List ℕ
-first_line bytes = take_while (λ b. not (b == 0x0A)) bytes
+-- the version of Unicode, if the data state one
+abbrev pub unicode_text : Option Version → List ℕ
+unicode_text (Some v) =
+    codes "Unicode " ++ (decimal v.major ++ (codes "." ++ (decimal v.minor ++ (codes "." ++ decimal v.update))))
+unicode_text None = codes "Unicode of a version that the data don't state"
 
--- the version of the program, and on a line of its own the first line of the exclusions
+-- the version of the program, and on a line of its own that of Unicode, which the head of the exclusions states
 abbrev pub version_text : List ℕ → List ℕ
-version_text exclusions = codes "uninorm 1.0.0" ++ (0x0A ∷ (first_line exclusions ++ (0x0A ∷ [])))
+version_text exclusions =
+    codes "uninorm 1.0.0" ++ (0x0A ∷ (unicode_text (stated_version exclusions) ++ (0x0A ∷ [])))
 
 -- the exclusions of a directory
 abbrev pub AreExclusions : {W : Type 0} → Devices W → (directory exclusions : List ℕ) → Type 0

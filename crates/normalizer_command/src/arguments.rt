@@ -9,6 +9,7 @@ ghost use Rattle.std.specs.Prelude.{
   map,
   option_copied,
   string_bytes,
+  bytes_eq,
   false,
   true,
   IfErr,
@@ -28,10 +29,15 @@ ghost use Rattle.normalizer_command.specs.CommandLine.{
   after_rule,
   directory_rule,
   encoding_rule,
+  name_only_rule,
+  null_rule,
+  quiet_rule,
   strict_rule,
   uninorm,
   version_rule,
+  with_listing,
   with_options,
+  with_reading,
   word_rule,
 };
 ghost use Rattle.icu_normalizer.specs.declared.any_normalizer.NormalForm.{NormalForm};
@@ -41,7 +47,13 @@ ghost use Rattle.normalizer_replies.specs.declared.mapping.MapperTask.{MapperTas
 ghost use Rattle.normalizer_replies.specs.declared.reply.Task.{Task};
 ghost use Rattle.normalizer_replies.specs.declared.worker.Command.{Command as FileCommand};
 ghost use Rattle.normalizer_command.specs.Arguments.{
+  has_reports,
+  listing_of,
+  of_names,
+  of_reports,
+  of_text,
   or_input,
+  AreFlags,
   AreKnown,
   AsksFor,
   IsCommandWord,
@@ -50,9 +62,11 @@ ghost use Rattle.normalizer_command.specs.Arguments.{
   NamesMapperTask,
   NamesScheme,
   NamesTask,
+  PreparesTo,
   Requests,
 };
 
+use crate::listing::{LineEnd, Listing};
 use clap::{Arg, ArgAction, ArgMatches, Command, Error};
 use icu_normalizer::NormalForm;
 use normalizer_replies::{Command as FileCommand, MapperTask, Task};
@@ -61,11 +75,12 @@ use std::alloc::{AllocError, Global};
 
 /// The commands.
 const WORD_HELP: &str = "\
-nfc, nfd, nfkc, nfkd, check, where, map, validate";
+nfc, nfd, nfkc, nfkd, check, where, map, validate,\n\
+prepare";
 
 /// How text is read and written.
 const ENCODING_HELP: &str = "\
-utf-8 (if none is named), utf-16le or utf-16be: how\n\
+UTF-8 (if none is named), UTF-16LE or UTF-16BE: how\n\
 files are read, and forms and mapped lines written.\n\
 A byte order mark is text. Names and reports are\n\
 UTF-8";
@@ -93,7 +108,10 @@ nfc|nfd|nfkc|nfkd [FILE]...  write that form\n  \
 check FORM [FILE]...         print the names of files that aren't in the form\n  \
 where FORM [FILE]...         print the first mismatch of each file\n  \
 map [FILE]...                write the lines, each mapped by UTS #46\n  \
-validate [FILE]...           print the numbers of lines that aren't valid\n\
+validate [FILE]...           print the numbers of lines that aren't valid\n  \
+prepare FILE                 write the data as one file, which --data may name\n\
+\n\
+FORM is nfc, nfd, nfkc or nfkd. Forms and encodings may be named in any case.\n\
 \n\
 where prints FILE:LINE:BYTE: found U+0061, wanted U+00E4. Lines and bytes in a\n\
 line count from 1. An ill-formed sequence is found as U+FFFD.\n\
@@ -107,25 +125,35 @@ validate prints FILE:LINE: invalid.\n\
 Forms are written, and files compared with them, while they are read. map and\n\
 validate read each file whole first.\n\
 \n\
+-q, -l and -z are for what lists files: check, where and validate.\n\
+\n\
 Status: 0; 1 if ill-formed sequences were replaced in a form or mapped lines, if\n\
-a file isn't in the form (check, where) or a line isn't valid (validate); 2 if a\n\
-file failed.\n\
+a file isn't in the form (check, where), or has a line that isn't valid\n\
+(validate); 2 if a file failed.\n\
 \n\
 Examples:\n  \
 uninorm nfc old.txt >new.txt\n  \
 git ls-files -z | xargs -0 uninorm check nfc\n  \
+find . -name '*.txt' -exec uninorm check -z NFC {} + | xargs -0 ls -l\n  \
 uninorm where nfc --strict notes.txt";
 
 /// The message if the command is unknown.
 const UNKNOWN_COMMAND: &str =
-    "the command is none of nfc, nfd, nfkc, nfkd, check, where, map and validate";
+    "the command is none of nfc, nfd, nfkc, nfkd, check, where, map, validate and prepare";
 
 /// The message if a command is missing.
 const NO_COMMAND: &str =
-    "a command is missing: nfc, nfd, nfkc, nfkd, check, where, map or validate";
+    "a command is missing: nfc, nfd, nfkc, nfkd, check, where, map, validate or prepare";
 
 /// The message if a command that needs a form has none.
 const NO_FORM: &str = "a form is missing: nfc, nfd, nfkc or nfkd";
+
+/// The message if an option of what is listed has no meaning.
+const NO_LISTING: &str =
+    "-q, -l and -z are for check, where and validate; -z is for names, as check or -l lists";
+
+/// The message if prepared data are to be written to no file, or to several.
+const NOT_ONE_FILE: &str = "prepare writes one file: name it, or - for standard output";
 
 /// The message if the encoding is none of those that are known.
 const NO_ENCODING: &str = "the encoding is none of utf-8, utf-16le and utf-16be";
@@ -137,6 +165,8 @@ pub enum Request<'a> {
     Files(FileRequest<'a>),
     /// The versions of the program and of the data in the directory, if one is named.
     Version(Option<&'a str>),
+    /// Prepared data.
+    Prepare(PrepareRequest<'a>),
     /// Nothing, for this reason.
     Unclear(&'static str),
 }
@@ -150,6 +180,25 @@ pub struct FileRequest<'a> {
     pub directory: Option<&'a str>,
     /// The names of the files; `-` is standard input.
     pub names: Vec<&'a str>,
+    /// What is listed of each.
+    pub listing: Listing,
+}
+
+/// Prepared data, to be written to a file.
+#[derive(Drop)]
+pub struct PrepareRequest<'a> {
+    /// The directory of Unicode's files, if one is named.
+    pub directory: Option<&'a str>,
+    /// The name of the file; `-` is standard output.
+    pub name: &'a str,
+}
+
+/// The flags of what is listed.
+#[derive(Clone, Copy)]
+pub(crate) struct Flags {
+    quiet: bool,
+    names: bool,
+    null: bool,
 }
 
 /// Reads the words, the first of which is the program's name.
@@ -186,16 +235,108 @@ fn request_of<'a>(alloc: Global, matches: &ArgMatches<'a>) -> Result<Request<'a>
     if matches.get_flag("version") {
         return Ok(Request::Version(directory));
     }
+    let word = word.unwrap_or("");
+    let Some(listing) = listing_of(word, flags_of(matches)) else {
+        return Ok(Request::Unclear(NO_LISTING));
+    };
     let after = matches.get_strs("file").unwrap_or(&[]);
     let mode = mode_of(matches.get_flag("strict"));
-    match command_of(word.unwrap_or(""), after, encoding, mode) {
+    match command_of(word, after, encoding, mode) {
         Ok((command, names)) => Ok(Request::Files(FileRequest {
             command,
             directory,
             names: or_input(alloc, names)?,
+            listing,
         })),
-        Err(reason) => Ok(Request::Unclear(reason)),
+        Err(reason) => Ok(request_without_command(word, directory, after, reason)),
     }
+}
+
+/// Prepared data, to be written to the one file that is named, or else nothing.
+fn request_without_command<'a>(
+    word: &str,
+    directory: Option<&'a str>,
+    names: &[&'a str],
+    reason: &'static str,
+) -> Request<'a>
+    ensures { PreparesTo word.now (option_copied directory.entry) (map (λ name. name.now) names.now) result }
+{
+    if !is_same(word, "prepare") {
+        return Request::Unclear(reason);
+    }
+    match names {
+        [name] => Request::Prepare(PrepareRequest { directory, name }),
+        _ => Request::Unclear(NOT_ONE_FILE),
+    }
+}
+
+/// The flags of what is listed.
+fn flags_of(matches: &ArgMatches<'_>) -> Flags
+    ensures { AreFlags (rows_of (found_of matches.now)) result }
+{
+    Flags {
+        quiet: matches.get_flag("quiet"),
+        names: matches.get_flag("name-only"),
+        null: matches.get_flag("null"),
+    }
+}
+
+/// What a command lists by these flags, if they have a meaning for it.
+fn listing_of(word: &str, flags: Flags) -> Option<Listing>
+    ensures { result ≡ listing_of word.now flags }
+{
+    if is_same(word, "check") {
+        Some(of_names(flags))
+    } else if has_reports(word) {
+        of_reports(flags)
+    } else {
+        of_text(flags)
+    }
+}
+
+/// Whether the command of a word lists reports.
+fn has_reports(word: &str) -> bool
+    ensures { result ≡ has_reports word.now }
+{
+    is_same(word, "where") || is_same(word, "validate")
+}
+
+fn of_names(flags: Flags) -> Listing
+    ensures { result ≡ of_names flags }
+{
+    if flags.quiet {
+        Listing::Nothing
+    } else if flags.null {
+        Listing::Names(LineEnd::Nul)
+    } else {
+        Listing::Names(LineEnd::LineFeed)
+    }
+}
+
+fn of_reports(flags: Flags) -> Option<Listing>
+    ensures { result ≡ of_reports flags }
+{
+    if flags.quiet || flags.names {
+        Some(of_names(flags))
+    } else {
+        of_text(flags)
+    }
+}
+
+fn of_text(flags: Flags) -> Option<Listing>
+    ensures { result ≡ of_text flags }
+{
+    if flags.quiet || flags.names || flags.null {
+        None
+    } else {
+        Some(Listing::All)
+    }
+}
+
+fn is_same(a: &str, b: &str) -> bool
+    ensures { result ≡ bytes_eq a.now b.now }
+{
+    a == b
 }
 
 /// What is unknown of the words of a command and of an encoding, if they are there.
@@ -216,6 +357,9 @@ fn is_command(word: &str) -> bool
     ensures yes { result ≡ true → IsCommandWord word.now }
     ensures no { result ≡ false → IsCommandWord word.now → ⊥ }
 {
+    if is_same(word, "prepare") {
+        return true;
+    }
     if mapper_task_named(word).is_some() {
         return true;
     }
@@ -319,26 +463,35 @@ fn task_named(word: &str) -> Option<Task>
     }
 }
 
+/// The encoding scheme of this name, in any case.
 fn scheme_named(word: &str) -> Option<EncodingScheme>
     ensures { (scheme : EncodingScheme) → (result ≡ Some scheme) ↔ NamesScheme scheme word.now }
 {
-    match word {
-        "utf-8" => Some(EncodingScheme::Utf8),
-        "utf-16le" => Some(EncodingScheme::Utf16(ByteOrder::Little)),
-        "utf-16be" => Some(EncodingScheme::Utf16(ByteOrder::Big)),
-        _ => None,
+    if word.eq_ignore_ascii_case("utf-8") {
+        Some(EncodingScheme::Utf8)
+    } else if word.eq_ignore_ascii_case("utf-16le") {
+        Some(EncodingScheme::Utf16(ByteOrder::Little))
+    } else if word.eq_ignore_ascii_case("utf-16be") {
+        Some(EncodingScheme::Utf16(ByteOrder::Big))
+    } else {
+        None
     }
 }
 
+/// The form of this name, in any case.
 fn form_named(word: &str) -> Option<NormalForm>
     ensures { (form : NormalForm) → (result ≡ Some form) ↔ NamesForm form word.now }
 {
-    match word {
-        "nfc" => Some(NormalForm::Nfc),
-        "nfd" => Some(NormalForm::Nfd),
-        "nfkc" => Some(NormalForm::Nfkc),
-        "nfkd" => Some(NormalForm::Nfkd),
-        _ => None,
+    if word.eq_ignore_ascii_case("nfc") {
+        Some(NormalForm::Nfc)
+    } else if word.eq_ignore_ascii_case("nfd") {
+        Some(NormalForm::Nfd)
+    } else if word.eq_ignore_ascii_case("nfkc") {
+        Some(NormalForm::Nfkc)
+    } else if word.eq_ignore_ascii_case("nfkd") {
+        Some(NormalForm::Nfkd)
+    } else {
+        None
     }
 }
 
@@ -357,11 +510,26 @@ fn command<'a>(alloc: Global) -> Result<Command<'a>, AllocError>
 fn with_options<'a>(alloc: Global, command: Command<'a>) -> Result<Command<'a>, AllocError>
     ensures { IfOk result (λ all. app_of all ≡ with_options (app_of command.entry)) }
 {
+    let command = with_reading(alloc, command)?;
+    with_listing(alloc, command)?.arg(version(alloc))
+}
+
+fn with_reading<'a>(alloc: Global, command: Command<'a>) -> Result<Command<'a>, AllocError>
+    ensures { IfOk result (λ all. app_of all ≡ with_reading (app_of command.entry)) }
+{
     command
         .arg(directory(alloc))?
         .arg(encoding(alloc))?
-        .arg(strict(alloc))?
-        .arg(version(alloc))
+        .arg(strict(alloc))
+}
+
+fn with_listing<'a>(alloc: Global, command: Command<'a>) -> Result<Command<'a>, AllocError>
+    ensures { IfOk result (λ all. app_of all ≡ with_listing (app_of command.entry)) }
+{
+    command
+        .arg(quiet(alloc))?
+        .arg(name_only(alloc))?
+        .arg(null(alloc))
 }
 
 fn word<'a>(alloc: Global) -> Arg<'a>
@@ -414,6 +582,43 @@ fn strict<'a>(alloc: Global) -> Arg<'a>
         .help(STRICT_HELP)
 }
 
+fn quiet<'a>(alloc: Global) -> Arg<'a>
+    ensures rule { rule_of result ≡ quiet_rule }
+    ensures local { result.global ≡ false }
+{
+    Arg::new(alloc, "quiet")
+        .long("quiet")
+        .short('q')
+        .action(ArgAction::SetTrue)
+        .help(
+            "For check, where, validate: list nothing; the\nstatus says it. Failures are still reported",
+        )
+}
+
+fn name_only<'a>(alloc: Global) -> Arg<'a>
+    ensures rule { rule_of result ≡ name_only_rule }
+    ensures local { result.global ≡ false }
+{
+    Arg::new(alloc, "name-only")
+        .long("name-only")
+        .short('l')
+        .action(ArgAction::SetTrue)
+        .help(
+            "For where, validate: list the name of each file\nthat isn't in the form or valid, once, as check does",
+        )
+}
+
+fn null<'a>(alloc: Global) -> Arg<'a>
+    ensures rule { rule_of result ≡ null_rule }
+    ensures local { result.global ≡ false }
+{
+    Arg::new(alloc, "null")
+        .long("null")
+        .short('z')
+        .action(ArgAction::SetTrue)
+        .help("End each name that check or -l lists with NUL, not\na line feed, for xargs -0")
+}
+
 fn version<'a>(alloc: Global) -> Arg<'a>
     ensures rule { rule_of result ≡ version_rule }
     ensures local { result.global ≡ false }
@@ -423,6 +628,6 @@ fn version<'a>(alloc: Global) -> Arg<'a>
         .short('V')
         .action(ArgAction::SetTrue)
         .help(
-            "Print the version, and the first line of\nCompositionExclusions.txt, which names that of\nUnicode",
+            "Print the version, and that of Unicode, which the\nhead of CompositionExclusions.txt states",
         )
 }

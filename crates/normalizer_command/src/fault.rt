@@ -1,12 +1,18 @@
 //! Why a file failed.
-ghost use Rattle.std.specs.Prelude.{◌≡◌};
-ghost use Rattle.normalizer_command.specs.Messages.{text_of_fault};
-ghost use Rattle.normalizer_command.specs.FileFaults.{fault_of_file, fault_of_records, fault_of_transfer};
+ghost use Rattle.std.specs.Prelude.{◌≡◌, Some};
+ghost use Rattle.normalizer_command.specs.Messages.{
+  character_of,
+  name_of_marker,
+  text_of_error,
+  text_of_fault,
+  text_of_records,
+};
+ghost use Rattle.normalizer_command.specs.FileFaults.{fault_of_file, fault_of_transfer};
 
-use icu_normalizer::{BuildError, NormalizeError};
+use icu_normalizer::{BuildError, DataMarkerInfo, NormalizeError, RecordAtFault};
 use normalizer_io::TransferError;
 use normalizer_streams::{EncodingScheme, Position};
-use normalizer_ucd::{LineFault, UcdError};
+use normalizer_ucd::{LineFault, Place, UcdError};
 use std::alloc::{AllocError, AllocFailed};
 use std::fmt;
 use std::io::ErrorKind;
@@ -25,11 +31,113 @@ pub enum Fault {
     /// A line of a data file is wrong.
     Line(LineFault),
     /// The records of the data files can't be built.
-    Records(BuildError),
+    Records(RecordsFault),
     /// An ill-formed sequence of this encoding scheme begins at this position, and was fatal.
     IllFormed(EncodingScheme, Position),
     /// So many ill-formed sequences were written as U+FFFD.
     Replaced(usize),
+}
+
+/// Why the records of the data files, together, can't be built.
+#[derive(Clone, Copy, PartialEq, Eq)]
+pub struct RecordsFault {
+    /// What is wrong.
+    pub error: BuildError,
+    /// The first record at fault, if a single one is.
+    pub at_fault: Option<RecordAtFault>,
+    /// The line that states it.
+    pub place: Option<Place>,
+}
+
+impl fmt::Display for RecordsFault {
+    ghost output = { λ fault. Some (text_of_records fault) };
+
+    fn fmt<W: fmt::Write>(&self, f: &mut fmt::Formatter<W>) -> fmt::Result {
+        let error = Reason(self.error);
+        match (self.place, self.at_fault) {
+            (Some(place), Some(at_fault)) => {
+                let point = CodePoint(code_of(at_fault));
+                write!(f, "line {}: U+{point}: {error}", place.line)
+            }
+            (None, Some(at_fault)) => {
+                let point = CodePoint(code_of(at_fault));
+                write!(f, "U+{point}: {error}")
+            }
+            (_, None) => write!(f, "{error}"),
+        }
+    }
+}
+
+/// The digits of a code point.
+#[derive(Clone, Copy)]
+struct CodePoint(u32);
+
+impl fmt::Display for CodePoint {
+    ghost use Rattle.normalizer_replies.specs.Mismatches.{code_point_digits};
+
+    ghost output = { λ point. Some (code_point_digits point.0) };
+
+    fn fmt<W: fmt::Write>(&self, f: &mut fmt::Formatter<W>) -> fmt::Result {
+        write!(f, "{:04X}", self.0)
+    }
+}
+
+/// The number of the character of a record.
+fn code_of(at_fault: RecordAtFault) -> u32
+    ensures { result ≡ character_of at_fault }
+{
+    match at_fault {
+        RecordAtFault::OfCharacter(c) | RecordAtFault::OfMapper(c) => c as u32,
+    }
+}
+
+/// The text of why records can't be built.
+#[derive(Clone, Copy)]
+struct Reason(BuildError);
+
+impl fmt::Display for Reason {
+    ghost output = { λ reason. Some (text_of_error reason.0) };
+
+    fn fmt<W: fmt::Write>(&self, f: &mut fmt::Formatter<W>) -> fmt::Result {
+        match self.0 {
+            BuildError::Order => f.write_str("the records don't strictly rise by character"),
+            BuildError::Fixed => {
+                f.write_str("a record of U+FFFD, a conjoining jamo or a Hangul syllable")
+            }
+            BuildError::Class => {
+                f.write_str("a class of 255, or a list that begins with a mark")
+            }
+            BuildError::Mapping => f.write_str(
+                "a mapping of a wrong length or with a character that it may not have",
+            ),
+            BuildError::Chain => f.write_str("more than 16 records lead from one to the next"),
+            BuildError::Length => f.write_str("a list is too long"),
+            BuildError::Pair => f.write_str("two records give the same pair"),
+            BuildError::Unfit { marker, condition } => {
+                let name = name_of(marker);
+                write!(f, "the data of {name} break condition {condition}")
+            }
+            BuildError::TableFull => {
+                f.write_str("the lists have more items than the tables hold")
+            }
+            BuildError::Memory => f.write_str("out of memory"),
+        }
+    }
+}
+
+/// The name of a kind of data.
+fn name_of(marker: DataMarkerInfo) -> &'static str
+    ensures { result.now ≡ name_of_marker marker }
+{
+    match marker {
+        DataMarkerInfo::NormalizerNfdDataV1 => "NormalizerNfdDataV1",
+        DataMarkerInfo::NormalizerNfkdDataV1 => "NormalizerNfkdDataV1",
+        DataMarkerInfo::NormalizerUts46DataV1 => "NormalizerUts46DataV1",
+        DataMarkerInfo::NormalizerNfdTablesV1 => "NormalizerNfdTablesV1",
+        DataMarkerInfo::NormalizerNfkdTablesV1 => "NormalizerNfkdTablesV1",
+        DataMarkerInfo::NormalizerNfcV1 => "NormalizerNfcV1",
+        DataMarkerInfo::NormalizerNfdSupplementV1 => "NormalizerNfdSupplementV1",
+    }
 }
 
 impl fmt::Display for Fault {
@@ -45,7 +153,7 @@ impl fmt::Display for Fault {
             Fault::Write => f.write_str("it can't be written"),
             Fault::Memory => f.write_str("out of memory"),
             Fault::Line(fault) => write!(f, "line {}: {}", fault.place.line, fault.problem),
-            Fault::Records(error) => write!(f, "{error}"),
+            Fault::Records(fault) => write!(f, "{fault}"),
             Fault::IllFormed(EncodingScheme::Utf8, _) => f.write_str("ill-formed UTF-8"),
             Fault::IllFormed(EncodingScheme::Utf16(_), _) => f.write_str("ill-formed UTF-16"),
             Fault::Replaced(count) => write!(f, "ill-formed sequences replaced by U+FFFD: {count}"),
@@ -113,17 +221,6 @@ impl From<UcdError> for Fault {
         match error {
             UcdError::Line(fault) => Fault::Line(fault),
             UcdError::Memory => Fault::Memory,
-        }
-    }
-}
-
-impl From<BuildError> for Fault {
-    ghost from_gives = { λ error fault. fault ≡ fault_of_records error };
-
-    fn from(error: BuildError) -> Fault {
-        match error {
-            BuildError::Memory => Fault::Memory,
-            other => Fault::Records(other),
         }
     }
 }

@@ -1,5 +1,23 @@
 //! A command over files.
-ghost use Rattle.std.specs.Prelude.{◌≡◌, ◌≢◌, ◌↔◌, ◌⊎◌, ℕ, IsTrue, List, map, IfOk, IfErr, IsErrOf, MatchOption, OnOk};
+ghost use Rattle.std.specs.Prelude.{
+  ◌≡◌,
+  ◌≢◌,
+  ◌↔◌,
+  ◌⊎◌,
+  ◌∷◌,
+  ◌++◌,
+  ℕ,
+  [],
+  IsTrue,
+  List,
+  map,
+  IfOk,
+  IfErr,
+  IsErrOf,
+  MatchOption,
+  OnErr,
+  OnOk,
+};
 ghost use Rattle.normalizer_streams.specs.declared.scheme.EncodingScheme.{EncodingScheme};
 ghost use Rattle.std.specs.Io.KnownBytes.{Appends};
 ghost use Rattle.normalizer_replies.specs.declared.reply.Answer.{Answer};
@@ -14,10 +32,10 @@ ghost use Rattle.normalizer_command.specs.Outcomes.{
   state,
   status_of,
   AreDone,
-  IsCutOff,
-  IsWritten,
   Leaves,
 };
+ghost use Rattle.normalizer_command.specs.Listings.{byte_of, listed, IsListed, IsListedInPart};
+ghost use Rattle.normalizer_command.specs.Written.{IsCutOff, IsWritten};
 ghost use Rattle.normalizer_command.specs.FileReports.{Tells};
 ghost use Rattle.normalizer_replies.specs.Making.{Makes, Making};
 ghost use Rattle.normalizer_replies.specs.Mismatches.{TellsComparison};
@@ -25,9 +43,11 @@ ghost use Rattle.normalizer_replies.specs.Works.{Does, IsOfMapper, OfForm, Work}
 
 use crate::devices::{Inputs, Reports};
 use crate::fault::Fault;
+use crate::listing::{LineEnd, Listing};
 use crate::message::Message;
+use crate::unkept::Unkept;
 use icu_normalizer::AnyNormalizer;
-use normalizer_io::{Source, Target, read_all, write_all};
+use normalizer_io::{Source, Target, TransferError, read_all, write_all};
 use normalizer_replies::{Answer, Task, Worker};
 use normalizer_streams::{
     Comparison, EncodingScheme, Ending, ErrorMode, first_mismatch, write_form,
@@ -39,6 +59,7 @@ use std::alloc::Global;
 pub(crate) fn over_files<I: Inputs, W: Target, R: Reports>(
     alloc: Global,
     worker: &Worker,
+    listing: Listing,
     inputs: &I,
     names: &[&str],
     writer: &mut W,
@@ -48,12 +69,12 @@ pub(crate) fn over_files<I: Inputs, W: Target, R: Reports>(
         AreDone
         (devices (I.bytes_of inputs.now) (I.can_open inputs.now) (I.cannot_open inputs.now) (I.unrefused inputs.now)
         (I.read_refused inputs.now) W.bytes_taken W.refusal)
-        w (map (λ name. name.now) names.now)
+        listing w (map (λ name. name.now) names.now)
         (state writer.old (R.reports reports.old) 0) (state writer.new (R.reports reports.new) result) }
 {
     let mut status = 0;
     for name in names {
-        let outcome = over_file(alloc, worker, inputs, name, writer);
+        let outcome = over_file(alloc, worker, listing, inputs, name, writer);
         tell(reports, name, outcome);
         status = greater(status, status_of(outcome));
         if is_refused_write(outcome) {
@@ -63,31 +84,106 @@ pub(crate) fn over_files<I: Inputs, W: Target, R: Reports>(
     status
 }
 
-/// Reads one file, and writes the reply to it.
+/// Reads one file, and lists the reply to it.
 fn over_file<I: Inputs, W: Target>(
     alloc: Global,
     worker: &Worker,
+    listing: Listing,
     inputs: &I,
     name: &str,
     writer: &mut W,
 ) -> Result<Answer, Fault>
     ensures opened { OnOk result (I.can_open inputs.now name.now) }
     ensures done { (w : Work) → Does worker.now w → IfOk result
-        (IsWritten w name.now (I.bytes_of inputs.now name.now) (W.bytes_taken writer.old) (W.bytes_taken writer.new)) }
+        (IsListed listing w name.now (I.bytes_of inputs.now name.now) (W.bytes_taken writer.old) (W.bytes_taken writer.new)) }
     ensures why { IfErr result (IsFileFault (I.cannot_open inputs.now name.now)
         (I.read_refused inputs.now name.now ⊎ IsEndless (I.bytes_of inputs.now name.now))
         (W.refusal writer.old writer.new)
         (I.unrefused inputs.now name.now × IsUnrefused W.refusal writer.old writer.new)) }
     ensures left { (w : Work) → Does worker.now w →
         IfErr result (λ fault. Leaves w fault (writer.new ≡ writer.old)
-        (IsCutOff w name.now (I.bytes_of inputs.now name.now) (W.bytes_taken writer.old) (W.bytes_taken writer.new))) }
+        (IsListedInPart listing w name.now (I.bytes_of inputs.now name.now) (W.bytes_taken writer.old) (W.bytes_taken writer.new))) }
 {
     let mut input = inputs.open(name)?;
-    over_input(alloc, worker, name, &mut input, writer)
+    over_input(alloc, worker, listing, name, &mut input, writer)
 }
 
-/// Does a worker's work with what an open file has.
+/// Does a worker's work with what an open file has, and lists what is to be listed of it.
 fn over_input<S: Source, W: Target>(
+    alloc: Global,
+    worker: &Worker,
+    listing: Listing,
+    name: &str,
+    input: &mut S,
+    writer: &mut W,
+) -> Result<Answer, Fault>
+    ensures done { (w : Work) → Does worker.now w → IfOk result
+        (IsListed listing w name.now (S.bytes_left input.old) (W.bytes_taken writer.old) (W.bytes_taken writer.new)) }
+    ensures why { IfErr result (IsFileFault (λ _. ⊥)
+        (S.refusal input.old input.new ⊎ IsEndless (S.bytes_left input.old)) (W.refusal writer.old writer.new)
+        (IsReadUnrefused (S.bytes_left input.new) S.refusal input.old input.new
+        × IsUnrefused W.refusal writer.old writer.new)) }
+    ensures left { (w : Work) → Does worker.now w →
+        IfErr result (λ fault. Leaves w fault (writer.new ≡ writer.old)
+        (IsListedInPart listing w name.now (S.bytes_left input.old) (W.bytes_taken writer.old) (W.bytes_taken writer.new))) }
+{
+    match listing {
+        Listing::All => write_input(alloc, worker, name, input, writer),
+        Listing::Names(_) | Listing::Nothing => {
+            let answer = write_input(alloc, worker, name, input, &mut Unkept)?;
+            write_name(listing, name, answer, writer)?;
+            Ok(answer)
+        }
+    }
+}
+
+/// Writes the name of a file, if names are listed and it isn't as it is to be.
+fn write_name<W: Target>(
+    listing: Listing,
+    name: &str,
+    answer: Answer,
+    writer: &mut W,
+) -> Result<(), TransferError>
+    requires { listing ≢ Listing.All }
+    ensures bytes { (output : List ℕ) → OnOk result (Appends
+        (W.bytes_taken writer.old) (W.bytes_taken writer.new) (listed listing name.now answer output)) }
+    ensures front { (output : List ℕ) → OnErr result (AppendsFront
+        (W.bytes_taken writer.old) (W.bytes_taken writer.new) (listed listing name.now answer output)) }
+    ensures errors { IfErr result (λ error. error ≡ TransferError.Write) }
+    ensures write { OnErr result (W.refusal writer.old writer.new) }
+{
+    match (listing, answer) {
+        (Listing::Names(end), Answer::No) => write_ended(name.as_bytes(), byte_of(end), writer),
+        _ => Ok(()),
+    }
+}
+
+/// Writes bytes and another one.
+fn write_ended<W: Target>(bytes: &[u8], last: u8, writer: &mut W) -> Result<(), TransferError>
+    ensures bytes { OnOk result
+        (Appends (W.bytes_taken writer.old) (W.bytes_taken writer.new) (bytes.now ++ last ∷ [])) }
+    ensures front { OnErr result
+        (AppendsFront (W.bytes_taken writer.old) (W.bytes_taken writer.new) (bytes.now ++ last ∷ [])) }
+    ensures errors { IfErr result (λ error. error ≡ TransferError.Write) }
+    ensures write { OnErr result (W.refusal writer.old writer.new) }
+{
+    match write_all(writer, bytes) {
+        Ok(()) => write_all(writer, &[last]),
+        Err(error) => Err(error),
+    }
+}
+
+fn byte_of(end: LineEnd) -> u8
+    ensures { result ≡ byte_of end }
+{
+    match end {
+        LineEnd::LineFeed => b'\n',
+        LineEnd::Nul => 0,
+    }
+}
+
+/// Does a worker's work with what an open file has, and writes the reply.
+fn write_input<S: Source, W: Target>(
     alloc: Global,
     worker: &Worker,
     name: &str,

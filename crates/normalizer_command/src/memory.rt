@@ -25,6 +25,7 @@ ghost use Rattle.normalizer_command.specs.inner.Kept.{is_refusal, kept_report, k
 
 use crate::devices::{Inputs, Reports};
 use crate::fault::Fault;
+use crate::listing::Listing;
 use crate::message::Message;
 use crate::run::run;
 use normalizer_io::{Input, Output};
@@ -61,19 +62,20 @@ pub struct Outcome {
     pub status: u8,
 }
 
-/// Does a command with each file of these names in turn, using Unicode's files in a directory. All files, Unicode's
+/// Does a command with each file of these names in turn, and lists what is asked for, using Unicode's files in a directory. All files, Unicode's
 /// too, are in memory, under their names; of two of one name the first counts.
 ///
 /// # Errors
-/// If an allocation failed, or a file has 2^64 - 1 bytes.
+/// If an allocation failed.
 pub fn run_in_memory(
     alloc: Global,
     command: Command,
+    listing: Listing,
     directory: &str,
     names: &[&str],
     files: &[NamedFile<'_>],
 ) -> Result<Outcome, AllocError>
-    ensures { IfOk result (λ outcome. IsEffectOf (files_of files.now) command directory.now
+    ensures { IfOk result (λ outcome. IsEffectOf (files_of files.now) command listing directory.now
         (map (λ name. name.now) names.now) (effect_of outcome)) }
 {
     let mut output = Output(Vec::new(alloc));
@@ -82,6 +84,7 @@ pub fn run_in_memory(
     let status = run(
         alloc,
         command,
+        listing,
         directory,
         names,
         &inputs,

@@ -13,6 +13,7 @@ ghost use Rattle.normalizer_replies.specs.Works.{work_by};
 use crate::devices::{Inputs, Reports};
 use crate::fault::Fault;
 use crate::files::over_files;
+use crate::listing::Listing;
 use crate::message::Message;
 use crate::unicode_files::{DataFault, built, name_of, read_files};
 use icu_normalizer::{Built, NormalizeError};
@@ -27,6 +28,7 @@ use std::alloc::Global;
 pub fn run<I: Inputs, W: Target, R: Reports>(
     alloc: Global,
     command: Command,
+    listing: Listing,
     directory: &str,
     names: &[&str],
     inputs: &I,
@@ -36,10 +38,12 @@ pub fn run<I: Inputs, W: Target, R: Reports>(
     ensures { IsRun
         (devices (I.bytes_of inputs.now) (I.can_open inputs.now) (I.cannot_open inputs.now) (I.unrefused inputs.now)
         (I.read_refused inputs.now) W.bytes_taken W.refusal)
-        command directory.now (map (λ name. name.now) names.now)
+        command listing directory.now (map (λ name. name.now) names.now)
         (state writer.old (R.reports reports.old) 0) (state writer.new (R.reports reports.new) result) }
 {
-    match run_by_files(alloc, command, directory, names, inputs, writer, reports) {
+    match run_by_files(
+        alloc, command, listing, directory, names, inputs, writer, reports,
+    ) {
         Ok(status) => status,
         Err(error) => {
             tell(directory, error, reports);
@@ -52,6 +56,7 @@ pub fn run<I: Inputs, W: Target, R: Reports>(
 fn run_by_files<I: Inputs, W: Target, R: Reports>(
     alloc: Global,
     command: Command,
+    listing: Listing,
     directory: &str,
     names: &[&str],
     inputs: &I,
@@ -61,7 +66,7 @@ fn run_by_files<I: Inputs, W: Target, R: Reports>(
     ensures done { IfOk result (λ status. RunsByFiles
         (devices (I.bytes_of inputs.now) (I.can_open inputs.now) (I.cannot_open inputs.now) (I.unrefused inputs.now)
         (I.read_refused inputs.now) W.bytes_taken W.refusal)
-        command directory.now (map (λ name. name.now) names.now)
+        command listing directory.now (map (λ name. name.now) names.now)
         (state writer.old (R.reports reports.old) 0) (state writer.new (R.reports reports.new) status)) }
     ensures fault { IfErr result (λ e. IsDataFault
         (devices (I.bytes_of inputs.now) (I.can_open inputs.now) (I.cannot_open inputs.now) (I.unrefused inputs.now)
@@ -72,7 +77,9 @@ fn run_by_files<I: Inputs, W: Target, R: Reports>(
 {
     let files = read_files(alloc, inputs, directory, command)?;
     let data = built(alloc, &files)?;
-    match over_data(alloc, &data, command, names, inputs, writer, reports) {
+    match over_data(
+        alloc, &data, command, listing, names, inputs, writer, reports,
+    ) {
         Ok(status) => Ok(status),
         Err(_) => Err(DataFault {
             file: UcdFile::UnicodeData,
@@ -86,6 +93,7 @@ fn over_data<I: Inputs, W: Target, R: Reports>(
     alloc: Global,
     data: &Built,
     command: Command,
+    listing: Listing,
     names: &[&str],
     inputs: &I,
     writer: &mut W,
@@ -96,13 +104,13 @@ fn over_data<I: Inputs, W: Target, R: Reports>(
         Builds records uts46 (data_in «data».now) → IfOk result (λ status. AreDone
         (devices (I.bytes_of inputs.now) (I.can_open inputs.now) (I.cannot_open inputs.now) (I.unrefused inputs.now)
         (I.read_refused inputs.now) W.bytes_taken W.refusal)
-        (work_by records uts46 command) (map (λ name. name.now) names.now)
+        listing (work_by records uts46 command) (map (λ name. name.now) names.now)
         (state writer.old (R.reports reports.old) 0) (state writer.new (R.reports reports.new) status)) }
     ensures unwritten { OnErr result (writer.new ≡ writer.old) }
     ensures untold { OnErr result (reports.new ≡ reports.old) }
 {
     let worker = worker_for(data, command)?;
-    Ok(over_files(alloc, &worker, inputs, names, writer, reports))
+    Ok(over_files(alloc, &worker, listing, inputs, names, writer, reports))
 }
 
 /// Reports which of Unicode's files in a directory failed, and why.

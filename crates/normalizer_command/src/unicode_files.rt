@@ -1,14 +1,20 @@
 //! The data of a directory of Unicode's files.
-ghost use Rattle.std.specs.Prelude.{◌≡◌, List, ⊤, IfOk, IfErr, IfSome, OnOk, string_bytes};
-ghost use Rattle.std.specs.Option.{option_map};
+ghost use Rattle.std.specs.Prelude.{◌≡◌, List, [], ⊤, IfOk, IfErr, IfSome, OnOk, string_bytes, unwrap_or};
+ghost use Rattle.std.specs.Option.{option_and_then, option_map};
+ghost use Rattle.icu_normalizer.specs.AtFault.{IsFirstAtFault};
+ghost use Rattle.icu_normalizer.specs.Building.{IsSmallest};
 ghost use Rattle.icu_normalizer.specs.Built.{data_in};
+ghost use Rattle.normalizer_ucd.specs.RecordPlaces.{place_of_record};
 ghost use Rattle.normalizer_command.specs.UnicodeFiles.{
   AreBuiltOf,
   AreFiles,
   AreRecorded,
   IsFaultOf,
   IsFile,
+  IsFaultOfRecords,
   IsTable,
+  NeedsFile,
+  file_of,
   mapper_records_of,
   name_of,
   path_of,
@@ -19,12 +25,13 @@ ghost use Rattle.normalizer_ucd.specs.declared.error.LineFault.{LineFault};
 ghost use Rattle.normalizer_ucd.specs.FallibleReads.{Gives};
 
 use crate::devices::Inputs;
-use crate::fault::Fault;
-use icu_normalizer::{Built, Record, Records, Uts46Record};
+use crate::fault::{Fault, RecordsFault};
+use icu_normalizer::{BuildError, Built, Record, Records, Uts46Record};
 use normalizer_io::read_all;
 use normalizer_replies::Command;
 use normalizer_ucd::{
-    Disallowed, UcdError, UcdFile, records_of_unicode_data, uts46_records_beside_exclusions,
+    Disallowed, Place, UcdError, UcdFile, place_of_record, records_of_unicode_data,
+    uts46_records_beside_exclusions,
 };
 use std::alloc::{AllocError, Global};
 
@@ -62,6 +69,18 @@ pub(crate) struct DataFiles {
     pub(crate) table: Option<Vec<u8>>,
 }
 
+impl DataFiles {
+    /// The bytes of the mapping table; none if there isn't one.
+    fn table_or_none(&self) -> &[u8]
+        ensures { result.now ≡ unwrap_or (option_map (λ v. v.items) self.now.table) [] }
+    {
+        match &self.table {
+            Some(table) => table,
+            None => &[],
+        }
+    }
+}
+
 /// The bytes of the files that a command needs.
 pub(crate) fn read_files<I: Inputs>(
     alloc: Global,
@@ -73,6 +92,7 @@ pub(crate) fn read_files<I: Inputs>(
         r.unicode_data.items r.exclusions.items (option_map (λ v. v.items) r.table)) }
     ensures fault { IfErr result (λ e. IsFileFault (I.cannot_open inputs.now (path_of directory.now e.file))
         (I.read_refused inputs.now (path_of directory.now e.file)) ⊥ ⊤ e.fault) }
+    ensures needed { IfErr result (λ e. NeedsFile command e.file) }
 {
     let unicode_data = read_file(alloc, inputs, directory, UcdFile::UnicodeData)?;
     let exclusions = read_file(alloc, inputs, directory, UcdFile::CompositionExclusions)?;
@@ -95,6 +115,7 @@ fn read_table<I: Inputs>(
         (option_map (λ v. v.items) t)) }
     ensures fault { IfErr result (λ e. IsFileFault (I.cannot_open inputs.now (path_of directory.now e.file))
         (I.read_refused inputs.now (path_of directory.now e.file)) ⊥ ⊤ e.fault) }
+    ensures needed { IfErr result (λ e. NeedsFile command e.file) }
 {
     match command {
         Command::OfForm(..) => Ok(None),
@@ -115,6 +136,7 @@ pub(crate) fn read_file<I: Inputs>(
     ensures bytes { IfOk result (λ v. IsFile (I.bytes_of inputs.now) (I.can_open inputs.now) directory.now file v.items) }
     ensures fault { IfErr result (λ e. IsFileFault (I.cannot_open inputs.now (path_of directory.now e.file))
         (I.read_refused inputs.now (path_of directory.now e.file)) ⊥ ⊤ e.fault) }
+    ensures file { IfErr result (λ e. e.file ≡ file) }
 {
     let Ok(path) = path(alloc, directory, file) else {
         return Err(DataFault {
@@ -150,10 +172,76 @@ pub(crate) fn built(alloc: Global, files: &DataFiles) -> Result<Built, DataFault
     let (records, uts46) = records_of(alloc, files)?;
     match Records::build(alloc, &records, &uts46) {
         Ok(built) => Ok(built),
-        Err(error) => Err(DataFault {
+        Err(error) => Err(of_records(alloc, files, &records, &uts46, error)),
+    }
+}
+
+/// Why records of the files can't be built.
+fn of_records(
+    alloc: Global,
+    files: &DataFiles,
+    records: &[Record],
+    uts46: &[Uts46Record],
+    error: BuildError,
+) -> DataFault
+    requires { IsSmallest records.now uts46.now error }
+    ensures { IsFaultOfRecords (λ r. place_of_record files.now.unicode_data.items
+        (unwrap_or (option_map (λ v. v.items) files.now.table) []) r) records.now uts46.now result.file result.fault }
+{
+    let fault = if matches!(error, BuildError::Memory) {
+        Err(AllocError)
+    } else {
+        records_fault(alloc, files, records, uts46, error)
+    };
+    match fault {
+        Ok(fault) => DataFault {
+            file: file_of(fault.place),
+            fault: Fault::Records(fault),
+        },
+        Err(AllocError) => DataFault {
             file: UcdFile::UnicodeData,
-            fault: Fault::from(error),
-        }),
+            fault: Fault::Memory,
+        },
+    }
+}
+
+/// The first record at fault, and the line that states it.
+fn records_fault(
+    alloc: Global,
+    files: &DataFiles,
+    records: &[Record],
+    uts46: &[Uts46Record],
+    error: BuildError,
+) -> Result<RecordsFault, AllocError>
+    requires { IsSmallest records.now uts46.now error }
+    ensures { IfOk result (λ f. (f.error ≡ error) × IsFirstAtFault records.now uts46.now error f.at_fault
+        × (f.place ≡ option_and_then (λ r. place_of_record files.now.unicode_data.items
+        (unwrap_or (option_map (λ v. v.items) files.now.table) []) r) f.at_fault)) }
+{
+    let at_fault = Records::first_at_fault(alloc, records, uts46, error)?;
+    let place = match at_fault {
+        Some(at_fault) => place_of_record(
+            alloc,
+            &files.unicode_data,
+            files.table_or_none(),
+            at_fault,
+        )?,
+        None => None,
+    };
+    Ok(RecordsFault {
+        error,
+        at_fault,
+        place,
+    })
+}
+
+/// The file that states a record at fault.
+fn file_of(place: Option<Place>) -> UcdFile
+    ensures { result ≡ file_of place }
+{
+    match place {
+        Some(place) => place.file,
+        None => UcdFile::UnicodeData,
     }
 }
 

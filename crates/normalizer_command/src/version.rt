@@ -1,6 +1,5 @@
 //! The versions of the program and of its data.
-ghost use Rattle.std.specs.Prelude.{◌≡◌, ◌≢◌, ◌==◌, ◌≤◌, length, not, ⊤, IfErr, IfOk, IsErrOf, OnOk};
-ghost use Rattle.std.specs.List.{prefix_len};
+ghost use Rattle.std.specs.Prelude.{◌≡◌, ◌≢◌, ⊤, IfErr, IfOk, IsErrOf, OnOk, string_bytes};
 ghost use Rattle.std.specs.Io.KnownBytes.{Appends};
 ghost use Rattle.normalizer_io.specs.Transfer.{AppendsFront};
 ghost use Rattle.normalizer_command.specs.UnicodeFiles.{path_of};
@@ -8,7 +7,7 @@ ghost use Rattle.normalizer_command.specs.Devices.{devices};
 ghost use Rattle.normalizer_command.specs.FileFaults.{IsFileFault};
 ghost use Rattle.normalizer_command.specs.Outcomes.{state};
 ghost use Rattle.normalizer_command.specs.Versions.{
-  first_line,
+  unicode_text,
   version_text,
   IsVersionAppended,
   IsVersionCutOff,
@@ -20,11 +19,11 @@ use crate::fault::Fault;
 use crate::run::tell;
 use crate::unicode_files::{DataFault, read_file};
 use normalizer_io::{Target, write_all};
-use normalizer_ucd::UcdFile;
+use normalizer_ucd::{UcdFile, Version, stated_version};
 use std::alloc::{AllocError, Global};
 
-/// Writes the version of the program, and the first line of `CompositionExclusions.txt` in a directory, which names the
-/// version of Unicode. Returns the exit status: 0, or 2 if that failed, which is reported.
+/// Writes the version of the program, and that of Unicode, which the head of `CompositionExclusions.txt` in a directory
+/// states. Returns the exit status: 0, or 2 if that failed, which is reported.
 pub fn write_version<I: Inputs, W: Target, R: Reports>(
     alloc: Global,
     directory: &str,
@@ -83,29 +82,26 @@ fn text_written<W: Target>(alloc: Global, exclusions: &[u8], writer: &mut W) -> 
     ensures unwritten { IfErr result (λ fault. fault ≢ Fault.Write → writer.new ≡ writer.old) }
 {
     let text = version_text(alloc, exclusions)?;
-    write_all(writer, &text)?;
+    write_all(writer, text.as_bytes())?;
     Ok(())
 }
 
-fn version_text(alloc: Global, exclusions: &[u8]) -> Result<Vec<u8>, AllocError>
-    ensures { IfOk result (λ text. text.items ≡ version_text exclusions.now) }
+/// The versions, a line each.
+fn version_text(alloc: Global, exclusions: &[u8]) -> Result<String, AllocError>
+    ensures { IfOk result (λ text. string_bytes text ≡ version_text exclusions.now) }
 {
-    let mut text = Vec::new(alloc);
-    text.extend_from_slice(b"uninorm 1.0.0\n")?;
-    text.extend_from_slice(first_line(exclusions))?;
-    text.push(b'\n')?;
-    Ok(text)
+    let unicode = unicode_text(alloc, stated_version(alloc, exclusions)?)?;
+    format!(in alloc; "uninorm 1.0.0\n{unicode}\n")
 }
 
-fn first_line(bytes: &[u8]) -> &[u8]
-    ensures { result.now ≡ first_line bytes.now }
+fn unicode_text(alloc: Global, version: Option<Version>) -> Result<String, AllocError>
+    ensures { IfOk result (λ text. string_bytes text ≡ unicode_text version) }
 {
-    &bytes[..line_len(bytes)]
-}
-
-fn line_len(bytes: &[u8]) -> usize
-    ensures value { result ≡ prefix_len (λ b. not (b == 0x0A)) bytes.now }
-    ensures within { result ≤ length bytes.now }
-{
-    bytes.iter().take_while(|b| **b != b'\n').count()
+    match version {
+        Some(version) => {
+            let (major, minor, update) = (version.major, version.minor, version.update);
+            format!(in alloc; "Unicode {major}.{minor}.{update}")
+        }
+        None => String::from_str(alloc, "Unicode of a version that the data don't state"),
+    }
 }

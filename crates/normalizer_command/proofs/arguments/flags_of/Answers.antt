@@ -1,0 +1,12 @@
+use Rattle.std.proofs.Common.{codes}
+use Rattle.clap.specs.Matches.{found_of}
+use Rattle.normalizer_command.proofs.ArgumentLemmas.{flag_is}
+use Rattle.normalizer_command.proofs.arguments.flags_of.Goals as goal
+
+pub returns : goal.returns
+returns c =
+    let f = found_of c.args.matches.now in (
+      flag_is f (codes "quiet") c.get_flag.result c.get_flag.ensures.none c.get_flag.ensures.other c.get_flag.ensures.value,
+      flag_is f (codes "name-only") c.get_flag-2.result c.get_flag-2.ensures.none c.get_flag-2.ensures.other c.get_flag-2.ensures.value,
+      flag_is f (codes "null") c.get_flag-3.result c.get_flag-3.ensures.none c.get_flag-3.ensures.other c.get_flag-3.ensures.value,
+    )
