@@ -21,45 +21,181 @@ pub struct Results {
     pub offence: Option<Offence>,
 }
 
-/// An input in an encoding, and the calls on it.
-pub trait Encoded: Units {
-    /// The form as it is returned, and whether it is borrowed.
-    fn form(self, alloc: Global, normalizer: &Normalizer<'_>) -> Result<(Vec<char>, bool), Fault>;
+/// An input in an encoding.
+#[derive(Clone, Copy)]
+pub enum Encoded<'t> {
+    Text(&'t str),
+    Bytes(&'t [u8]),
+    Units(&'t [u16]),
+}
+
+impl<'t> Encoded<'t> {
+    /// An input as a row has it.
+    pub fn of(input: &'t Input) -> Encoded<'t> {
+        match input {
+            Input::Text(text) => Encoded::Text(text.as_str()),
+            Input::Bytes(bytes) => Encoded::Bytes(bytes.as_slice()),
+            Input::Units(units) => Encoded::Units(units.as_slice()),
+        }
+    }
+
+    /// How many units it has.
+    pub fn len(self) -> usize {
+        match self {
+            Encoded::Text(text) => text.len(),
+            Encoded::Bytes(bytes) => bytes.len(),
+            Encoded::Units(units) => units.len(),
+        }
+    }
+
+    /// The form as it is returned.
+    fn returned(self, normalizer: &Normalizer<'_>) -> Result<Returned<'t>, NormalizeError> {
+        match self {
+            Encoded::Text(text) => Ok(Returned::Text(normalizer.normalize(text)?)),
+            Encoded::Bytes(bytes) => Ok(Returned::Text(normalizer.normalize_utf8(bytes)?)),
+            Encoded::Units(units) => Ok(Returned::Units(normalizer.normalize_utf16(units)?)),
+        }
+    }
+
+    /// The characters of the form, and whether it is borrowed.
+    pub fn form(
+        self,
+        alloc: Global,
+        normalizer: &Normalizer<'_>,
+    ) -> Result<(Vec<char>, bool), Fault> {
+        self.returned(normalizer)?.characters(alloc)
+    }
 
     /// Whether the form is returned. This allocates nothing else.
-    fn is_returned(self, normalizer: &Normalizer<'_>, form: &[char]) -> Result<bool, Fault>;
+    pub fn is_returned(self, normalizer: &Normalizer<'_>, form: &[char]) -> Result<bool, Fault> {
+        Ok(self.returned(normalizer)?.is(form))
+    }
 
     /// Whether the form is written to a sink after what is there. A failed write leaves a beginning of it. Besides the
     /// sink, and a text of 16-bit units, this allocates nothing else.
-    fn is_written(
+    pub fn is_written(
         self,
         alloc: Global,
         normalizer: &Normalizer<'_>,
         before: &str,
         form: &[char],
-    ) -> Result<bool, Fault>;
+    ) -> Result<bool, Fault> {
+        let mut text = String::new(alloc);
+        let mut units: Vec<u16> = Vec::new(alloc);
+        let written = match self {
+            Encoded::Text(input) => {
+                text.push_str(before)?;
+                normalizer.normalize_to(input, &mut text)
+            }
+            Encoded::Bytes(input) => {
+                text.push_str(before)?;
+                normalizer.normalize_utf8_to(input, &mut text)
+            }
+            Encoded::Units(input) => {
+                units = before.encode_utf16().collect(alloc)?;
+                let written = normalizer.normalize_utf16_to(input, &mut units);
+                text = text_of_units(alloc, &units)?;
+                written
+            }
+        };
+        holds(written, &text, before, form)
+    }
 
-    /// Whether the input is normalized.
-    fn is_own(self, normalizer: &Normalizer<'_>) -> Result<bool, NormalizeError>;
+    /// Whether the iterator over the characters yields the form.
+    pub fn is_yielded(self, normalizer: &Normalizer<'_>, form: &[char]) -> Result<bool, Fault> {
+        match self {
+            Encoded::Text(text) => are_yielded(normalizer, Chars::new(text), form),
+            Encoded::Bytes(bytes) => are_yielded(normalizer, Chars::new(bytes), form),
+            Encoded::Units(units) => are_yielded(normalizer, Chars::new(units), form),
+        }
+    }
+
+    /// Whether it is normalized.
+    pub fn is_own(self, normalizer: &Normalizer<'_>) -> Result<bool, NormalizeError> {
+        match self {
+            Encoded::Text(text) => normalizer.is_normalized(text),
+            Encoded::Bytes(bytes) => normalizer.is_normalized_utf8(bytes),
+            Encoded::Units(units) => normalizer.is_normalized_utf16(units),
+        }
+    }
 
     /// The length of the prefix that may be cut off, if the two parts are the input.
-    fn cut(self, normalizer: &Normalizer<'_>) -> Result<usize, Fault>;
+    pub fn cut(self, normalizer: &Normalizer<'_>) -> Result<usize, Fault> {
+        let (cut, are_the_input) = match self {
+            Encoded::Text(text) => {
+                let (front, rest) = normalizer.split_normalized(text)?;
+                (front.len(), text.strip_prefix(front) == Some(rest))
+            }
+            Encoded::Bytes(bytes) => {
+                let (front, rest) = normalizer.split_normalized_utf8(bytes)?;
+                let front = front.as_bytes();
+                (front.len(), bytes.strip_prefix(front) == Some(rest))
+            }
+            Encoded::Units(units) => {
+                let (front, rest) = normalizer.split_normalized_utf16(units)?;
+                (front.len(), units.strip_prefix(front) == Some(rest))
+            }
+        };
+        agreed(are_the_input)?;
+        Ok(cut)
+    }
 
     /// The first mismatch.
-    fn offence(self, normalizer: &Normalizer<'_>) -> Result<Option<Offence>, NormalizeError>;
+    pub fn offence(self, normalizer: &Normalizer<'_>) -> Result<Option<Offence>, NormalizeError> {
+        match self {
+            Encoded::Text(text) => normalizer.first_offence(text),
+            Encoded::Bytes(bytes) => normalizer.first_offence_utf8(bytes),
+            Encoded::Units(units) => normalizer.first_offence_utf16(units),
+        }
+    }
+}
+
+/// A form as a call returns it.
+#[derive(Drop)]
+enum Returned<'t> {
+    Text(CowStr<'t, Global>),
+    Units(CowSlice<'t, u16, Global>),
+}
+
+impl Returned<'_> {
+    /// Its characters, and whether it is borrowed.
+    fn characters(&self, alloc: Global) -> Result<(Vec<char>, bool), Fault> {
+        match self {
+            Returned::Text(text) => {
+                let characters = text.as_str().chars().collect(alloc)?;
+                Ok((characters, matches!(text, CowStr::Borrowed(_))))
+            }
+            Returned::Units(units) => {
+                let text = text_of_units(alloc, units.as_slice())?;
+                let characters = text.chars().collect(alloc)?;
+                Ok((characters, matches!(units, CowSlice::Borrowed(_))))
+            }
+        }
+    }
+
+    /// Whether these are its characters.
+    fn is(&self, form: &[char]) -> bool {
+        match self {
+            Returned::Text(text) => text.as_str().chars().eq(form.iter().copied()),
+            Returned::Units(units) => {
+                let units = units.as_slice();
+                is_utf16(units) && Utf16Chars::new(units).eq(form.iter().copied())
+            }
+        }
+    }
 }
 
 /// What the calls return, if they agree.
-fn results_of<E: Encoded>(
+fn results_of(
     alloc: Global,
     normalizer: &Normalizer<'_>,
-    input: E,
+    input: Encoded<'_>,
 ) -> Result<Results, Fault> {
     let (form, is_own) = input.form(alloc, normalizer)?;
     let (cut, offence) = places(alloc, normalizer, input, &form)?;
     agreed(
         is_own == input.is_own(normalizer)?
-            && is_own == (cut == Units::len(input))
+            && is_own == (cut == input.len())
             && is_own == offence.is_none(),
     )?;
     Ok(Results {
@@ -71,14 +207,14 @@ fn results_of<E: Encoded>(
 }
 
 /// The cut and the first mismatch, if each call makes this form.
-fn places<E: Encoded>(
+fn places(
     alloc: Global,
     normalizer: &Normalizer<'_>,
-    input: E,
+    input: Encoded<'_>,
     form: &[char],
 ) -> Result<(usize, Option<Offence>), Fault> {
     agreed(
-        input.is_written(alloc, normalizer, BEFORE, form)? && is_yielded(normalizer, input, form)?,
+        input.is_written(alloc, normalizer, BEFORE, form)? && input.is_yielded(normalizer, form)?,
     )?;
     Ok((input.cut(normalizer)?, input.offence(normalizer)?))
 }
@@ -91,8 +227,7 @@ pub fn results_of_input(
 ) -> Result<Results, Fault> {
     match input {
         Input::Text(text) => results_of_text(alloc, normalizer, text),
-        Input::Bytes(bytes) => results_of(alloc, normalizer, bytes.as_slice()),
-        Input::Units(units) => results_of(alloc, normalizer, units.as_slice()),
+        Input::Bytes(_) | Input::Units(_) => results_of(alloc, normalizer, Encoded::of(input)),
     }
 }
 
@@ -102,21 +237,12 @@ fn results_of_text(
     normalizer: &Normalizer<'_>,
     text: &str,
 ) -> Result<Results, Fault> {
-    let of_text = results_of(alloc, normalizer, text)?;
+    let of_text = results_of(alloc, normalizer, Encoded::Text(text))?;
     agreed(
-        are_results_of_bytes(alloc, normalizer, text.as_bytes(), &of_text)?
+        results_of(alloc, normalizer, Encoded::Bytes(text.as_bytes()))? == of_text
             && are_results_of_units(alloc, normalizer, text, &of_text)?,
     )?;
     Ok(of_text)
-}
-
-fn are_results_of_bytes(
-    alloc: Global,
-    normalizer: &Normalizer<'_>,
-    bytes: &[u8],
-    wanted: &Results,
-) -> Result<bool, Fault> {
-    Ok(results_of(alloc, normalizer, bytes)? == *wanted)
 }
 
 fn are_results_of_units(
@@ -126,7 +252,7 @@ fn are_results_of_units(
     wanted: &Results,
 ) -> Result<bool, Fault> {
     let units: Vec<u16> = text.encode_utf16().collect(alloc)?;
-    let found = results_of(alloc, normalizer, units.as_slice())?;
+    let found = results_of(alloc, normalizer, Encoded::Units(&units))?;
     Ok(
         found.form == wanted.form
             && found.is_own == wanted.is_own
@@ -149,13 +275,12 @@ fn offence_in_units(text: &str, offence: Option<Offence>) -> Option<Offence> {
     })
 }
 
-/// Whether the iterator over an input yields a form.
-pub fn is_yielded<E: Encoded>(
+/// Whether the iterator over characters yields a form.
+fn are_yielded<U: Units>(
     normalizer: &Normalizer<'_>,
-    input: E,
+    characters: Chars<U>,
     form: &[char],
 ) -> Result<bool, Fault> {
-    let characters = Chars::new(input);
     match normalizer {
         Normalizer::Decomposing(n) => are(n.normalize_iter(characters)?, form),
         Normalizer::Composing(n) => are(n.normalize_iter(characters)?, form),
@@ -184,133 +309,6 @@ fn holds(
         Ok(()) => Ok(is_beginning && count == form.len()),
         Err(_) if is_beginning && count <= form.len() => Err(Fault::Memory),
         Err(_) => Ok(false),
-    }
-}
-
-fn characters(alloc: Global, form: &CowStr<'_, Global>) -> Result<(Vec<char>, bool), Fault> {
-    let characters = form.as_str().chars().collect(alloc)?;
-    Ok((characters, matches!(form, CowStr::Borrowed(_))))
-}
-
-impl Encoded for &str {
-    fn form(self, alloc: Global, normalizer: &Normalizer<'_>) -> Result<(Vec<char>, bool), Fault> {
-        characters(alloc, &normalizer.normalize(self)?)
-    }
-
-    fn is_returned(self, normalizer: &Normalizer<'_>, form: &[char]) -> Result<bool, Fault> {
-        let found = normalizer.normalize(self)?;
-        Ok(found.as_str().chars().eq(form.iter().copied()))
-    }
-
-    fn is_written(
-        self,
-        alloc: Global,
-        normalizer: &Normalizer<'_>,
-        before: &str,
-        form: &[char],
-    ) -> Result<bool, Fault> {
-        let mut sink = String::from_str(alloc, before)?;
-        let written = normalizer.normalize_to(self, &mut sink);
-        holds(written, &sink, before, form)
-    }
-
-    fn is_own(self, normalizer: &Normalizer<'_>) -> Result<bool, NormalizeError> {
-        normalizer.is_normalized(self)
-    }
-
-    fn cut(self, normalizer: &Normalizer<'_>) -> Result<usize, Fault> {
-        let (front, rest) = normalizer.split_normalized(self)?;
-        cut_between(self.strip_prefix(front) == Some(rest), front.len())
-    }
-
-    fn offence(self, normalizer: &Normalizer<'_>) -> Result<Option<Offence>, NormalizeError> {
-        normalizer.first_offence(self)
-    }
-}
-
-fn cut_between(are_the_input: bool, cut: usize) -> Result<usize, Fault> {
-    agreed(are_the_input)?;
-    Ok(cut)
-}
-
-impl Encoded for &[u8] {
-    fn form(self, alloc: Global, normalizer: &Normalizer<'_>) -> Result<(Vec<char>, bool), Fault> {
-        characters(alloc, &normalizer.normalize_utf8(self)?)
-    }
-
-    fn is_returned(self, normalizer: &Normalizer<'_>, form: &[char]) -> Result<bool, Fault> {
-        let found = normalizer.normalize_utf8(self)?;
-        Ok(found.as_str().chars().eq(form.iter().copied()))
-    }
-
-    fn is_written(
-        self,
-        alloc: Global,
-        normalizer: &Normalizer<'_>,
-        before: &str,
-        form: &[char],
-    ) -> Result<bool, Fault> {
-        let mut sink = String::from_str(alloc, before)?;
-        let written = normalizer.normalize_utf8_to(self, &mut sink);
-        holds(written, &sink, before, form)
-    }
-
-    fn is_own(self, normalizer: &Normalizer<'_>) -> Result<bool, NormalizeError> {
-        normalizer.is_normalized_utf8(self)
-    }
-
-    fn cut(self, normalizer: &Normalizer<'_>) -> Result<usize, Fault> {
-        let (front, rest) = normalizer.split_normalized_utf8(self)?;
-        cut_between(
-            self.strip_prefix(front.as_bytes()) == Some(rest),
-            front.len(),
-        )
-    }
-
-    fn offence(self, normalizer: &Normalizer<'_>) -> Result<Option<Offence>, NormalizeError> {
-        normalizer.first_offence_utf8(self)
-    }
-}
-
-impl Encoded for &[u16] {
-    fn form(self, alloc: Global, normalizer: &Normalizer<'_>) -> Result<(Vec<char>, bool), Fault> {
-        let form = normalizer.normalize_utf16(self)?;
-        let text = text_of_units(alloc, form.as_slice())?;
-        Ok((
-            text.chars().collect(alloc)?,
-            matches!(form, CowSlice::Borrowed(_)),
-        ))
-    }
-
-    fn is_returned(self, normalizer: &Normalizer<'_>, form: &[char]) -> Result<bool, Fault> {
-        let found = normalizer.normalize_utf16(self)?;
-        let units = found.as_slice();
-        Ok(is_utf16(units) && Utf16Chars::new(units).eq(form.iter().copied()))
-    }
-
-    fn is_written(
-        self,
-        alloc: Global,
-        normalizer: &Normalizer<'_>,
-        before: &str,
-        form: &[char],
-    ) -> Result<bool, Fault> {
-        let mut sink: Vec<u16> = before.encode_utf16().collect(alloc)?;
-        let written = normalizer.normalize_utf16_to(self, &mut sink);
-        holds(written, &text_of_units(alloc, &sink)?, before, form)
-    }
-
-    fn is_own(self, normalizer: &Normalizer<'_>) -> Result<bool, NormalizeError> {
-        normalizer.is_normalized_utf16(self)
-    }
-
-    fn cut(self, normalizer: &Normalizer<'_>) -> Result<usize, Fault> {
-        let (front, rest) = normalizer.split_normalized_utf16(self)?;
-        cut_between(self.strip_prefix(front) == Some(rest), front.len())
-    }
-
-    fn offence(self, normalizer: &Normalizer<'_>) -> Result<Option<Offence>, NormalizeError> {
-        normalizer.first_offence_utf16(self)
     }
 }
 

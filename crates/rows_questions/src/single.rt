@@ -3,9 +3,9 @@
 //! the constructor over what is built, of `try nfc` the constructor, of `copies` the copies of each part, of
 //! `unchecked`, `map` and `validate` the iterator, of `ranges` and `pairs` what makes them.
 use crate::data::refusal;
-use crate::encoded::{Encoded, is_yielded};
+use crate::encoded::Encoded;
 use crate::{by_data, mapping, parts};
-use icu_normalizer::{AnyNormalizerBorrowed as Normalizer, Units};
+use icu_normalizer::AnyNormalizerBorrowed as Normalizer;
 use rows_language::fault::{Fault, agreed};
 use rows_language::input::Input;
 use rows_language::setting::Setting;
@@ -26,11 +26,11 @@ pub fn make(
     match question {
         [form @ ("nfd" | "nfc" | "nfkd" | "nfkc"), input @ ..] => {
             let input = Input::read(alloc, input)?;
-            make_on_input(
+            make_on(
                 alloc,
                 &setting.normalizer(form)?.as_borrowed(),
                 call,
-                &input,
+                Encoded::of(&input),
                 stage,
             )
         }
@@ -72,25 +72,11 @@ fn copy(setting: &mut Setting<'_>, stage: Stage) -> Result<(), Fault> {
     agreed(!stage.is_call() || parts::are_copied(held)?)
 }
 
-fn make_on_input(
+fn make_on(
     alloc: Global,
     normalizer: &Normalizer<'_>,
     call: &str,
-    input: &Input,
-    stage: Stage,
-) -> Result<(), Fault> {
-    match input {
-        Input::Text(text) => make_on(alloc, normalizer, call, text.as_str(), stage),
-        Input::Bytes(bytes) => make_on(alloc, normalizer, call, bytes.as_slice(), stage),
-        Input::Units(units) => make_on(alloc, normalizer, call, units.as_slice(), stage),
-    }
-}
-
-fn make_on<E: Encoded>(
-    alloc: Global,
-    normalizer: &Normalizer<'_>,
-    call: &str,
-    input: E,
+    input: Encoded<'_>,
     stage: Stage,
 ) -> Result<(), Fault> {
     let (form, _) = input.form(alloc, normalizer)?;
@@ -98,22 +84,22 @@ fn make_on<E: Encoded>(
 }
 
 /// Makes the call, and returns whether its result goes with the form.
-fn is_right<E: Encoded>(
+fn is_right(
     alloc: Global,
     normalizer: &Normalizer<'_>,
     call: &str,
-    input: E,
+    input: Encoded<'_>,
     form: &[char],
 ) -> Result<bool, Fault> {
     match call {
         "normalize" => input.is_returned(normalizer, form),
         "normalize_to" => input.is_written(alloc, normalizer, "", form),
-        "normalize_iter" => is_yielded(normalizer, input, form),
+        "normalize_iter" => input.is_yielded(normalizer, form),
         "is_normalized" => {
             let _is_own = input.is_own(normalizer)?;
             Ok(true)
         }
-        "split_normalized" => Ok(input.cut(normalizer)? <= Units::len(input)),
+        "split_normalized" => Ok(input.cut(normalizer)? <= input.len()),
         "first_offence" => {
             let _offence = input.offence(normalizer)?;
             Ok(true)
