@@ -1,5 +1,6 @@
 pub mod Covers
 pub mod FaultLemmas
+pub mod FieldCounts
 pub mod Heads
 pub mod Loop
 pub mod RangeLemmas

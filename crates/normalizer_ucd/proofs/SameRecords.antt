@@ -11,7 +11,7 @@ use Rattle.normalizer_ucd.specs.Exclusions.{all_mapped, exclusion_of, exclusions
 use Rattle.normalizer_ucd.specs.FallibleReads.{◌>>=◌, read_each}
 use Rattle.normalizer_ucd.specs.Fields.{data_of, lines}
 use Rattle.normalizer_ucd.specs.Layouts.{MeansTheSame, MeanTheSame}
-use Rattle.normalizer_ucd.specs.UnicodeData.{PositionValue, read_fields, read_line, records_by, records_in}
+use Rattle.normalizer_ucd.specs.UnicodeData.{enough_fields, PositionValue, read_fields, read_line, records_by, records_in}
 use Rattle.normalizer_ucd.specs.UnicodeData.{records_of, start}
 use Rattle.normalizer_ucd.specs.Versions.{agree, stated_in}
 use Rattle.normalizer_ucd.specs.Wholes.{whole_lines}
@@ -101,7 +101,7 @@ data_same line other x y z h is = by (length (data_of line) == 0) (length (data_
 
 line_same : (exclusions : List Exclusion) (n : ℕ) (s : PositionValue) (line other : List ℕ) → MeansTheSame line other →
     read_line exclusions n s line ≡ read_line exclusions n s other
-unfolding read_line read_fields
+unfolding read_line read_fields enough_fields
 line_same exclusions n s line other h =
     data_same line other _ _ _ h (rw (h.fields 14, h.fields 0, h.fields 1, h.fields 3, h.fields 5) refl)
 

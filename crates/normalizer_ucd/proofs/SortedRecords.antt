@@ -16,8 +16,8 @@ use Rattle.normalizer_ucd.specs.declared.error.UcdFile.TheVariants as files
 use Rattle.normalizer_ucd.specs.Exclusions.{all_mapped, exclusions_in}
 use Rattle.normalizer_ucd.specs.FallibleReads.{◌>>=◌, fault, read_each}
 use Rattle.normalizer_ucd.specs.Fields.{data_of, is_scalar_value}
-use Rattle.normalizer_ucd.specs.UnicodeData.{class_of, closed_end, code_of, entry_of, field_of, follows, is_blank}
-use Rattle.normalizer_ucd.specs.UnicodeData.{is_listed, opened}
+use Rattle.normalizer_ucd.specs.UnicodeData.{class_of, closed_end, code_of, enough_fields, entry_of, field_of}
+use Rattle.normalizer_ucd.specs.UnicodeData.{follows, is_blank, is_listed, opened}
 use Rattle.normalizer_ucd.specs.UnicodeData.{mapping_of, part_named, place, PositionValue, range_name, read_fields}
 use Rattle.normalizer_ucd.specs.UnicodeData.{read_line, records_by, records_in}
 use Rattle.normalizer_ucd.specs.UnicodeData.{records_of, start, step}
@@ -82,7 +82,7 @@ fields_within : (exclusions : List Exclusion) (at : Place) (position next : Posi
     AreWithin character position.next next.next (option_to_list found)
 unfolding read_fields
 fields_within exclusions at position next line found h =
-    let last = bound (field_of at line 14) _ _ h in
+    let last = bound (enough_fields at line) _ _ h in
     let code = bound (code_of at line) _ _ last.then_is in
     let name = bound (field_of at line 1) _ _ code.then_is in
     let class = bound (class_of at line) _ _ name.then_is in

@@ -24,7 +24,7 @@ use Rattle.normalizer_ucd.specs.FallibleReads.{◌>>=◌, fault, read_each}
 use Rattle.normalizer_ucd.specs.Fields.{character, characters_in, code_point, data_of, field, is_scalar_value, lines}
 use Rattle.normalizer_ucd.specs.Fields.{number, read_character}
 use Rattle.normalizer_ucd.specs.UnicodeData.{class_of, closed_end, code_of, combining_class, entry_of, field_of}
-use Rattle.normalizer_ucd.specs.UnicodeData.{first_mark, is_blank, is_listed, is_tagged}
+use Rattle.normalizer_ucd.specs.UnicodeData.{enough_fields, first_mark, is_blank, is_listed, is_tagged}
 use Rattle.normalizer_ucd.specs.UnicodeData.{mapping_in, mapping_of, part_named, place, PositionValue, range_name}
 use Rattle.normalizer_ucd.specs.UnicodeData.{read_fields, read_line, records_by, records_in}
 use Rattle.normalizer_ucd.specs.UnicodeData.{records_of, start, step, untagged_mapping}
@@ -329,7 +329,7 @@ module _ (exclusions : List Exclusion) where
   unfolding read_fields
   fields_say at position next line r h =
       let data' = data_of line in
-      let last = bound (field_of at data' 14) _ _ h in
+      let last = bound (enough_fields at data') _ _ h in
       let code = bound (code_of at data') _ _ last.then_is in
       let name = bound (field_of at data' 1) _ _ code.then_is in
       let class = bound (class_of at data') _ _ name.then_is in
@@ -379,7 +379,7 @@ module _ (exclusions : List Exclusion) where
   unfolding read_fields
   says_fields at position next line found r h says =
       let data' = data_of line in
-      let last = bound (field_of at data' 14) _ _ h in
+      let last = bound (enough_fields at data') _ _ h in
       let code = bound (code_of at data') _ _ last.then_is in
       let name = bound (field_of at data' 1) _ _ code.then_is in
       let class = bound (class_of at data') _ _ name.then_is in

@@ -21,7 +21,7 @@ use Rattle.normalizer_ucd.specs.Exclusions.{place as exclusion_place}
 use Rattle.normalizer_ucd.specs.LineFaults.{DataLine, data_lines_from, error_of, first_wrong}
 use Rattle.normalizer_ucd.specs.declared.error.Place.{Place}
 use Rattle.normalizer_ucd.specs.UnicodeData.{character_of, class_of, closed_end, code_of, combining_class, entry_of}
-use Rattle.normalizer_ucd.specs.UnicodeData.{field_of, follows, is_blank, is_listed}
+use Rattle.normalizer_ucd.specs.UnicodeData.{enough_fields, field_of, follows, is_blank, is_listed}
 use Rattle.normalizer_ucd.specs.UnicodeData.{is_tagged, mapping_in, mapping_of, part_named, place, PositionValue}
 use Rattle.normalizer_ucd.specs.UnicodeData.{records_by, records_in, records_of}
 use Rattle.normalizer_ucd.specs.UnicodeData.{range_name, read_fields, read_line, start, step}
@@ -66,36 +66,36 @@ module _ (exclusions : List Exclusion) (n m : ℕ) (before : Option (List ℕ)) 
       (read_fields exclusions (place n) (state m before) d) (state n (Some d))
 
   no_field : field d 14 ≡ None → Outcome
-  unfolding read_fields
+  unfolding read_fields enough_fields
   no_field h = rw h refl
 
   module _ (t14 t0 t1 t3 t5 : List ℕ) (h14 : field d 14 ≡ Some t14) (h0 : field d 0 ≡ Some t0)
       (h1 : field d 1 ≡ Some t1) (h3 : field d 3 ≡ Some t3) (h5 : field d 5 ≡ Some t5) where
     no_code : code_point t0 ≡ None → Outcome
-    unfolding read_fields
+    unfolding read_fields enough_fields
     no_code h = rw (h14, h0, h) refl
 
     module _ (c : ℕ) (hc : code_point t0 ≡ Some c) where
       no_class : combining_class t3 ≡ None → Outcome
-      unfolding read_fields
+      unfolding read_fields enough_fields
       no_class h = rw (h14, h0, hc, h1, h3, h) refl
 
       module _ (k : ℕ) (hk : combining_class t3 ≡ Some k) where
         no_mapping : is_mapping t5 ≡ false → mapping_in (fault (place n) problems.Mapping) t5
             ≡ Err (fault (place n) problems.Mapping) →
             Outcome
-        unfolding read_fields
+        unfolding read_fields enough_fields
         no_mapping is h = rw (h14, h0, hc, h1, h3, hk, h5, h, is) refl
 
         module _ (x : Bool × List ℕ) (is : is_mapping t5 ≡ true)
             (hx : mapping_in (fault (place n) problems.Mapping) t5 ≡ Ok x) where
           falls : nat_lt c (least_after before) ≡ true → Outcome
-          unfolding read_fields
+          unfolding read_fields enough_fields
           falls h = rw (h14, h0, hc, h1, h3, hk, h5, hx, is, h) refl
 
           parted : nat_lt c (least_after before) ≡ false → follows (range_of before) (part_named t1) (range_name t1)
               ≡ false → Outcome
-          unfolding read_fields
+          unfolding read_fields enough_fields
           parted h f = rw (h14, h0, hc, h1, h3, hk, h5, hx, is, h, f) refl
 
           module _ (rises : nat_lt c (least_after before) ≡ false)
@@ -104,12 +104,12 @@ module _ (exclusions : List Exclusion) (n m : ℕ) (before : Option (List ℕ)) 
             empty = (mapping_parts (fault (place n) problems.Mapping) t5 x hx).1
 
             blank : ((k == 0) && (length t5 == 0)) ≡ true → Outcome
-            unfolding read_fields entry_of
+            unfolding read_fields enough_fields entry_of
             blank h = rw (h14, h0, hc, h1, h3, hk, h5, hx, is, rises, f, empty, h) (_, refl)
 
             no_character : (p : Part) → part_named t1 ≡ p → ((k == 0) && (length t5 == 0)) ≡ false → (scalar : Bool) →
                 is_scalar_value c ≡ scalar → Outcome
-            unfolding read_fields entry_of
+            unfolding read_fields enough_fields entry_of
             no_character Whole p h true s = rw (h14, h0, hc, h1, h3, hk, h5, hx, is, rises, f, empty, h, p, s) (_, refl)
             no_character Whole p h false s = rw (h14, h0, hc, h1, h3, hk, h5, hx, is, rises, f, empty, h, p, s) refl
             no_character First p h s _ = rw (h14, h0, hc, h1, h3, hk, h5, hx, is, rises, f, empty, h, p) refl
@@ -327,9 +327,9 @@ module _ (exclusions : List Exclusion) where
         read_fields exclusions at s d ≡ Ok (t, found) →
         list_any is_canonical (option_to_list found)
         ≡ states_canonical c (record { number = n; text = d; before = before })
-    unfolding read_fields
+    unfolding read_fields enough_fields
     fields_canonical at n before s t d found h =
-        let last = bound (field_of at d 14) _ _ h in
+        let last = bound (enough_fields at d) _ _ h in
         let code' = bound (code_of at d) _ _ last.then_is in
         let name' = bound (field_of at d 1) _ _ code'.then_is in
         let class' = bound (class_of at d) _ _ name'.then_is in

@@ -137,11 +137,17 @@ entry_of exclusions at code part class mapping =
         excluded = is_listed exclusions code;
       }))
 
--- the fields of a line; there are fifteen
+-- a line has fifteen fields
+unfoldable pub enough_fields : Place → List ℕ → Result (Unit {0}) LineFault
+enough_fields at line = do
+  last ← field_of at line 14
+  Ok tt
+
+-- the fields of a line
 unfoldable pub read_fields : List Exclusion → Place → PositionValue → List ℕ →
     Result (PositionValue × Option RecordValue) LineFault
 read_fields exclusions at position line = do
-  last ← field_of at line 14
+  enough ← enough_fields at line
   code ← code_of at line
   name ← field_of at line 1
   class ← class_of at line

@@ -1,5 +1,5 @@
 //! UnicodeData.txt.
-ghost use Rattle.std.specs.Prelude.{◌≡◌, ◌≤◌, map};
+ghost use Rattle.std.specs.Prelude.{◌≡◌, ◌==◌, ◌≤◌, count_by, map};
 ghost use Rattle.std.specs.Option.{option_copied};
 ghost use Rattle.std.specs.Str.{bytes_eq};
 ghost use Rattle.normalizer_ucd.specs.UnicodeData.{
@@ -8,6 +8,7 @@ ghost use Rattle.normalizer_ucd.specs.UnicodeData.{
   closed_end,
   code_of,
   combining_class,
+  enough_fields,
   entry_of,
   field_of,
   is_blank,
@@ -179,7 +180,7 @@ fn read_fields<'a>(
     ensures { Gives (λ x. (value_of x.0, x.1)) result
         (read_fields exclusions.now place (value_of position.entry) line.now) }
 {
-    let _last = field_of(place, line, 14)?;
+    enough_fields(place, line)?;
     let code = code_of(place, line)?;
     let name = field_of(place, line, 1)?;
     let class = class_of(place, line)?;
@@ -226,6 +227,23 @@ fn entry_of(
         compatibility,
         excluded: is_listed(exclusions, code),
     }))
+}
+
+fn separators(line: &[u8]) -> usize
+    ensures { result ≡ count_by (λ b. b == 0x3B) line.now }
+{
+    line.iter().filter(|b| **b == b';').count()
+}
+
+/// An error if a line has fewer than fifteen fields. (To find the last field takes longer.)
+#[tactic(auto, using(crate::proofs::FieldCounts::few, crate::proofs::FieldCounts::enough))]
+fn enough_fields(place: Place, line: &[u8]) -> Result<(), UcdError>
+    ensures { Gives (λ _. tt) result (enough_fields place line.now) }
+{
+    if separators(line) < 14 {
+        return Err(UcdError::Line(place.fault(Problem::MissingField)));
+    }
+    Ok(())
 }
 
 pub(crate) fn field_of(place: Place, line: &[u8], number: usize) -> Result<&[u8], UcdError>
