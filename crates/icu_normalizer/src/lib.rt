@@ -2,9 +2,9 @@
 //! that are checked. No Unicode data come with the crate.
 //!
 //! [`ComposingNormalizer`] makes NFC and NFKC, [`DecomposingNormalizer`] NFD and NFKD, [`AnyNormalizer`] any of the
-//! four, [`AllNormalizers`] all; their borrowed types have the calls. Inputs are `&str`, bytes that may not be UTF-8 and 16-bit units that may
-//! not be UTF-16 (ill-formed sequences read as U+FFFD), and iterators of `char`. Checks never return 'maybe'. Forms are
-//! returned, borrowed if the input is already normalized, or written to a [`sink`].
+//! four, [`AllNormalizers`] all; their borrowed types have the calls. Inputs are `&str`, bytes that may not be UTF-8
+//! and 16-bit units that may not be UTF-16 (ill-formed sequences read as U+FFFD), and iterators of `char`. Checks never
+//! return 'maybe'. Forms are returned, borrowed if the input is already normalized, or written to a [`sink`].
 //!
 //! Data come from a [`DataProvider`]. [`Records::build`] makes one from plain records of characters, and
 //! [`normalizer_to`] a normalizer over it to the form that the records mean. Constructors check all data against
