@@ -1,5 +1,5 @@
 -- The forms, and mapped text, by the data that records build.
-use Rattle.std.proofs.Common.{◌≡◌, List, [], ◌∷◌, Some, false, All, ap, ◌∙◌}
+use Rattle.std.proofs.Common.{◌≡◌, List, [], ◌∷◌, Some, false, All, ap, inl, inr, ◌∙◌}
 use Rattle.normal_forms.specs.Forms.{normal_form}
 use Rattle.normal_forms.proofs.forms.AlikeReadings.{nfc-alike, nfd-alike}
 use Rattle.normalizer_builder.specs.Building.{MeansRecords}
@@ -20,7 +20,7 @@ use Rattle.normalizer_tables.specs.declared.provider.DataError.{DataError}
 use Rattle.normalizer_tables.specs.declared.provider.DataMarkerInfo.{DataMarkerInfo}
 use Rattle.normalizer_tables.specs.declared.provider.DataMarkerInfo.TheVariants as marker
 use Rattle.icu_normalizer.specs.Forms.{MadeForm, form_by}
-use Rattle.icu_normalizer.specs.HeldForms.{held_for_forms, HeldForForms, IsMadeOf, RefusesForm}
+use Rattle.icu_normalizer.specs.HeldForms.{held_for_forms, HeldForForms, IsMadeOf, RefusesFirst, RefusesForm}
 use Rattle.icu_normalizer.specs.Mapping.{mapper_reading}
 use Rattle.icu_normalizer.specs.ByRecords.{packed_form, IsRecordedForm, MapsByRecords}
 use Rattle.icu_normalizer.specs.declared.any_normalizer.NormalForm.{NormalForm}
@@ -51,6 +51,13 @@ packed-unrefused p never nfd nfc nfkd nfkc Nfd e = never _ _ marker.NormalizerNf
 packed-unrefused p never nfd nfc nfkd nfkc Nfc e = never _ _ marker.NormalizerNfdDataV1 e nfc
 packed-unrefused p never nfd nfc nfkd nfkc Nfkd e = never _ _ marker.NormalizerNfkdDataV1 e nfkd
 packed-unrefused p never nfd nfc nfkd nfkc Nfkc e = never _ _ marker.NormalizerNfkdDataV1 e nfkc
+
+-- nor is the first of some forms
+pub packed-unrefused_first : (p : Packed) (forms : List NormalForm) → ((form : NormalForm) (e : DataError) → ¬ RefusesForm form (held_by p) e)
+    → (e : DataError) → ¬ RefusesFirst (held_by p) forms e
+packed-unrefused_first p [] never e refuses = refuses
+packed-unrefused_first p (form ∷ forms) never e (inl refuses) = never form e refuses
+packed-unrefused_first p (form ∷ forms) never e (inr others) = packed-unrefused_first p forms never e others.1
 
 module _ (records : List RecordValue) (uts46 : List Uts46RecordValue) (p : Packed) (means : MeansRecords records uts46 p) where
   -- the forms by the data are those that the records mean

@@ -1,15 +1,15 @@
 -- The data and the pairs of composing normalizers.
-use Rattle.std.specs.Prelude.{List, false}
+use Rattle.std.specs.Prelude.{List}
 use Rattle.normalizer_tables.specs.Characters.{Characters}
-use Rattle.normalizer_tables.specs.Owned.{characters_owned}
 use Rattle.normalizer_tables.specs.Pairs.{Pair}
+use Rattle.icu_normalizer.specs.Normalizers.{data_of}
 use Rattle.icu_normalizer.specs.declared.borrowed.NormalizerBorrowed.{NormalizerBorrowed}
 use Rattle.icu_normalizer.specs.declared.composing_form.ComposingForm.{ComposingForm}
 use Rattle.icu_normalizer.specs.declared.composing_normalizer.ComposingNormalizer.{ComposingNormalizer}
 
 -- the data that it owns
 abbrev pub composing_data_of : ComposingNormalizer → Characters
-composing_data_of n = characters_owned n.characters false
+composing_data_of n = data_of n.decomposing
 
 -- the pairs that it owns
 abbrev pub pairs_of : ComposingNormalizer → List Pair

@@ -1,5 +1,5 @@
 -- What a provider holds for the normal forms and for the mapper, and what is made of it.
-use Rattle.std.specs.Prelude.{◌≡◌, List, Option, Result, []}
+use Rattle.std.specs.Prelude.{◌≡◌, ◌⊎◌, List, Option, Result, [], ◌∷◌}
 use Rattle.normal_forms.specs.declared.Form.TheVariants.{Decomposing, Composing}
 use Rattle.normalizer_tables.specs.Characters.{Characters}
 use Rattle.normalizer_tables.specs.Data.{Decompositions, Lists}
@@ -58,6 +58,15 @@ RefusesForm Nfc held e =
 RefusesForm Nfkd held e = RefusesHeld (RefusesToDecompose marker.NormalizerNfkdDataV1) held.compatibility e
 RefusesForm Nfkc held e =
     RefusesHeld (RefusesToCompose marker.NormalizerNfkdDataV1) (with_pairs held.compatibility held.pairs) e
+
+-- the data that the form needs are held and meet their conditions
+abbrev pub Serves : HeldForForms → NormalForm → Type 0
+Serves held form = (m : MadeForm) × IsMadeOf form held m
+
+-- the error is of the first of the forms that isn't served
+abbrev pub RefusesFirst : HeldForForms → List NormalForm → DataError → Type 0
+RefusesFirst held [] e = ⊥
+RefusesFirst held (form ∷ forms) e = RefusesForm form held e ⊎ (Serves held form × RefusesFirst held forms e)
 
 -- the same of the data that the mapper needs
 abbrev pub RefusesMapper : HeldForMapper → DataError → Type 0

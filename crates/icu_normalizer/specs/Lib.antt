@@ -1,4 +1,5 @@
 pub mod Acceptance
+pub mod AllNormalizers
 pub mod AnyNormalizers
 pub mod BoundaryBefore
 pub mod Boundaries

@@ -6,10 +6,12 @@ ghost use Rattle.normalizer_builder.specs.Built.{AreBuilt, data_in};
 ghost use Rattle.normalizer_packing.specs.ReadBack.{characters_of};
 ghost use Rattle.normalizer_records.specs.RecordValue.{RecordValue, Uts46RecordValue};
 ghost use Rattle.normalizer_tables.specs.declared.entry.Kind.TheVariants.{Mapper};
+ghost use Rattle.icu_normalizer.specs.AllNormalizers.{made_to};
 ghost use Rattle.icu_normalizer.specs.AnyNormalizers.{made_by};
 ghost use Rattle.icu_normalizer.specs.Mappers.{mapper_data_of};
 ghost use Rattle.icu_normalizer.specs.ByRecords.{packed_form, IsRecordedForm, MapsByRecords};
 
+use crate::all_normalizers::AllNormalizers;
 use crate::any_normalizer::{AnyNormalizer, NormalForm};
 use crate::held_forms::FormData;
 use crate::uts46::Uts46Mapper;
@@ -40,6 +42,26 @@ pub fn normalizer_to(built: &Built, form: NormalForm) -> Result<AnyNormalizer, N
     data_that_meet_conditions_are_accepted();
     match built.normalizer(form) {
         Ok(normalizer) => Ok(normalizer),
+        Err(error) => Err(want_of_memory(error)),
+    }
+}
+
+/// Returns the normalizers to all forms over built data. They make the forms that the records mean.
+///
+/// # Errors
+/// `Memory` if an allocation failed.
+pub fn normalizers_over(built: &Built) -> Result<AllNormalizers, NormalizeError>
+    requires { AreBuilt (data_in built.now) }
+    ensures data { IfOk result (λ n. (form : NormalForm) → made_to n form ≡ packed_form (data_in built.now) form) }
+    ensures form { (records : List RecordValue) (uts46 : List Uts46RecordValue) →
+        Builds records uts46 (data_in built.now) →
+        IfOk result (λ n. (form : NormalForm) → IsRecordedForm records form (made_to n form)) }
+    ensures refused { IsOkUnless result NormalizeError.Memory }
+{
+    what_is_built_is_accepted();
+    data_that_meet_conditions_are_accepted();
+    match built.normalizers() {
+        Ok(normalizers) => Ok(normalizers),
         Err(error) => Err(want_of_memory(error)),
     }
 }

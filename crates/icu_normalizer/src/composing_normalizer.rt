@@ -7,10 +7,12 @@ ghost use Rattle.icu_normalizer.specs.ComposingAcceptance.{
   RefusesToCompose,
   SuitsComposing,
 };
+ghost use Rattle.icu_normalizer.specs.Normalizers.{data_of};
 ghost use Rattle.icu_normalizer.specs.Serving.{ServesComposing};
 
 use crate::borrowed::{ComposingNormalizerBorrowed, NormalizerBorrowed};
 use crate::composing_form::ComposingForm;
+use crate::decomposing_normalizer::DecomposingNormalizer;
 use normalizer_conditions::check::check;
 use normalizer_conditions::loaded::LoadedData;
 use normalizer_tables::condition::{Bounds, COMPOSING};
@@ -25,9 +27,9 @@ use normalizer_tables::{
 /// [`as_borrowed`](ComposingNormalizer::as_borrowed) returns the normalizer that has the calls on text.
 #[derive(Drop)]
 pub struct ComposingNormalizer {
-    characters: OwnedCharacterData,
+    decomposing: DecomposingNormalizer,
     pairs: CanonicalCompositions,
-    ghost serves: { ServesComposing (characters_owned characters false) (bounds_of characters.decompositions) pairs },
+    ghost serves: { ServesComposing (data_of decomposing) (bounds_of (data_of decomposing).decompositions) pairs },
 }
 
 impl ComposingNormalizer {
@@ -115,7 +117,18 @@ impl ComposingNormalizer {
         let bounds = Bounds::of_cap(borrowed.cap());
         let loaded = LoadedData::new(borrowed, bounds, Some(&pairs), None);
         check(&loaded, marker, &COMPOSING)?;
-        Ok(ComposingNormalizer { characters, pairs })
+        Ok(ComposingNormalizer {
+            decomposing: DecomposingNormalizer { characters },
+            pairs,
+        })
+    }
+
+    /// Returns the normalizer to NFD over the same data, or to NFKD over compatibility data: what composing requires of
+    /// data includes what decomposing does.
+    pub fn as_decomposing(&self) -> &DecomposingNormalizer
+        ensures { data_of result.now ≡ composing_data_of self.now }
+    {
+        &self.decomposing
     }
 
     /// Returns the normalizer that borrows this one's data.
@@ -123,7 +136,7 @@ impl ComposingNormalizer {
         ensures held { composing_data_of_borrowed result ≡ composing_data_of self.now }
         ensures pairs { pairs_of_borrowed result ≡ pairs_of self.now }
     {
-        let characters = self.characters.as_borrowed(false);
+        let characters = self.decomposing.characters.as_borrowed(false);
         let bounds = Bounds::of_cap(characters.cap());
         NormalizerBorrowed {
             form: ComposingForm {

@@ -27,7 +27,7 @@ use normalizer_tables::{
 /// [`as_borrowed`](DecomposingNormalizer::as_borrowed) returns the normalizer that has the calls on text.
 #[derive(Drop)]
 pub struct DecomposingNormalizer {
-    characters: OwnedCharacterData,
+    pub(crate) characters: OwnedCharacterData,
     ghost serves: { ServesDecomposing (characters_owned characters false) (bounds_of characters.decompositions) },
 }
 

@@ -1,5 +1,6 @@
 //! Normalizers and the mapper over what a provider holds.
-ghost use Rattle.std.specs.Prelude.{◌≡◌, ◌⊎◌, IfOk, IfErr};
+ghost use Rattle.std.specs.Prelude.{◌≡◌, ◌⊎◌, [], ◌∷◌, IfOk, IfErr};
+ghost use Rattle.icu_normalizer.specs.AllNormalizers.{made_to};
 ghost use Rattle.icu_normalizer.specs.ComposingAcceptance.{SuitsComposing};
 ghost use Rattle.icu_normalizer.specs.Mappers.{mapper_data_of};
 ghost use Rattle.icu_normalizer.specs.Uts46.{uts46_data};
@@ -10,10 +11,12 @@ ghost use Rattle.icu_normalizer.specs.HeldForms.{
   HeldForForms,
   HeldForMapper,
   IsMadeOf,
+  RefusesFirst,
   RefusesForm,
   RefusesMapper,
 };
 
+use crate::all_normalizers::AllNormalizers;
 use crate::any_normalizer::{AnyNormalizer, NormalForm};
 use crate::composing_normalizer::ComposingNormalizer;
 use crate::decomposing_normalizer::DecomposingNormalizer;
@@ -35,6 +38,17 @@ pub trait FormData {
     fn normalizer(&self, form: NormalForm) -> Result<AnyNormalizer, DataError>
         ensures made { IfOk result (λ n. IsMadeOf form (held_for_forms self.now) (made_by n)) }
         ensures errors { IfErr result (λ e. (e ≡ DataError.Memory) ⊎ RefusesForm form (held_for_forms self.now) e) };
+
+    /// Returns the normalizers to all forms, over what is held. What NFD needs is loaded and checked with what NFC
+    /// needs, and so is that of NFKD with NFKC.
+    ///
+    /// # Errors
+    /// The error of the normalizer to NFC, or else of that to NFKC.
+    fn normalizers(&self) -> Result<AllNormalizers, DataError>
+        ensures made { IfOk result (λ n. (form : NormalForm) →
+            IsMadeOf form (held_for_forms self.now) (made_to n form)) }
+        ensures errors { IfErr result (λ e. (e ≡ DataError.Memory)
+            ⊎ RefusesFirst (held_for_forms self.now) (NormalForm.Nfc ∷ NormalForm.Nfkc ∷ []) e) };
 }
 
 /// What holds the data for the mapper.
@@ -80,6 +94,13 @@ where
             NormalForm::Nfkc => {
                 AnyNormalizer::Composing(ComposingNormalizer::try_new_nfkc_unstable(self)?)
             }
+        })
+    }
+
+    fn normalizers(&self) -> Result<AllNormalizers, DataError> {
+        Ok(AllNormalizers {
+            canonical: ComposingNormalizer::try_new_nfc_unstable(self)?,
+            compatibility: ComposingNormalizer::try_new_nfkc_unstable(self)?,
         })
     }
 }

@@ -2,7 +2,7 @@
 //! that are checked. No Unicode data come with the crate.
 //!
 //! [`ComposingNormalizer`] makes NFC and NFKC, [`DecomposingNormalizer`] NFD and NFKD, [`AnyNormalizer`] any of the
-//! four; their borrowed types have the calls. Inputs are `&str`, bytes that may not be UTF-8 and 16-bit units that may
+//! four, [`AllNormalizers`] all; their borrowed types have the calls. Inputs are `&str`, bytes that may not be UTF-8 and 16-bit units that may
 //! not be UTF-16 (ill-formed sequences read as U+FFFD), and iterators of `char`. Checks never return 'maybe'. Forms are
 //! returned, borrowed if the input is already normalized, or written to a [`sink`].
 //!
@@ -31,6 +31,7 @@
 //! may still change.
 #![tactic(auto)]
 
+mod all_normalizers;
 mod any_normalizer;
 mod borrowed;
 mod boundaries;
@@ -61,9 +62,10 @@ mod unchecked;
 pub mod uts46;
 mod writing;
 
+pub use all_normalizers::AllNormalizers;
 pub use any_normalizer::{AnyNormalizer, AnyNormalizerBorrowed, NormalForm};
 pub use borrowed::{ComposingNormalizerBorrowed, DecomposingNormalizerBorrowed};
-pub use by_records::{built_mapper, normalizer_to};
+pub use by_records::{built_mapper, normalizer_to, normalizers_over};
 pub use composing_normalizer::ComposingNormalizer;
 pub use decomposing_normalizer::DecomposingNormalizer;
 pub use held_forms::{FormData, MappingData};

@@ -1,8 +1,9 @@
 use Rattle.std.proofs.Common.{◌≡◌, Err, refl, rules}
 use Rattle.std.specs.Prelude.{false}
 use Rattle.normalizer_tables.specs.Owned.{characters_owned}
+use Rattle.normalizer_conditions.proofs.conditions.LoadedLemmas.{parts_met}
 use Rattle.icu_normalizer.specs.ComposingAcceptance.{SuitsComposing}
-use Rattle.icu_normalizer.proofs.acceptance.NormalizerData.{ServesComposing-met}
+use Rattle.icu_normalizer.proofs.acceptance.NormalizerData.{ServesComposing-met, ServesDecomposing-met}
 use Rattle.icu_normalizer.proofs.composing_normalizer.ComposingNormalizer.over.Goals as goal
 use Rattle.icu_normalizer.proofs.composing_normalizer.ComposingNormalizer.over.Goals.{In_ok-check}
 
@@ -11,7 +12,10 @@ met : (c : In_ok-check) → SuitsComposing (characters_owned c.args.characters f
 met c = let h = c.in_ok-check.ensures.ok.0 refl in rw (c.new-loaded.ensures, c.of_cap-bounds.ensures, c.cap.ensures, c.as_borrowed-borrowed.ensures) at h
 
 pub invariant_of-result : goal.invariant_of-result
-invariant_of-result c = record { serves = ServesComposing-met _ _ refl (met c) }
+invariant_of-result c = record { serves = ServesDecomposing-met _ refl (parts_met _ _ (met c)).0 }
+
+pub invariant_of-result-2 : goal.invariant_of-result-2
+invariant_of-result-2 c = record { serves = ServesComposing-met _ _ refl (met (goal.at.invariant_of-result-2 c).In_ok-check) }
 
 pub returns-clause-ok : goal.returns-clause-ok
 returns-clause-ok c = (refl, met (goal.at.returns-clause-ok c).In_ok-check)
