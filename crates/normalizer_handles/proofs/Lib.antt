@@ -1,6 +1,5 @@
 mod AsBox
 mod Crosses
-mod MadeLemmas
 mod OpeningLemmas
 mod PreparedLemmas
 mod RefusalLemmas

@@ -5,7 +5,7 @@ use Rattle.std.proofs.Common.{subst, ◌∙◌, inl, inr, false, true, All}
 use Rattle.icu_normalizer.specs.Building.{Builds}
 use Rattle.icu_normalizer.specs.ByRecords.{IsRecordedForm, MapsByRecords}
 use Rattle.icu_normalizer.specs.DataError.{DataError}
-use Rattle.icu_normalizer.specs.HeldForms.{RefusesForm, RefusesMapper}
+use Rattle.icu_normalizer.specs.HeldForms.{RefusesFirst, RefusesForm, RefusesMapper}
 use Rattle.icu_normalizer.specs.Kind.TheVariants.{Mapper}
 use Rattle.icu_normalizer.specs.Mappers.{mapper_data_of}
 use Rattle.icu_normalizer.specs.Packed.{Packed}
@@ -22,7 +22,7 @@ use Rattle.normalizer_handles.specs.declared.fault.Fault.TheVariants as faults
 use Rattle.normalizer_handles.specs.declared.normalizers.Normalizers.{Normalizers}
 use Rattle.normalizer_handles.specs.Made.{AreReadBy, MakeOver, MapOver}
 use Rattle.normalizer_handles.specs.Opening.{Holds, OpensTo}
-use Rattle.normalizer_handles.specs.Prepared.{forms, held_by, AreOfFile, IsFaultOfFile, IsFileOf, Refuses, RefusesFirst}
+use Rattle.normalizer_handles.specs.Prepared.{forms, held_by, AreOfFile, IsFaultOfFile, IsFileOf, Refuses}
 
 -- bytes are the file of one data
 same_data : (bytes : List ℕ) (p q : Packed) → IsFileOf bytes p → IsFileOf bytes q → p ≡ q
@@ -48,7 +48,7 @@ module _ (records : List RecordValue) (mapper : List Uts46RecordValue) (p : Pack
   -- the data are refused by no constructor
   module _ (forms_never : (form : NormalForm) (e : DataError) → ¬ RefusesForm form (held_by p) e)
       (mapper_never : (e : DataError) → ¬ RefusesMapper (Ok (characters_of p Mapper, p.compositions)) e) where
-    first-unrefused : (e : DataError) (fs : List NormalForm) → ¬ RefusesFirst p fs e
+    first-unrefused : (e : DataError) (fs : List NormalForm) → ¬ RefusesFirst (held_by p) fs e
     first-unrefused e [] h = absurd h
     first-unrefused e (f ∷ fs) (inl h) = forms_never f e h
     first-unrefused e (f ∷ fs) (inr h) = first-unrefused e fs h.1

@@ -1,45 +1,68 @@
 -- Which form's constructor, or the mapper's, refuses data.
-use Rattle.std.proofs.Common.{◌≡◌, ◌≢◌, ◌⊎◌, ℕ, List, Ok, refl, inl, inr}
+use Rattle.std.proofs.Common.{◌≡◌, ◌≢◌, ◌⊎◌, ℕ, List, [], ◌∷◌, Ok, refl, inl, inr}
+use Rattle.icu_normalizer.specs.Form.TheVariants.{Decomposing}
+use Rattle.icu_normalizer.specs.Characters.{Characters}
+use Rattle.icu_normalizer.specs.Held.{AcceptsHeld}
+use Rattle.icu_normalizer.specs.Pairs.{Pair}
+use Rattle.icu_normalizer.specs.ComposingAcceptance.{SuitsComposing, with_pairs}
 use Rattle.icu_normalizer.specs.DataError.{DataError}
 use Rattle.icu_normalizer.specs.DataError.TheVariants as data_error
-use Rattle.icu_normalizer.specs.HeldForms.{RefusesForm, RefusesMapper}
-use Rattle.icu_normalizer.specs.Kind.TheVariants.{Mapper}
+use Rattle.icu_normalizer.specs.DataMarkerInfo.TheVariants as marker
+use Rattle.icu_normalizer.specs.Forms.{form_by}
+use Rattle.icu_normalizer.specs.HeldForms.{HeldForForms, RefusesFirst, RefusesForm, RefusesMapper, Serves}
+use Rattle.icu_normalizer.specs.Kind.TheVariants.{Canonical, Compatibility, Mapper}
 use Rattle.icu_normalizer.specs.Packed.{Packed}
 use Rattle.icu_normalizer.specs.ReadBack.{characters_of}
 use Rattle.icu_normalizer.specs.declared.any_normalizer.NormalForm.{NormalForm}
 use Rattle.icu_normalizer.specs.declared.any_normalizer.NormalForm.TheVariants.{Nfd, Nfc, Nfkd, Nfkc}
-use Rattle.normalizer_handles.specs.Prepared.{held_by, IsFaultOfFile, IsFileOf, Refuses, Serves}
+use Rattle.icu_normalizer.proofs.acceptance.AllForms.{composing-refuses, DecomposesBy-composing}
+use Rattle.normalizer_handles.specs.Prepared.{forms, held_by, IsFaultOfFile, IsFileOf, Refuses}
 use Rattle.normalizer_handles.specs.Status.{fault_of_data}
 
 module _ (p : Packed) (e : DataError) where
   abbrev Fails : Type 0 → Type 0
   Fails Is = (e ≡ data_error.Memory) ⊎ Is
 
-  pub second-refuses : Serves p Nfd → Fails (RefusesForm Nfc (held_by p) e) → Fails (Refuses p e)
-  second-refuses nfd (inl h) = inl h
-  second-refuses nfd (inr h) = inr (inl (inr (nfd, inl h)))
+  abbrev held : HeldForForms
+  held = held_by p
 
-  pub third-refuses : Serves p Nfd → Serves p Nfc → Fails (RefusesForm Nfkd (held_by p) e) → Fails (Refuses p e)
-  third-refuses nfd nfc (inl h) = inl h
-  third-refuses nfd nfc (inr h) = inr (inl (inr (nfd, inr (nfc, inl h))))
+  serves-nfd : (h : Characters × List Pair) → AcceptsHeld SuitsComposing (with_pairs held.canonical held.pairs) h
+      → Serves held Nfd
+  serves-nfd h accepts = (form_by h.0 [] Decomposing, DecomposesBy-composing held.canonical held.pairs h accepts)
 
-  pub fourth-refuses : Serves p Nfd → Serves p Nfc → Serves p Nfkd → Fails (RefusesForm Nfkc (held_by p) e)
+  -- an error of NFKC, once NFD and NFC are made
+  nfkc-refuses : Serves held Nfd → Serves held Nfc → RefusesForm Nfkc held e → RefusesFirst held forms e
+  nfkc-refuses nfd nfc h =
+      elim (composing-refuses marker.NormalizerNfkdDataV1 (characters_of p Compatibility) p.compositions e h) [
+        | inl refuses ↦ inr (nfd, inr (nfc, inl refuses))
+        | inr suits ↦
+            let s = characters_of p Compatibility in
+            let nfkd : Serves held Nfkd = (form_by s [] Decomposing, (s, (refl, suits), refl)) in
+            inr (nfd, inr (nfc, inr (nfkd, inl h)))
+      ]
+
+  four : RefusesFirst held (Nfc ∷ Nfkc ∷ []) e → RefusesFirst held forms e
+  four (inl h) =
+      elim (composing-refuses marker.NormalizerNfdDataV1 (characters_of p Canonical) p.compositions e h) [
+        | inl refuses ↦ inl refuses
+        | inr suits ↦
+            let s = characters_of p Canonical in
+            let nfd : Serves held Nfd = (form_by s [] Decomposing, (s, (refl, suits), refl)) in
+            inr (nfd, inl h)
+      ]
+  four (inr (nfc, inl h)) = nfkc-refuses (serves-nfd nfc.1.0 nfc.1.1) nfc h
+  four (inr (nfc, inr h)) = absurd h.1
+
+  -- NFD has the data of NFC, and NFKD those of NFKC
+  pub forms-refuse : Fails (RefusesFirst held (Nfc ∷ Nfkc ∷ []) e) → Fails (Refuses p e)
+  forms-refuse (inl h) = inl h
+  forms-refuse (inr h) = inr (inl (four h))
+
+  pub mapper-refuses : ((form : NormalForm) → Serves held form)
+      → Fails ((p.mapper ≢ p.canonical) × RefusesMapper (Ok (characters_of p Mapper, p.compositions)) e)
       → Fails (Refuses p e)
-  fourth-refuses nfd nfc nfkd (inl h) = inl h
-  fourth-refuses nfd nfc nfkd (inr h) = inr (inl (inr (nfd, inr (nfc, inr (nfkd, inl h)))))
-
-  module _ (nfd : Serves p Nfd) (nfc : Serves p Nfc) (nfkd : Serves p Nfkd) (nfkc : Serves p Nfkc) where
-    serves : (form : NormalForm) → Serves p form
-    serves Nfd = nfd
-    serves Nfc = nfc
-    serves Nfkd = nfkd
-    serves Nfkc = nfkc
-
-    pub mapper-refuses :
-        Fails ((p.mapper ≢ p.canonical) × RefusesMapper (Ok (characters_of p Mapper, p.compositions)) e)
-        → Fails (Refuses p e)
-    mapper-refuses (inl h) = inl h
-    mapper-refuses (inr h) = inr (inr (serves, h.0, h.1))
+  mapper-refuses serves (inl h) = inl h
+  mapper-refuses serves (inr h) = inr (inr (serves, h.0, h.1))
 
 pub file-fault : (bytes : List ℕ) (p : Packed) (e : DataError) → IsFileOf bytes p
     → (e ≡ data_error.Memory) ⊎ Refuses p e

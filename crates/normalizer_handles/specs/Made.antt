@@ -1,6 +1,6 @@
 -- The forms that normalizers make, and what their mapper maps to.
 use Rattle.std.specs.Prelude.{◌≡◌, ◌≢◌, ℕ, List, [], Option, Some, None, IfSome}
-use Rattle.icu_normalizer.specs.AnyNormalizers.{made_by}
+use Rattle.icu_normalizer.specs.AllNormalizers.{made_to}
 use Rattle.icu_normalizer.specs.ByRecords.{packed_form, IsRecordedForm, MapsByRecords}
 use Rattle.icu_normalizer.specs.Forms.{MadeForm}
 use Rattle.icu_normalizer.specs.Kind.TheVariants.{Mapper}
@@ -9,17 +9,13 @@ use Rattle.icu_normalizer.specs.Packed.{Packed}
 use Rattle.icu_normalizer.specs.ReadBack.{characters_of}
 use Rattle.icu_normalizer.specs.RecordValue.{RecordValue, Uts46RecordValue}
 use Rattle.icu_normalizer.specs.declared.any_normalizer.NormalForm.{NormalForm}
-use Rattle.icu_normalizer.specs.declared.any_normalizer.NormalForm.TheVariants.{Nfd, Nfc, Nfkd, Nfkc}
 use Rattle.icu_normalizer.specs.declared.uts46.Uts46Mapper.{Uts46Mapper}
 use Rattle.normalizer_handles.specs.declared.normalizers.Normalizers.{Normalizers}
 use Rattle.normalizer_handles.specs.FormNumbers.{number_of}
 
 -- the form that the normalizers make
 abbrev pub made_in : Normalizers → NormalForm → MadeForm
-made_in n Nfd = made_by n.nfd
-made_in n Nfc = made_by n.nfc
-made_in n Nfkd = made_by n.nfkd
-made_in n Nfkc = made_by n.nfkc
+made_in n form = made_to n.forms form
 
 -- the form that the normalizers make and that has the number
 abbrev pub IsNumbered : Normalizers → (number : ℕ) → MadeForm → Type 0

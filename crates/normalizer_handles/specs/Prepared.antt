@@ -1,8 +1,7 @@
 -- What a handle is opened by if that is a file of prepared data, and why it isn't.
 use Rattle.std.specs.Prelude.{◌≡◌, ◌≢◌, ◌⊎◌, ℕ, List, [], ◌∷◌, ⊤, Some, Ok}
 use Rattle.icu_normalizer.specs.DataError.{DataError}
-use Rattle.icu_normalizer.specs.Forms.{MadeForm}
-use Rattle.icu_normalizer.specs.HeldForms.{held_for_forms, HeldForForms, IsMadeOf, RefusesForm, RefusesMapper}
+use Rattle.icu_normalizer.specs.HeldForms.{held_for_forms, HeldForForms, RefusesFirst, RefusesMapper, Serves}
 use Rattle.icu_normalizer.specs.Kind.TheVariants.{Mapper}
 use Rattle.icu_normalizer.specs.Packed.{Packed}
 use Rattle.icu_normalizer.specs.ReadBack.{characters_of}
@@ -31,23 +30,15 @@ held_by p =
     held_for_forms (Some p.canonical) (Some p.tables) (Some p.compatibility) (Some p.supplementary_tables)
     (Some p.compositions)
 
--- the data meet the conditions for the form
-abbrev pub Serves : Packed → NormalForm → Type 0
-Serves p form = (m : MadeForm) × IsMadeOf form (held_by p) m
-
--- the error is of the first of the forms whose conditions the data don't meet
-abbrev pub RefusesFirst : Packed → List NormalForm → DataError → Type 0
-RefusesFirst p [] e = ⊥
-RefusesFirst p (form ∷ forms) e = RefusesForm form (held_by p) e ⊎ (Serves p form × RefusesFirst p forms e)
-
 abbrev pub forms : List NormalForm
 forms = Nfd ∷ Nfc ∷ Nfkd ∷ Nfkc ∷ []
 
--- the error is of the first of the forms, or else of the mapper if its data aren't the canonical ones
+-- The error is of the first of the forms whose conditions the data don't meet, or else of the mapper if its data aren't
+-- the canonical ones.
 abbrev pub Refuses : Packed → DataError → Type 0
 Refuses p e =
-    RefusesFirst p forms e
-    ⊎ (((form : NormalForm) → Serves p form) × (p.mapper ≢ p.canonical)
+    RefusesFirst (held_by p) forms e
+    ⊎ (((form : NormalForm) → Serves (held_by p) form) × (p.mapper ≢ p.canonical)
     × RefusesMapper (Ok (characters_of p Mapper, p.compositions)) e)
 
 -- why nothing is opened: the first fault of the bytes, or the condition that their data break, or memory ran out

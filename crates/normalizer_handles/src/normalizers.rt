@@ -10,24 +10,21 @@ ghost use Rattle.icu_normalizer.specs.RecordValue.{RecordValue};
 ghost use Rattle.normalizer_prepared.specs.Prepared.{prepared_in};
 ghost use Rattle.normalizer_handles.specs.FormNumbers.{last_form};
 ghost use Rattle.normalizer_handles.specs.declared.fault.Fault.TheVariants.{UnknownForm};
-ghost use Rattle.normalizer_handles.specs.Made.{made_in, IsNumbered, MakeBy, MakeOver, MapBy, MapOver};
+ghost use Rattle.normalizer_handles.specs.Made.{IsNumbered, MakeBy, MakeOver, MapBy, MapOver};
 ghost use Rattle.normalizer_handles.specs.Prepared.{Refuses};
 
 use crate::fault::Fault;
 use crate::form::form_numbered;
 use icu_normalizer::uts46::Uts46Mapper;
 use icu_normalizer::{
-    AnyNormalizer, AnyNormalizerBorrowed, Built, DataError, FormData, MappingData, NormalForm,
-    NormalizeError, Uts46Record, built_mapper, normalizer_to,
+    AllNormalizers, AnyNormalizerBorrowed, Built, DataError, FormData, MappingData, NormalizeError,
+    Uts46Record, built_mapper, normalizers_over,
 };
 use normalizer_prepared::PreparedData;
 
 /// Normalizers to the four forms, over the same data, and a mapper if the data have one.
 pub struct Normalizers {
-    pub(crate) nfd: AnyNormalizer,
-    pub(crate) nfc: AnyNormalizer,
-    pub(crate) nfkd: AnyNormalizer,
-    pub(crate) nfkc: AnyNormalizer,
+    pub(crate) forms: AllNormalizers,
     /// The mapper, if the data have one.
     pub mapper: Option<Uts46Mapper>,
 }
@@ -36,10 +33,7 @@ pub struct Normalizers {
 impl Drop for Normalizers {
     fn drop(self) {
         let Normalizers {
-            nfd: _nfd,
-            nfc: _nfc,
-            nfkd: _nfkd,
-            nfkc: _nfkc,
+            forms: _forms,
             mapper: _mapper,
         } = self;
     }
@@ -56,10 +50,7 @@ impl Normalizers {
         ensures refused { IsOkUnless result NormalizeError.Memory }
     {
         Ok(Normalizers {
-            nfd: normalizer_to(built, NormalForm::Nfd)?,
-            nfc: normalizer_to(built, NormalForm::Nfc)?,
-            nfkd: normalizer_to(built, NormalForm::Nfkd)?,
-            nfkc: normalizer_to(built, NormalForm::Nfkc)?,
+            forms: normalizers_over(built)?,
             mapper: mapper_over(built, mapper)?,
         })
     }
@@ -71,24 +62,9 @@ impl Normalizers {
         ensures refused { IfErr result (λ e. (e ≡ DataError.Memory) ⊎ Refuses (prepared_in prepared.now) e) }
     {
         Ok(Normalizers {
-            nfd: prepared.normalizer(NormalForm::Nfd)?,
-            nfc: prepared.normalizer(NormalForm::Nfc)?,
-            nfkd: prepared.normalizer(NormalForm::Nfkd)?,
-            nfkc: prepared.normalizer(NormalForm::Nfkc)?,
+            forms: prepared.normalizers()?,
             mapper: prepared_mapper(prepared)?,
         })
-    }
-
-    /// Returns the normalizer to a form.
-    pub(crate) fn to(&self, form: NormalForm) -> AnyNormalizerBorrowed<'_>
-        ensures { made_by_borrowed result ≡ made_in self.now form }
-    {
-        match form {
-            NormalForm::Nfd => self.nfd.as_borrowed(),
-            NormalForm::Nfc => self.nfc.as_borrowed(),
-            NormalForm::Nfkd => self.nfkd.as_borrowed(),
-            NormalForm::Nfkc => self.nfkc.as_borrowed(),
-        }
     }
 
     /// Returns the normalizer to the form of a number.
@@ -100,7 +76,7 @@ impl Normalizers {
             (λ fault. (last_form < number) × (fault ≡ UnknownForm)) }
     {
         match form_numbered(number) {
-            Some(form) => Ok(self.to(form)),
+            Some(form) => Ok(self.forms.to(form)),
             None => Err(Fault::UnknownForm),
         }
     }

@@ -250,7 +250,7 @@ static const char end[] = "# EOF\n";
 /* Why files are refused, and where. */
 static void files(icu_normalizer *normalizer) {
     icu_normalizer_defect defect = {7, 7, 7, 7, 7};
-    const char *data = "0041;;;0;;;\n\n0040;;;0;;;\n# EOF\n", *exclusions = "0958\nX\n# EOF\n";
+    const char *data = "0041;;;0;;;;;;;;;;;\n\n0040;;;0;;;;;;;;;;;\n# EOF\n", *exclusions = "0958\nX\n# EOF\n";
     const char *lines = "0000..0041 ; never\n";
     EXPECT(unless_refused(icu_normalizer_open_files(normalizer, bytes_of(data), strlen(data),
         bytes_of(end), strlen(end), NULL, 0, 0, &defect)) == ICU_NORMALIZER_WRONG_LINE);

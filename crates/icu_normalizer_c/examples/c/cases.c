@@ -221,7 +221,7 @@ static void compare_mapped(void) {
     static const char table[] =
         "0000..00AC ; valid\n00AD ; ignored\n00AE..0377 ; valid\n0378..0379 ; disallowed\n"
         "037A..24B5 ; valid\n24B6 ; mapped ; 0061\n24B7..10FFFF ; valid\n";
-    static const char data[] = "00E4;;;0;;0061 0308\n0308;;;230;;\n# EOF\n", exclusions[] = "# EOF\n";
+    static const char data[] = "00E4;;;0;;0061 0308;;;;;;;;;\n0308;;;230;;;;;;;;;;;\n# EOF\n", exclusions[] = "# EOF\n";
     static const uint8_t text[] = "\xE2\x92\xB6\xC2\xAD\xCC\x88\xCD\xB8", mapped[] = "\xC3\xA4\xEF\xBF\xBD";
     static const uint16_t units[] = {0x24B6, 0xAD, 0x308, 0x378}, wide[] = {0xE4, 0xFFFD};
     icu_normalizer normalizer = ICU_NORMALIZER_CLOSED;

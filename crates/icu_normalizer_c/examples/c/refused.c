@@ -44,7 +44,8 @@ static bool is_done(icu_normalizer_status status) {
     return status == ICU_NORMALIZER_OK;
 }
 
-static const char data[] = "00E4;;;0;;0061 0308\n0308;;;230;;\n0323;;;220;;\nFB01;;;0;;<compat> 0066 0069\n# EOF\n";
+static const char data[] = "00E4;;;0;;0061 0308;;;;;;;;;\n0308;;;230;;;;;;;;;;;\n0323;;;220;;;;;;;;;;;\n"
+                           "FB01;;;0;;<compat> 0066 0069;;;;;;;;;\n# EOF\n";
 static const char exclusions[] = "# EOF\n";
 static const char table[] = "0000..0040 ; valid\n0041 ; mapped ; 0061\n0042..00AC ; valid\n00AD ; ignored\n"
     "00AE..10FFFF ; valid\n";
