@@ -1,3 +1,4 @@
 pub mod CallerLemmas
 pub mod LastLemmas
 pub mod RunLemmas
+pub mod ByteLemmas

@@ -1,3 +1,4 @@
+pub mod BytesOfForms
 pub mod Labels
 pub mod Last
 pub mod PreparedForms

@@ -24,6 +24,7 @@ ghost use Rattle.icu_normalizer.specs.Items.{SpellsOk, SpellsUnless};
 ghost use Rattle.normalizer_examples.specs.Last.{last_of};
 ghost use Rattle.normalizer_examples.specs.IteratorRuns.{IsFormOfDrained};
 
+mod by_bytes;
 mod by_prepared;
 mod by_records;
 mod by_unicode_data;
@@ -36,6 +37,7 @@ pub mod reports;
 pub mod shaping;
 pub mod sinks;
 
+pub use by_bytes::bytes_of_form;
 pub use by_prepared::{PreparedFault, form_by_prepared_data};
 pub use by_records::{
     built_combining_classes, built_composition, built_decomposition, form_by_records,
