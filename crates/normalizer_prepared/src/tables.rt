@@ -34,7 +34,8 @@ fn table_at(alloc: Global, bytes: &[u8]) -> Result<(CodePointTable, &[u8]), Read
     let (ranges, rest) = ranges_at(alloc, bytes)?;
     let (past, rest) = u32_at(rest)?;
     match CodePointTable::from_ranges(ranges, past) {
-        Ok(table) => Ok((table, rest)),
+        // The copy has no spare room, which the tables of a handle would lie beside.
+        Ok(table) => Ok((table.clone()?, rest)),
         Err(TableError::Memory) => Err(ReadError::Memory),
         Err(TableError::Ranges) => unreachable!(),
     }
