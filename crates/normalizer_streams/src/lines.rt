@@ -65,12 +65,11 @@ pub trait LineTask {
         requires { lines + length text.now < 2 ^ 64 - 1 }
         ensures { OnOk result (output.new.items ≡ output.old.items ++ reply self.now lines text.now) };
 
-    /// Nothing is replied to nothing.
-    ghost silent: { (task : Self) (lines : ℕ) → reply task lines [] ≡ [] };
-
-    /// After a line feed the reply may be divided.
-    ghost divided: { (task : Self) (lines : ℕ) (front rest : List ℕ) → reply task lines ((front ++ 0x0A ∷ []) ++ rest)
-        ≡ reply task lines (front ++ 0x0A ∷ []) ++ reply task (lines + feeds (front ++ 0x0A ∷ [])) rest };
+    /// Nothing is replied to nothing, and after a line feed the reply may be divided. This states that, and does nothing.
+    fn reply_is_divided(&self)
+        ensures silent { (lines : ℕ) → reply self.now lines [] ≡ [] }
+        ensures divided { (lines : ℕ) (front rest : List ℕ) → reply self.now lines ((front ++ 0x0A ∷ []) ++ rest)
+            ≡ reply self.now lines (front ++ 0x0A ∷ []) ++ reply self.now (lines + feeds (front ++ 0x0A ∷ [])) rest };
 }
 
 /// How a text ended, and whether anything was replied to it.
@@ -122,6 +121,7 @@ pub fn write_replies<R: Source, W: Target, T: LineTask>(
     ensures read_ahead { ¬ IsErrOf result TransferError.Read → IsUnrefused R.refusal reader.old reader.new }
     ensures ahead { ¬ IsErrOf result TransferError.Write → IsUnrefused W.refusal writer.old writer.new }
 {
+    task.reply_is_divided();
     let mut carried = Carried::new(alloc);
     let mut output = Vec::new(alloc);
     let mut progress = Progress::new(mode);

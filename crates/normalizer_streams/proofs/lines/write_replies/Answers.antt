@@ -9,8 +9,8 @@ use Rattle.normalizer_streams.proofs.lines.write_replies.Goals as goal
 pub loop-init : goal.loop-init
 loop-init g c =
     let task = c.args.task.now in
-    let silent = g.met.T.LineTask.silent task in
-    let divided = g.met.T.LineTask.divided task in
+    let silent = c.reply_is_divided.ensures.silent in
+    let divided = c.reply_is_divided.ensures.divided in
     let none = IsReplied-none c.args.scheme c.args.mode (g.T.LineTask.reply task) silent divided c.new-progress.result c.new-progress.ensures.lines c.new-progress.ensures.silent
     (c.new-progress.ensures.watch c.args.scheme) in
     record {
@@ -23,13 +23,13 @@ loop-init g c =
 pub returns-in_err-is_last-clause-front : goal.returns-in_err-is_last-clause-front
 returns-in_err-is_last-clause-front g c =
     let task = c.args.task.now in
-    OnErr-always _ (CutOff-now c.args.scheme c.args.mode (g.T.LineTask.reply task) (g.met.T.LineTask.silent task) (g.met.T.LineTask.divided task) _ _ _ _ (g.W.Target.bytes_taken c.loop.writer)
+    OnErr-always _ (CutOff-now c.args.scheme c.args.mode (g.T.LineTask.reply task) (c.reply_is_divided.ensures.silent) (c.reply_is_divided.ensures.divided) _ _ _ _ (g.W.Target.bytes_taken c.loop.writer)
     c.loop.carried c.loop.progress c.loop.invariant.moves)
 
 pub returns-clause-front : goal.returns-clause-front
 returns-clause-front g c =
     let task = c.args.task.now in
-    CutOff-now c.args.scheme c.args.mode (g.T.LineTask.reply task) (g.met.T.LineTask.silent task) (g.met.T.LineTask.divided task) _ _ _ _ (g.W.Target.bytes_taken c.loop.writer)
+    CutOff-now c.args.scheme c.args.mode (g.T.LineTask.reply task) (c.reply_is_divided.ensures.silent) (c.reply_is_divided.ensures.divided) _ _ _ _ (g.W.Target.bytes_taken c.loop.writer)
     c.loop.carried c.loop.progress c.loop.invariant.moves
 
 pub returns-clause-read : goal.returns-clause-read
@@ -41,8 +41,8 @@ returns-in_err-stop-clause-front g c =
     let mode = c.args.mode in
     let task = c.args.task.now in
     let reply = g.T.LineTask.reply task in
-    let silent = g.met.T.LineTask.silent task in
-    let divided = g.met.T.LineTask.divided task in
+    let silent = c.reply_is_divided.ensures.silent in
+    let divided = c.reply_is_divided.ensures.divided in
     let at = c.loop.invariant in
     let some = c.in_ok-is_last.field-0 in
     let block = c.in_ok-is_last.ensures.carries in
@@ -66,7 +66,7 @@ returns-in_err-stop-clause-read g c = λ refused.
     let task = c.args.task.now in
     let reply = g.T.LineTask.reply task in
     let bytes = c.read_block.new.self in
-    let moves = MovesLines-read c.args.scheme c.args.mode reply (g.met.T.LineTask.silent task) (g.met.T.LineTask.divided task) _ _ _ _ _ c.loop.carried bytes c.in_ok-is_last.field-0 c.loop.progress
+    let moves = MovesLines-read c.args.scheme c.args.mode reply (c.reply_is_divided.ensures.silent) (c.reply_is_divided.ensures.divided) _ _ _ _ _ c.loop.carried bytes c.in_ok-is_last.field-0 c.loop.progress
     c.loop.invariant.moves c.in_ok-is_last.ensures.carries in
     let many = (rw c.bytes-bytes.ensures at c.in_err-stop.ensures.read) (search rules) in
     inr (read_is_within _ _ moves.read (2 ^ 64 - 1) moves.consumed
@@ -78,8 +78,8 @@ returns-in-Some-clause-reply g c =
     let mode = c.args.mode in
     let task = c.args.task.now in
     let reply = g.T.LineTask.reply task in
-    let silent = g.met.T.LineTask.silent task in
-    let divided = g.met.T.LineTask.divided task in
+    let silent = c.reply_is_divided.ensures.silent in
+    let divided = c.reply_is_divided.ensures.divided in
     let some = c.in_ok-is_last.field-0 in
     let block = c.in_ok-is_last.ensures.carries in
     let bytes = c.read_block.new.self in
@@ -98,8 +98,8 @@ loop-preserved g c =
     let mode = c.args.mode in
     let task = c.args.task.now in
     let reply = g.T.LineTask.reply task in
-    let silent = g.met.T.LineTask.silent task in
-    let divided = g.met.T.LineTask.divided task in
+    let silent = c.reply_is_divided.ensures.silent in
+    let divided = c.reply_is_divided.ensures.divided in
     let at = c.loop.invariant in
     let some = c.in_ok-is_last.field-0 in
     let block = c.in_ok-is_last.ensures.carries in
