@@ -1,4 +1,5 @@
 pub mod CodePointLemmas
+pub mod LineLaws
 pub mod LineLemmas
 pub mod MakingLemmas
 pub mod MapperLemmas

@@ -11,7 +11,7 @@ use Rattle.normalizer_streams.specs.declared.ill_formed.ErrorMode.{ErrorMode}
 use Rattle.normalizer_streams.specs.declared.mismatch.Comparison.{Comparison}
 use Rattle.normalizer_streams.specs.declared.mismatch.Comparison.TheVariants.{Normalized, Differs, Stopped}
 use Rattle.normalizer_streams.specs.declared.scheme.EncodingScheme.{EncodingScheme}
-use Rattle.normalizer_streams.specs.Mismatches.{Compares, IsMismatchOf}
+use Rattle.normalizer_streams.specs.Mismatches.{Compares}
 use Rattle.normalizer_streams.specs.Schemes.{encoding_of, units_of}
 
 module _ (d d' : Reading) (f f' : Form) where

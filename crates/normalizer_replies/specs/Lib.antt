@@ -3,4 +3,5 @@ pub mod Making
 pub mod Mismatches
 pub mod Replies
 pub mod Works
+pub mod Written
 pub mod inner

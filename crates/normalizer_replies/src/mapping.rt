@@ -1,16 +1,40 @@
 //! What is done with a file by the mapper.
-ghost use Rattle.std.specs.Prelude.{◌≡◌, ◌<◌, ◌+◌, ◌^◌, ◌++◌, IfOk, IsOkUnless, map, string_bytes};
+ghost use Rattle.std.specs.Prelude.{
+  ◌≡◌,
+  ◌⊎◌,
+  ◌<◌,
+  ◌≤◌,
+  ◌+◌,
+  ◌-◌,
+  ◌^◌,
+  ◌++◌,
+  ℕ,
+  List,
+  length,
+  map,
+  string_bytes,
+  IfOk,
+  IsErrOf,
+  IsOkUnless,
+  OnErr,
+};
 ghost use Rattle.icu_normalizer.specs.Mappers.{mapper_data_of, mapper_data_of_borrowed};
+ghost use Rattle.normalizer_io.specs.Transfer.{IsUnrefused};
+ghost use Rattle.normalizer_streams.specs.Replies.{is_nothing};
+ghost use Rattle.normalizer_streams.specs.Streams.{IsEndless};
 ghost use Rattle.normalizer_replies.specs.Lines.{invalid_line, lines_of, told_unless};
 ghost use Rattle.normalizer_replies.specs.Making.{mapping_of, Mapping, Maps};
-ghost use Rattle.normalizer_replies.specs.Replies.{answer_of, lines_written, IsReplyOfMapper};
-ghost use Rattle.normalizer_replies.specs.inner.EachLine.{feed_unless, replies_to, reply_to};
+ghost use Rattle.normalizer_replies.specs.Replies.{answer_of};
+ghost use Rattle.normalizer_replies.specs.Works.{OfMapper};
+ghost use Rattle.normalizer_replies.specs.Written.{IsCutOff, IsWritten};
+ghost use Rattle.normalizer_replies.specs.inner.EachLine.{feed_unless, number_before, replies_to, reply_after, reply_to};
 
-use crate::reply::{Answer, Reply};
+use crate::reply::{Answer, yes_if};
 use icu_normalizer::IgnoredCharacters::Dropped;
 use icu_normalizer::uts46::{Uts46Mapper, Uts46MapperBorrowed};
 use icu_normalizer::{NormalizeError, is_valid, mapped};
-use normalizer_streams::{EncodingScheme, Ending, ErrorMode, text_of};
+use normalizer_io::{Source, Target, TransferError};
+use normalizer_streams::{EncodingScheme, Ending, ErrorMode, LineTask, Replied, write_replies};
 use std::alloc::{AllocError, Global};
 
 /// What is done with a file by the mapper.
@@ -23,76 +47,79 @@ pub enum MapperTask {
 }
 
 impl MapperTask {
-    /// Returns the reply to the bytes of a file.
-    pub(crate) fn reply(
+    /// Reads to the end, and writes the reply to a file while it reads.
+    pub(crate) fn write_reply<R: Source, W: Target>(
         self,
         alloc: Global,
         scheme: EncodingScheme,
         mode: ErrorMode,
         mapper: &Uts46Mapper,
         name: &str,
-        bytes: &[u8],
-    ) -> Result<Reply, NormalizeError>
-        ensures reply { (m : Mapping) → Maps (mapper_data_of mapper.now) m →
-            IfOk result (λ r. IsReplyOfMapper self scheme mode m name.now bytes.now r.answer r.output.items) }
-        ensures refused { IsOkUnless result NormalizeError.Memory }
+        reader: &mut R,
+        writer: &mut W,
+    ) -> Result<Answer, TransferError>
+        ensures done { (m : Mapping) → Maps (mapper_data_of mapper.now) m → IfOk result (IsWritten
+            (OfMapper self scheme mode m) name.now
+            (R.bytes_left reader.old) (W.bytes_taken writer.old) (W.bytes_taken writer.new)) }
+        ensures front { (m : Mapping) → Maps (mapper_data_of mapper.now) m → OnErr result (IsCutOff
+            (OfMapper self scheme mode m) name.now
+            (R.bytes_left reader.old) (W.bytes_taken writer.old) (W.bytes_taken writer.new)) }
+        ensures read { IsErrOf result TransferError.Read →
+            R.refusal reader.old reader.new ⊎ IsEndless (R.bytes_left reader.old) }
+        ensures write { IsErrOf result TransferError.Write → W.refusal writer.old writer.new }
+        ensures read_ahead { ¬ IsErrOf result TransferError.Read → IsUnrefused R.refusal reader.old reader.new }
+        ensures ahead { ¬ IsErrOf result TransferError.Write → IsUnrefused W.refusal writer.old writer.new }
     {
-        let read = text_of(alloc, scheme, mode, bytes)?;
-        let text = scheme.decode(alloc, read.0)?;
-        let output = self.output_of(alloc, scheme, mapper, name, &text)?;
-        let answer = self.answer(scheme, read.1, &output);
-        Ok(Reply { answer, output })
+        let lines = MapperLines {
+            task: self,
+            scheme,
+            mapper: mapper.as_borrowed(),
+            name,
+        };
+        let replied = write_replies(alloc, scheme, mode, &lines, reader, writer)?;
+        Ok(self.answer(scheme, replied))
     }
 
-    /// What is written of the lines of a text.
-    fn output_of(
-        self,
-        alloc: Global,
-        scheme: EncodingScheme,
-        mapper: &Uts46Mapper,
-        name: &str,
-        text: &[char],
-    ) -> Result<Vec<u8>, NormalizeError>
-        ensures written { (m : Mapping) → Maps (mapper_data_of mapper.now) m → IfOk result (λ output.
-            output.items ≡ lines_written self scheme m name.now (lines_of text.now)) }
-        ensures refused { IsOkUnless result NormalizeError.Memory }
+    /// What comes of a text, by how it ended and what was replied to its lines.
+    fn answer(self, scheme: EncodingScheme, replied: Replied) -> Answer
+        ensures { (output : List ℕ) → replied.is_silent ≡ is_nothing output →
+            result ≡ answer_of self scheme replied.ending output }
     {
-        let lines = lines(alloc, text)?;
-        self.replies_to(alloc, scheme, &mapper.as_borrowed(), name, &lines)
-    }
-
-    /// The reply to a text that ended so, and what is written.
-    fn answer(self, scheme: EncodingScheme, ending: Ending, output: &[u8]) -> Answer
-        ensures { result ≡ answer_of self scheme ending output.now }
-    {
-        match (self, ending) {
-            (MapperTask::Validate, Ending::Whole(_)) => {
-                if output.is_empty() {
-                    Answer::Done
-                } else {
-                    Answer::No
-                }
-            }
-            _ => Answer::Ended(scheme, ending),
+        match (self, replied.ending) {
+            (MapperTask::Validate, Ending::Whole(_)) => yes_if(replied.is_silent),
+            _ => Answer::Ended(scheme, replied.ending),
         }
     }
 
-    /// What is written of the lines.
+    /// The number before that of a line after so many others: lines that are mapped have none.
+    fn number_before(self, lines: usize) -> usize
+        ensures value { result ≡ number_before self lines }
+        ensures within { result ≤ lines }
+    {
+        match self {
+            MapperTask::Map => 0,
+            MapperTask::Validate => lines,
+        }
+    }
+
+    /// What is written of lines after so many others.
     fn replies_to(
         self,
         alloc: Global,
         scheme: EncodingScheme,
         mapper: &Uts46MapperBorrowed<'_>,
         name: &str,
+        before: usize,
         lines: &[&[char]],
     ) -> Result<Vec<u8>, NormalizeError>
+        requires { before + length lines.now < 2 ^ 64 }
         ensures written { IfOk result (λ output. output.items ≡ replies_to self scheme
-            (mapping_of (mapper_data_of_borrowed mapper.now)) name.now 0 (map (λ line. line.now) lines.now)) }
+            (mapping_of (mapper_data_of_borrowed mapper.now)) name.now before (map (λ line. line.now) lines.now)) }
         ensures refused { IsOkUnless result NormalizeError.Memory }
     {
         let mut output = Vec::new(alloc);
         for (index, line) in lines.iter().enumerate() {
-            let reply = self.reply_to(alloc, scheme, mapper, name, index, line)?;
+            let reply = self.reply_to(alloc, scheme, mapper, name, before + index, line)?;
             output.extend_from_slice(&reply)?;
         }
         Ok(output)
@@ -126,9 +153,53 @@ impl MapperTask {
     }
 }
 
+/// What a task of the mapper replies to the lines of a text.
+#[derive(Drop)]
+struct MapperLines<'a> {
+    task: MapperTask,
+    scheme: EncodingScheme,
+    mapper: Uts46MapperBorrowed<'a>,
+    name: &'a str,
+}
+
+impl<'a> LineTask for MapperLines<'a> {
+    ghost reply = { λ t lines text.
+        reply_after t.task t.scheme (mapper_data_of_borrowed t.mapper) t.name.now lines text };
+
+    fn append_reply(
+        &self,
+        alloc: Global,
+        lines: usize,
+        text: &[char],
+        output: &mut Vec<u8>,
+    ) -> Result<(), AllocError> {
+        match self.reply(alloc, lines, text) {
+            Ok(reply) => output.extend_from_slice(&reply),
+            Err(_) => Err(AllocError),
+        }
+    }
+
+    fn reply_is_divided(&self) {}
+}
+
+impl<'a> MapperLines<'a> {
+    /// The reply to a text that comes after so many lines.
+    fn reply(&self, alloc: Global, lines: usize, text: &[char]) -> Result<Vec<u8>, NormalizeError>
+        requires { lines + length text.now < 2 ^ 64 - 1 }
+        ensures written { IfOk result (λ output. output.items ≡ reply_after self.now.task self.now.scheme
+            (mapper_data_of_borrowed self.now.mapper) self.now.name.now lines text.now) }
+        ensures refused { IsOkUnless result NormalizeError.Memory }
+    {
+        let before = self.task.number_before(lines);
+        let lines = lines_of(alloc, text)?;
+        self.task.replies_to(alloc, self.scheme, &self.mapper, self.name, before, &lines)
+    }
+}
+
 /// What is between line feeds.
-fn lines(alloc: Global, text: &[char]) -> Result<Vec<&[char]>, AllocError>
-    ensures { IfOk result (λ lines. map (λ line. line.now) lines.items ≡ lines_of text.now) }
+fn lines_of(alloc: Global, text: &[char]) -> Result<Vec<&[char]>, AllocError>
+    ensures lines { IfOk result (λ lines. map (λ line. line.now) lines.items ≡ lines_of text.now) }
+    ensures few { IfOk result (λ lines. length lines.items ≤ length text.now + 1) }
 {
     text.split(|c| *c == '\n').collect(alloc)
 }

@@ -1,7 +1,9 @@
 //! What is done with a file.
-ghost use Rattle.std.specs.Prelude.{◌≡◌, IfOk, string_bytes};
+ghost use Rattle.std.specs.Prelude.{◌≡◌, ℕ, IfOk, List, string_bytes};
+ghost use Rattle.normalizer_streams.specs.Replies.{is_nothing};
 ghost use Rattle.normalizer_replies.specs.Lines.{line_of};
 ghost use Rattle.normalizer_replies.specs.Mismatches.{told_of, TellsComparison};
+ghost use Rattle.normalizer_replies.specs.Replies.{yes_if_nothing};
 
 use crate::mismatch::mismatch_line;
 use normalizer_streams::{Comparison, EncodingScheme, Ending, Mismatch};
@@ -16,6 +18,13 @@ pub enum Answer {
     No,
     /// Its form was written, in this encoding scheme, up to this ending.
     Ended(EncodingScheme, Ending),
+}
+
+/// Yes if nothing is written, and else no.
+pub(crate) fn yes_if(is_silent: bool) -> Answer
+    ensures { (output : List ℕ) → is_silent ≡ is_nothing output → result ≡ yes_if_nothing output }
+{
+    if is_silent { Answer::Done } else { Answer::No }
 }
 
 /// What is done with a file.

@@ -1,6 +1,9 @@
 pub mod AgreementLemmas
 pub mod CarriedLemmas
 pub mod ErrorLemmas
+pub mod LineLemmas
+pub mod LineLists
+pub mod ListingLemmas
 pub mod MoveLemmas
 pub mod PassLemmas
 pub mod WatchLemmas

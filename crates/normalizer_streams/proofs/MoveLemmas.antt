@@ -64,12 +64,12 @@ rest_is (Some xs) = refl
 
 module _ (scheme : EncodingScheme) (mode : ErrorMode) (form : List ℕ → List ℕ) where
   -- all was passed
-  Ends-whole : (m : ErrorMode) (w : Watch) (all : List ℕ) → Watches scheme m w all → Ends scheme m all all (Whole w.found)
+  pub Ends-whole : (m : ErrorMode) (w : Watch) (all : List ℕ) → Watches scheme m w all → Ends scheme m all all (Whole w.found)
   Ends-whole Replacement w all h = (refl, h.1)
   Ends-whole Fatal w all h = (refl, h.1.0, h.1.1)
 
   -- a text that stops, after what was passed
-  Ends-stopped : (all text : List ℕ) → mode ≡ Fatal → IsFirstIllFormed scheme all text → Ends scheme mode all text
+  pub Ends-stopped : (all text : List ℕ) → mode ≡ Fatal → IsFirstIllFormed scheme all text → Ends scheme mode all text
       (Stopped (record { line = counted (line_after (units_of scheme text)); byte = counted (byte_after scheme (units_of scheme text)) }))
   Ends-stopped all text fatal f = subst (λ m. Ends scheme m all text (Stopped (record { line = counted (line_after (units_of scheme text)); byte = counted (byte_after scheme (units_of scheme text)) })))
       (sym fatal) (f, record { line = refl; byte = refl })

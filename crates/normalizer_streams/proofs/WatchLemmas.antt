@@ -103,7 +103,7 @@ module _ (front us : List ℕ) where
 
 -- ---- a watch
 
-units_of-nil : (scheme : EncodingScheme) → units_of scheme [] ≡ []
+pub units_of-nil : (scheme : EncodingScheme) → units_of scheme [] ≡ []
 units_of-nil Utf8 = refl
 units_of-nil (Utf16 order) = refl
 

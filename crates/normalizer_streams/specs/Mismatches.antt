@@ -20,7 +20,8 @@ abbrev pub IsNormalizedBy : EncodingScheme → Reading → Form → List ℕ →
 IsNormalizedBy scheme d form bytes = IsInputNormalized (encoding_of scheme) d form (units_of scheme bytes)
 
 -- the first mismatch of the bytes, and its position
-pub record IsMismatchOf (scheme : EncodingScheme) (d : Reading) (form : Form) (bytes : List ℕ) (x : Mismatch) : Type 0 where
+pub record IsMismatchOf (scheme : EncodingScheme) (d : Reading) (form : Form) (bytes : List ℕ) (x : Mismatch)
+    : Type 0 where
   pub place : ℕ
   pub first : IsInputOffence (encoding_of scheme) d form (units_of scheme bytes) place x.found x.wanted
   pub position : IsPositionAfterUnits scheme (take place (units_of scheme bytes)) x.position
@@ -39,8 +40,8 @@ Compares scheme mode d form bytes (Stopped p) =
     (text : List ℕ) × Ends scheme mode bytes text (ending.Stopped p) × IsNormalizedBy scheme d form text
 
 -- by the bytes that are left in a source, if it reports them
-pub record IsComparison (scheme : EncodingScheme) (mode : ErrorMode) (d : Reading) (form : Form) (left : Option (List ℕ))
-    (c : Comparison) : Type 0 where
+pub record IsComparison (scheme : EncodingScheme) (mode : ErrorMode) (d : Reading) (form : Form)
+    (left : Option (List ℕ)) (c : Comparison) : Type 0 where
   pub input : List ℕ
   pub whole : IfSome left (λ all. input ≡ all)
   pub compares : Compares scheme mode d form input c

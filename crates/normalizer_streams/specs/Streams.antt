@@ -18,7 +18,8 @@ use Rattle.icu_normalizer.specs.declared.any_normalizer.AnyNormalizer.TheVariant
 
 -- the bytes of the form of what bytes decode to
 abbrev pub form_by : EncodingScheme → AnyNormalizer → List ℕ → List ℕ
-form_by scheme n bytes = bytes_of scheme (encoded_form (encoding_of scheme) (reading_of n) (kind_by n) (units_of scheme bytes))
+form_by scheme n bytes =
+    bytes_of scheme (encoded_form (encoding_of scheme) (reading_of n) (kind_by n) (units_of scheme bytes))
 
 -- By the bytes that are left in a source, if it reports them, and by those that a target took before and after: the
 -- target took the form of what is to be written of them.

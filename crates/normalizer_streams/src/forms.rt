@@ -111,7 +111,8 @@ pub(crate) fn first_offence(
     normalizer: &AnyNormalizer,
     bytes: &[u8],
 ) -> Result<Option<Offence>, NormalizeError>
-    ensures offence { IfOk result (IsLastingOffence (made_by normalizer.now) (encoding_of scheme) (units_of scheme bytes.now)) }
+    ensures offence { IfOk result
+        (IsLastingOffence (made_by normalizer.now) (encoding_of scheme) (units_of scheme bytes.now)) }
     ensures short { scheme ≡ EncodingScheme.Utf8 → HasShortUnits (made_by normalizer.now) Encoding.Utf8 bytes.now →
         IsOk result }
     ensures refused { IsOkUnless result NormalizeError.Memory }

@@ -204,7 +204,8 @@ fn end_of_text(
     piece: &[u8],
 ) -> Result<Option<usize>, AllocError>
     ensures within { IfOk result (λ end. IfSome end (λ end. end ≤ length piece.now)) }
-    ensures text { IfOk result (λ end. IsTextOf scheme mode piece.now (take (unwrap_or end (length piece.now)) piece.now)) }
+    ensures text { IfOk result (λ end.
+        IsTextOf scheme mode piece.now (take (unwrap_or end (length piece.now)) piece.now)) }
     ensures fatal { IfOk result (λ end. IfSome end (λ end. mode ≡ ErrorMode.Fatal)) }
     ensures first { IfOk result (λ end. IfSome end (λ end. IsFirstIllFormed scheme piece.now (take end piece.now))) }
 {

@@ -10,8 +10,8 @@ use std::alloc::{AllocError, Global};
 /// U+000A as a unit.
 const LINE_FEED: u16 = 0x0A;
 
-/// Where something is in a file: its line, and its first byte in that line, both from 1. Lines end with U+000A. No count
-/// passes 2^64 - 1.
+/// Where something is in a file: its line, and its first byte in that line, both from 1. Lines end with U+000A. No
+/// count passes 2^64 - 1.
 #[derive(Clone, Copy, Debug, PartialEq, Eq)]
 pub struct Position {
     /// The number of the line.

@@ -1,5 +1,6 @@
 //! Bytes in an encoding scheme (The Unicode Standard, section 3.10).
-ghost use Rattle.std.specs.Prelude.{◌≡◌, ◌+◌, ◌∷◌, ◌<◌, drop, encode_utf8_all, length, min, string_bytes, take, IfOk};
+ghost use Rattle.std.specs.Prelude.{◌≡◌, ◌+◌, ◌*◌, ◌≤◌, ◌∷◌, ◌<◌};
+ghost use Rattle.std.specs.Prelude.{drop, encode_utf8_all, length, min, string_bytes, take, IfOk};
 ghost use Rattle.std.specs.List.{flat_map};
 ghost use Rattle.icu_normalizer.specs.Encodings.{decoded_in};
 ghost use Rattle.icu_normalizer.specs.Utf16.{encode_utf16_all, first_of_utf16};
@@ -9,6 +10,7 @@ ghost use Rattle.normalizer_streams.specs.Schemes.{
   encoded_by,
   first_by,
   is_aligned,
+  unit_len,
   unit_of,
   units_of,
   units_of_pairs,
@@ -60,7 +62,7 @@ impl ByteOrder {
     }
 
     /// The first unit of the bytes from a place on.
-    fn unit_at(self, bytes: &[u8], place: usize) -> u16
+    pub(crate) fn unit_at(self, bytes: &[u8], place: usize) -> u16
         requires { place < length bytes.now }
         ensures { units_of_pairs self (drop place bytes.now) ≡
             result ∷ units_of_pairs self (drop (place + 2) bytes.now) }
@@ -133,6 +135,18 @@ impl EncodingScheme {
             EncodingScheme::Utf8 => bytes.step_at(place),
             EncodingScheme::Utf16(order) => order.step_at(bytes, place),
         }
+    }
+
+    /// The place after so many units from a place on, or the end.
+    pub(crate) fn end_of(self, bytes: &[u8], place: usize, count: usize) -> usize
+        requires { place ≤ length bytes.now }
+        ensures { result ≡ min (place + count * unit_len self) (length bytes.now) }
+    {
+        let units = match self {
+            EncodingScheme::Utf8 => count,
+            EncodingScheme::Utf16(_) => count.saturating_mul(2),
+        };
+        place.saturating_add(units).min(bytes.len())
     }
 
     /// Returns the bytes of the first units.

@@ -75,7 +75,8 @@ pub fn write_form<R: Source, W: Target>(
 ) -> Result<Ending, TransferError>
     ensures form { IfOk result (IsFormWritten scheme mode (form_by scheme normalizer.now)
         (R.bytes_left reader.old) (W.bytes_taken writer.old) (W.bytes_taken writer.new)) }
-    ensures end { IfOk result (λ ending. (count : ℕ) → ending ≡ Ending.Whole count → IsAtEnd (R.bytes_left reader.new)) }
+    ensures end { IfOk result (λ ending. (count : ℕ) →
+        ending ≡ Ending.Whole count → IsAtEnd (R.bytes_left reader.new)) }
     ensures front { OnErr result (IsFormCutOff scheme mode (form_by scheme normalizer.now)
         (R.bytes_left reader.old) (W.bytes_taken writer.old) (W.bytes_taken writer.new)) }
     ensures read { IsErrOf result TransferError.Read →
@@ -134,8 +135,8 @@ fn write_settled<W: Target>(
     ensures moved { IfOk result (λ stop. (mode : ErrorMode) (passed written : List ℕ) →
         IsPassed scheme (form_by scheme normalizer.now) passed written carried.old →
         Watches scheme mode watch.old passed → MatchOption stop
-        (Passes scheme mode (form_by scheme normalizer.now) watch.new (W.bytes_taken writer.old) (W.bytes_taken writer.new)
-        passed written carried.old carried.new)
+        (Passes scheme mode (form_by scheme normalizer.now) watch.new
+        (W.bytes_taken writer.old) (W.bytes_taken writer.new) passed written carried.old carried.new)
         (λ stop. (next : List ℕ) → Stops scheme mode (form_by scheme normalizer.now) stop.position
         (W.bytes_taken writer.old) (W.bytes_taken writer.new) passed written carried.old next)) }
     ensures run { IsRun scheme (may_continue normalizer.now) (take searched carried.old) →

@@ -67,7 +67,8 @@ impl Watch {
         requires { self.old.mode ≡ ErrorMode.Fatal }
         ensures within { IfOk result (λ stop. IfSome stop (λ stop. stop.place ≤ length piece.now)) }
         ensures noted { IfOk result (λ stop. (passed : List ℕ) → Joins scheme passed piece.now →
-            Watches scheme ErrorMode.Fatal self.old passed → IsNoted scheme ErrorMode.Fatal self.new passed piece.now stop) }
+            Watches scheme ErrorMode.Fatal self.old passed →
+            IsNoted scheme ErrorMode.Fatal self.new passed piece.now stop) }
     {
         match first_ill_formed(alloc, scheme, piece)? {
             None => {
@@ -94,8 +95,8 @@ impl Watch {
     }
 }
 
-/// Returns the text of bytes that is read, and how it ends: all of it is read or, if ill-formed input is fatal, what comes
-/// before the first ill-formed sequence.
+/// Returns the text of bytes that is read, and how it ends: all of it is read or, if ill-formed input is fatal, what
+/// comes before the first ill-formed sequence.
 ///
 /// # Errors
 /// If an allocation failed.

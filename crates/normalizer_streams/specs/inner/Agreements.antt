@@ -37,7 +37,8 @@ pub record Agrees (scheme : EncodingScheme) (m : MadeForm) (passed carried : Lis
   pub at : IsCursorAfter (units_of scheme passed) cursor
 
 -- bytes were read from a source: some were passed, the others are carried
-pub record IsReadTo (scheme : EncodingScheme) (m : MadeForm) (left left' : Option (List ℕ)) (carried : List ℕ) (cursor : Cursor) : Type 0 where
+pub record IsReadTo (scheme : EncodingScheme) (m : MadeForm) (left left' : Option (List ℕ)) (carried : List ℕ)
+    (cursor : Cursor) : Type 0 where
   pub read : List ℕ
   pub consumed : Consumes left left' read
   pub passed : List ℕ
@@ -45,7 +46,8 @@ pub record IsReadTo (scheme : EncodingScheme) (m : MadeForm) (left left' : Optio
   pub agrees : Agrees scheme m passed carried cursor
 
 -- a piece of what was carried is passed
-pub record AgreesFurther (scheme : EncodingScheme) (m : MadeForm) (passed carried carried' : List ℕ) (cursor : Cursor) : Type 0 where
+pub record AgreesFurther (scheme : EncodingScheme) (m : MadeForm) (passed carried carried' : List ℕ) (cursor : Cursor)
+    : Type 0 where
   pub front : List ℕ
   pub parts : carried ≡ front ++ carried'
   pub agrees : Agrees scheme m (passed ++ front) carried' cursor
@@ -57,7 +59,8 @@ pub record IsMismatchIn (e : Encoding) (m : MadeForm) (units : List ℕ) (place 
 
 -- how a piece compares with its form: it agrees, and the cursor is after it; or where it doesn't, or its text ends. The
 -- units come before it
-abbrev pub IsPieceCompared : EncodingScheme → ErrorMode → MadeForm → (units piece : List ℕ) → Option Comparison → Cursor → Type 0
+abbrev pub IsPieceCompared : EncodingScheme → ErrorMode → MadeForm → (units piece : List ℕ) → Option Comparison → Cursor
+    → Type 0
 IsPieceCompared scheme mode m units piece None cursor =
     IsNormalizedBy scheme m.reading m.form piece × IsCursorAfter (units ++ units_of scheme piece) cursor
 IsPieceCompared scheme mode m units piece (Some Normalized) cursor = ⊥

@@ -28,7 +28,8 @@ pub record IsDivided (scheme : EncodingScheme) (form : List ℕ → List ℕ) (f
   pub aligned : is_aligned scheme (length front) ≡ true
   pub begins : BeginsWhole scheme bytes
   pub apart : (rest : List ℕ) → BeginsAs scheme bytes rest → form (front ++ rest) ≡ form front ++ form rest
-  pub steps_apart : (rest : List ℕ) → BeginsAs scheme bytes rest → steps_by scheme (front ++ rest) ≡ steps_by scheme front ++ steps_by scheme rest
+  pub steps_apart : (rest : List ℕ) → BeginsAs scheme bytes rest
+      → steps_by scheme (front ++ rest) ≡ steps_by scheme front ++ steps_by scheme rest
 
 -- the bytes are divided at a place
 pub record IsSettled (scheme : EncodingScheme) (form : List ℕ → List ℕ) (bytes : List ℕ) (place : ℕ) : Type 0 where
@@ -49,8 +50,8 @@ pub record IsPassed (scheme : EncodingScheme) (form : List ℕ → List ℕ) (pa
       → steps_by scheme (passed ++ rest) ≡ steps_by scheme passed ++ steps_by scheme rest
 
 -- Bytes were read from a source: some were passed, the others are carried. A target took what was written.
-pub record Moves (scheme : EncodingScheme) (form : List ℕ → List ℕ) (left left' taken taken' : Option (List ℕ)) (carried : List ℕ)
-    : Type 0 where
+pub record Moves (scheme : EncodingScheme) (form : List ℕ → List ℕ) (left left' taken taken' : Option (List ℕ))
+    (carried : List ℕ) : Type 0 where
   pub read : List ℕ
   pub consumed : Consumes left left' read
   pub passed : List ℕ
@@ -68,8 +69,8 @@ pub record Carries (left left' : Option (List ℕ)) (carried carried' : List ℕ
   pub end : is_some ≡ false → IsAtEnd left'
 
 -- a piece of what was carried is passed, and its form written
-pub record Passes (scheme : EncodingScheme) (mode : ErrorMode) (form : List ℕ → List ℕ) (watch : Watch) (taken taken' : Option (List ℕ))
-    (passed written carried carried' : List ℕ) : Type 0 where
+pub record Passes (scheme : EncodingScheme) (mode : ErrorMode) (form : List ℕ → List ℕ) (watch : Watch)
+    (taken taken' : Option (List ℕ)) (passed written carried carried' : List ℕ) : Type 0 where
   pub front : List ℕ
   pub output : List ℕ
   pub parts : carried ≡ front ++ carried'
@@ -78,8 +79,8 @@ pub record Passes (scheme : EncodingScheme) (mode : ErrorMode) (form : List ℕ 
   pub watches : Watches scheme mode watch (passed ++ front)
 
 -- the text ends in what is carried, and the form of it is written
-pub record Stops (scheme : EncodingScheme) (mode : ErrorMode) (form : List ℕ → List ℕ) (position : Position) (taken taken' : Option (List ℕ))
-    (passed written carried next : List ℕ) : Type 0 where
+pub record Stops (scheme : EncodingScheme) (mode : ErrorMode) (form : List ℕ → List ℕ) (position : Position)
+    (taken taken' : Option (List ℕ)) (passed written carried next : List ℕ) : Type 0 where
   pub fatal : mode ≡ Fatal
   pub front : List ℕ
   pub first : IsFirstIllFormed scheme (passed ++ (carried ++ next)) (passed ++ front)
@@ -89,8 +90,8 @@ pub record Stops (scheme : EncodingScheme) (mode : ErrorMode) (form : List ℕ �
   pub appended : Appends taken taken' output
 
 -- a beginning of the form of what is to be written is written after what was
-pub record IsCut (scheme : EncodingScheme) (mode : ErrorMode) (form : List ℕ → List ℕ) (taken taken' : Option (List ℕ)) (passed written rest : List ℕ)
-    : Type 0 where
+pub record IsCut (scheme : EncodingScheme) (mode : ErrorMode) (form : List ℕ → List ℕ) (taken taken' : Option (List ℕ))
+    (passed written rest : List ℕ) : Type 0 where
   pub text : List ℕ
   pub ending : Ending
   pub ends : Ends scheme mode (passed ++ rest) text ending

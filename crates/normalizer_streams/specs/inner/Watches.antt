@@ -18,7 +18,8 @@ pub record IsCursorAfter (front : List ℕ) (c : Cursor) : Type 0 where
 -- by replacement, errors are counted; else there was none, and the cursor is after all that was passed
 abbrev pub Knows : EncodingScheme → ErrorMode → Watch → (passed : List ℕ) → Type 0
 Knows scheme Replacement w passed = w.found ≡ counted (ill_formed scheme passed)
-Knows scheme Fatal w passed = (w.found ≡ 0) × IsWellFormedBy scheme passed × IsCursorAfter (units_of scheme passed) w.cursor
+Knows scheme Fatal w passed =
+    (w.found ≡ 0) × IsWellFormedBy scheme passed × IsCursorAfter (units_of scheme passed) w.cursor
 
 -- the watch knows what is to be known of the bytes that were passed
 abbrev pub Watches : EncodingScheme → ErrorMode → Watch → (passed : List ℕ) → Type 0
@@ -38,7 +39,8 @@ pub record StopsIn (scheme : EncodingScheme) (passed piece : List ℕ) (stop : S
 -- the watch knows of a piece too, or the text stops in it
 abbrev pub IsNoted : EncodingScheme → ErrorMode → Watch → (passed piece : List ℕ) → Option Stop → Type 0
 IsNoted scheme mode w passed piece None = Watches scheme mode w (passed ++ piece)
-IsNoted scheme mode w passed piece (Some stop) = (mode ≡ Fatal) × (w.mode ≡ Fatal) × IsWellFormedBy scheme passed × StopsIn scheme passed piece stop
+IsNoted scheme mode w passed piece (Some stop) =
+    (mode ≡ Fatal) × (w.mode ≡ Fatal) × IsWellFormedBy scheme passed × StopsIn scheme passed piece stop
 
 -- the part of a piece whose form is written
 abbrev pub text_in : (piece : List ℕ) → Option Stop → List ℕ

@@ -1,4 +1,4 @@
--- What is written of the reply to a file.
+-- What is written of a reply to a source.
 use Rattle.std.specs.Prelude.{◌≡◌, ℕ, List, Option, IfSome}
 use Rattle.std.specs.Io.KnownBytes.{Appends}
 use Rattle.normalizer_io.specs.Transfer.{AppendsFront}
@@ -6,7 +6,7 @@ use Rattle.normalizer_replies.specs.declared.reply.Answer.{Answer}
 use Rattle.normalizer_replies.specs.Replies.{IsReply}
 use Rattle.normalizer_replies.specs.Works.{Work}
 
--- the work has this reply to all the bytes of the file, if they are known
+-- the work has this reply to all the bytes of a source, if it reports them
 pub record Replies (w : Work) (name : List ℕ) (bytes : Option (List ℕ)) (answer : Answer) (output : List ℕ)
     : Type 0 where
   pub input : List ℕ
