@@ -1,4 +1,5 @@
 -- What words ask for, by what each is found to name.
+use Rattle.std.specs.Prelude.{IsTrue, ◌||◌}
 use Rattle.std.proofs.Common.{◌≡◌, ◌≢◌, ◌∷◌, ℕ, List, [], Option, Some, None, Result, Ok, Err, Bor, Bool, codes, map, subst, true, refl, option_map, unwrap_or, IfOk, IfErr, IfSome, is_some, false, sym, ◌↔◌, ap, inl, inr, ◌∙◌}
 use Rattle.clap.proofs.OnLiterals.{clap_on_literals}
 use Rattle.clap.proofs.WalkLemmas.{one_text-rows}
@@ -19,8 +20,8 @@ use Rattle.normalizer_replies.specs.declared.mapping.MapperTask.{MapperTask}
 use Rattle.normalizer_replies.specs.declared.reply.Task.{Task}
 use Rattle.normalizer_replies.specs.declared.reply.Task.TheVariants.{Write, Check, Locate}
 use Rattle.normalizer_replies.specs.declared.worker.Command.{Command}
-use Rattle.normalizer_replies.specs.declared.worker.Command.TheVariants.{OfForm, OfMapper}
-use Rattle.normalizer_command.specs.Arguments.{files_of, flag_of, word_of, AreKnown, Asks, AsksFor, HasKnownWords, IsCommandWord, IsFlag, IsMode, IsScheme, NamesForm, NamesMapperTask, NamesTask, PreparesTo, Requests}
+use Rattle.normalizer_replies.specs.declared.worker.Command.TheVariants.{OfForm, OfMapper, WellFormed}
+use Rattle.normalizer_command.specs.Arguments.{files_of, flag_of, is_prepare, is_well_formed, word_of, AreKnown, Asks, AsksFor, HasKnownWords, IsCommandWord, IsFlag, IsMode, IsScheme, NamesForm, NamesMapperTask, NamesTask, PreparesTo, Requests}
 use Rattle.normalizer_command.specs.declared.arguments.Request.{Request}
 use Rattle.normalizer_command.specs.declared.arguments.Request.TheVariants.{Files, Prepare, Unclear, Version}
 use Rattle.normalizer_command.specs.CommandLine.{uninorm}
@@ -37,13 +38,14 @@ asks_after Check word after names encoding mode scheme form named first in_schem
 asks_after Locate word after names encoding mode scheme form named first in_scheme = (named, first, in_scheme, refl)
 
 -- a word that names nothing
-pub asks_for_nothing : (word : List ℕ) (after : List (List ℕ)) (encoding : Option (List ℕ)) → ((task : MapperTask) → NamesMapperTask task word → ⊥)
+pub asks_for_nothing : (word : List ℕ) (after : List (List ℕ)) (encoding : Option (List ℕ)) → (IsTrue (is_well_formed word) → ⊥) → ((task : MapperTask) → NamesMapperTask task word → ⊥)
     → ((form : NormalForm) → NamesForm form word → ⊥) → ((task : Task) → NamesTask task word → ⊥)
     → (mode : ErrorMode) (command : Command) (names : List (List ℕ)) → AsksFor word after encoding mode command names → ⊥
-asks_for_nothing word after encoding mapper form task mode (OfMapper t scheme m) names asked = mapper t asked.0
-asks_for_nothing word after encoding mapper form task mode (OfForm Write scheme m f) names asked = form f asked.0
-asks_for_nothing word after encoding mapper form task mode (OfForm Check scheme m f) names asked = task Check asked.0
-asks_for_nothing word after encoding mapper form task mode (OfForm Locate scheme m f) names asked = task Locate asked.0
+asks_for_nothing word after encoding well_formed mapper form task mode (OfMapper t scheme m) names asked = mapper t asked.0
+asks_for_nothing word after encoding well_formed mapper form task mode (OfForm Write scheme m f) names asked = form f asked.0
+asks_for_nothing word after encoding well_formed mapper form task mode (OfForm Check scheme m f) names asked = task Check asked.0
+asks_for_nothing word after encoding well_formed mapper form task mode (OfForm Locate scheme m f) names asked = task Locate asked.0
+asks_for_nothing word after encoding well_formed mapper form task mode (WellFormed scheme) names asked = well_formed asked.0
 
 -- a value that a search by a word found, or missed
 pub found : {T : Type 0} {Names : T → Type 0} (result : Option T) → ((x : T) → (result ≡ Some x) ↔ Names x) → is_some result ≡ true
@@ -57,6 +59,10 @@ missed (Some y) = λ names no x named. differ (sym no)
 missed None = λ names no x named. let some : is_some (Some x) ≡ false = ap is_some (sym ((names x).1 named)) in differ (sym some)
 
 -- what is asked for has known words
+or_right : (a b : Bool) → IsTrue b → IsTrue (a || b)
+or_right true b is = refl
+or_right false b is = is
+
 known_word : (word : Option (List ℕ)) (after : List (List ℕ)) (encoding : Option (List ℕ)) (mode : ErrorMode) (command : Command) (names : List (List ℕ))
     → AsksFor (unwrap_or word []) after encoding mode command names → IfSome word IsCommandWord
 known_word None after encoding mode command names asked = tt
@@ -64,6 +70,7 @@ known_word (Some word) after encoding mode (OfMapper t scheme m) names asked = i
 known_word (Some word) after encoding mode (OfForm Write scheme m f) names asked = inr (inr (inr (f, asked.0)))
 known_word (Some word) after encoding mode (OfForm Check scheme m f) names asked = inr (inr (inl (Check, asked.0)))
 known_word (Some word) after encoding mode (OfForm Locate scheme m f) names asked = inr (inr (inl (Locate, asked.0)))
+known_word (Some word) after encoding mode (WellFormed scheme) names asked = inl (or_right (is_prepare word) (is_well_formed word) asked.0)
 
 known_scheme : (word : List ℕ) (after : List (List ℕ)) (encoding : Option (List ℕ)) (mode : ErrorMode) (command : Command) (names : List (List ℕ))
     → AsksFor word after encoding mode command names → (scheme : EncodingScheme) × IsScheme encoding scheme
@@ -71,6 +78,7 @@ known_scheme word after encoding mode (OfMapper t scheme m) names asked = (schem
 known_scheme word after encoding mode (OfForm Write scheme m f) names asked = (scheme, asked.2)
 known_scheme word after encoding mode (OfForm Check scheme m f) names asked = (scheme, asked.2)
 known_scheme word after encoding mode (OfForm Locate scheme m f) names asked = (scheme, asked.2)
+known_scheme word after encoding mode (WellFormed scheme) names asked = (scheme, asked.2)
 
 pub asks_by_known_words : (word : Option (List ℕ)) (after : List (List ℕ)) (encoding : Option (List ℕ)) (mode : ErrorMode) (command : Command) (names : List (List ℕ))
     → AsksFor (unwrap_or word []) after encoding mode command names → AreKnown word encoding

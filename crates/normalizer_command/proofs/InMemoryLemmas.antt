@@ -11,8 +11,9 @@ use Rattle.std.specs.declared.io.ErrorKind.TheVariants.{NotFound}
 use Rattle.normalizer_ucd.specs.declared.error.UcdFile.{UcdFile}
 use Rattle.normalizer_replies.specs.declared.reply.Answer.{Answer}
 use Rattle.normalizer_replies.specs.declared.worker.Command.{Command}
+use Rattle.normalizer_replies.specs.declared.worker.Command.TheVariants as command
 use Rattle.normalizer_replies.specs.Replies.{IsReply}
-use Rattle.normalizer_replies.specs.Works.{Work, work_by}
+use Rattle.normalizer_replies.specs.Works.{Work, work_by, WellFormed}
 use Rattle.normalizer_command.specs.Listings.{listed}
 use Rattle.normalizer_command.specs.declared.listing.Listing.{Listing}
 use Rattle.normalizer_command.specs.Devices.{Devices, devices}
@@ -205,31 +206,36 @@ module _ {W : Type 0} (taken : W → Option (List ℕ)) (items : W → List ℕ)
       → (let e : Effect = record { output = o; reports = r; status = n } in e) ≡ (let e : Effect = record { output = o'; reports = r'; status = n' } in e)
   effect-same o o' r r' n n' a b c = rw (a, b, c) refl
 
-  runs : (command : Command) (l : Listing) (directory : List ℕ) (names : List (List ℕ)) (s t : State W) (after : List Report) → s.told ≡ Some [] → items s.writer ≡ [] → s.status ≡ 0 → t.told ≡ Some after
-      → All IsOfData after → RunsByFiles d command l directory names s t → RunsInMemory files command l directory names (record { output = items t.writer; reports = after; status = t.status })
-  runs command l directory names s t after none empty zero now of_data r =
-      let h = handled l (work_by r.records r.uts46 command) names s t r.done after now of_data in
+  zero-greater : (n : ℕ) → greater 0 n ≡ n
+  zero-greater n = by (nat_lt 0 n) refl
+    where
+      by : (b : Bool) → nat_lt 0 n ≡ b → greater 0 n ≡ n
+      by true is = rw is refl
+      by false is = rw is (omega (arith, ltb-false 0 n is))
+
+  -- files that are done from the beginning
+  whole : (l : Listing) (w : Work) (names : List (List ℕ)) (s t : State W) (after : List Report) → s.told ≡ Some [] → items s.writer ≡ [] → s.status ≡ 0 → t.told ≡ Some after
+      → All IsOfData after → AreDone d l w names s t → AreHandled files l w names (record { output = items t.writer; reports = after; status = t.status })
+  whole l w names s t after none empty zero now of_data done =
+      let h = handled l w names s t done after now of_data in
       let told : h.told ≡ [] = some-same h.told [] (sym h.was ∙ none) in
       let output : items t.writer ≡ h.effect.output = h.written ∙ ap (λ x. x ++ h.effect.output) empty in
       let reports : after ≡ h.effect.reports = h.reported ∙ ap (λ x. x ++ h.effect.reports) told in
       let status : t.status ≡ h.effect.status = h.status ∙ ap (λ x. greater x h.effect.status) zero ∙ zero-greater h.effect.status in
-      record {
-        unicode_data = r.unicode_data;
-        exclusions = r.exclusions;
-        table = r.table;
-        are_files = r.files;
-        records = r.records;
-        uts46 = r.uts46;
-        recorded = r.recorded;
-        handled = subst (AreHandled files l (work_by r.records r.uts46 command) names) (sym (effect-same (items t.writer) h.effect.output after h.effect.reports t.status h.effect.status output reports status)) h.handled;
-      }
-    where
-      zero-greater : (n : ℕ) → greater 0 n ≡ n
-      zero-greater n = by (nat_lt 0 n) refl
-        where
-          by : (b : Bool) → nat_lt 0 n ≡ b → greater 0 n ≡ n
-          by true is = rw is refl
-          by false is = rw is (omega (arith, ltb-false 0 n is))
+      subst (AreHandled files l w names) (sym (effect-same (items t.writer) h.effect.output after h.effect.reports t.status h.effect.status output reports status)) h.handled
+
+  runs : (command : Command) (l : Listing) (directory : List ℕ) (names : List (List ℕ)) (s t : State W) (after : List Report) → s.told ≡ Some [] → items s.writer ≡ [] → s.status ≡ 0 → t.told ≡ Some after
+      → All IsOfData after → RunsByFiles d command l directory names s t → RunsInMemory files command l directory names (record { output = items t.writer; reports = after; status = t.status })
+  runs command l directory names s t after none empty zero now of_data r = record {
+    unicode_data = r.unicode_data;
+    exclusions = r.exclusions;
+    table = r.table;
+    are_files = r.files;
+    records = r.records;
+    uts46 = r.uts46;
+    recorded = r.recorded;
+    handled = whole l (work_by r.records r.uts46 command) names s t after none empty zero now of_data r.done;
+  }
 
   read-fault : (directory : List ℕ) (command : Command) (file : UcdFile) (fault : Fault) → is_refusal fault ≡ false → IsReadFault d directory command file fault → IsFaultInMemory files command directory file fault
   read-fault directory command file (Open kind) of_data why = inl (why.0, why.1.0, ap Open why.1.1)
@@ -257,9 +263,15 @@ module _ {W : Type 0} (taken : W → Option (List ℕ)) (items : W → List ℕ)
         effect = effect-same (items t.writer) [] after (report ∷ []) t.status 2 output parts l.status;
       }
 
-  pub effect-of-run : (command : Command) (l : Listing) (directory : List ℕ) (names : List (List ℕ)) (s t : State W) (after : List Report) → s.told ≡ Some [] → items s.writer ≡ [] → s.status ≡ 0 → t.told ≡ Some after
-      → All IsOfData after → IsRun d command l directory names s t → IsEffectOf files command l directory names (record { output = items t.writer; reports = after; status = t.status })
-  effect-of-run command l directory names s t after none empty zero now of_data run = elim run [
+  effect-of-data : (command : Command) (l : Listing) (directory : List ℕ) (names : List (List ℕ)) (s t : State W) (after : List Report) → s.told ≡ Some [] → items s.writer ≡ [] → s.status ≡ 0 → t.told ≡ Some after
+      → All IsOfData after → RunsByFiles d command l directory names s t ⊎ LacksData d command directory s t → RunsInMemory files command l directory names (record { output = items t.writer; reports = after; status = t.status }) ⊎ LacksDataInMemory files command directory (record { output = items t.writer; reports = after; status = t.status })
+  effect-of-data command l directory names s t after none empty zero now of_data run = elim run [
     | inl r ↦ inl (runs command l directory names s t after none empty zero now of_data r)
     | inr no_data ↦ inr (lacks command directory s t after none empty now of_data no_data)
   ]
+
+  pub effect-of-run : (command : Command) (l : Listing) (directory : List ℕ) (names : List (List ℕ)) (s t : State W) (after : List Report) → s.told ≡ Some [] → items s.writer ≡ [] → s.status ≡ 0 → t.told ≡ Some after
+      → All IsOfData after → IsRun d command l directory names s t → IsEffectOf files command l directory names (record { output = items t.writer; reports = after; status = t.status })
+  effect-of-run (command.OfForm task scheme mode form) l directory names s t after none empty zero now of_data run = effect-of-data (command.OfForm task scheme mode form) l directory names s t after none empty zero now of_data run
+  effect-of-run (command.OfMapper task scheme mode) l directory names s t after none empty zero now of_data run = effect-of-data (command.OfMapper task scheme mode) l directory names s t after none empty zero now of_data run
+  effect-of-run (command.WellFormed scheme) l directory names s t after none empty zero now of_data run = whole l (WellFormed scheme) names s t after none empty zero now of_data run

@@ -24,10 +24,10 @@ use Rattle.normalizer_replies.specs.declared.worker.Worker.TheVariants as worker
 use Rattle.normalizer_replies.specs.Making.{Makes, Making}
 use Rattle.normalizer_replies.specs.Mismatches.{TellsComparison}
 use Rattle.normalizer_replies.specs.Replies.{IsReplyOfComparison, IsReplyOfForm}
-use Rattle.normalizer_replies.specs.Works.{Does, OfForm, OfMapper, Work}
+use Rattle.normalizer_replies.specs.Works.{Does, IsOfText, OfForm, OfMapper, WellFormed, Work}
 use Rattle.normalizer_replies.proofs.MismatchLemmas.{compares-by}
 use Rattle.normalizer_command.specs.FileFaults.{fault_of_transfer}
-use Rattle.normalizer_command.specs.Written.{IsCutOff, IsWritten, Replies}
+use Rattle.normalizer_replies.specs.Written.{IsCutOff, IsWritten, Replies}
 use Rattle.normalizer_command.specs.Outcomes.{is_unwritten_by, Leaves}
 use Rattle.normalizer_command.specs.declared.fault.Fault.{Fault}
 use Rattle.normalizer_command.specs.declared.fault.Fault.TheVariants as fault
@@ -110,3 +110,23 @@ work_of_form task s mode n self is P each (OfForm task' s' mode' m) does =
     subst (λ x. P (OfForm x s' mode' m)) same.0 (subst (λ x. P (OfForm task x mode' m)) same.1 (subst (λ x. P (OfForm task s x m)) same.2 (each m same.3)))
 work_of_form task s mode n self is P each (OfMapper task' s' mode' m) does =
     let never : Does (worker.OfForm task s mode n) (OfMapper task' s' mode' m) = subst (λ x. Does x (OfMapper task' s' mode' m)) is does in absurd never
+work_of_form task s mode n self is P each (WellFormed s') does =
+    let never : Does (worker.OfForm task s mode n) (WellFormed s') = subst (λ x. Does x (WellFormed s')) is does in absurd never
+
+-- a reply that is written while a file is read is cut off
+text_left : (self : Worker) → IsOfText self → (w : Work) → Does self w → (error : TransferError) (Unwritten CutOff : Type 0) → CutOff
+    → Leaves w (fault_of_transfer error) Unwritten CutOff
+text_left (worker.OfForm task s mode n) text w does error Unwritten CutOff cut = absurd text
+text_left (worker.OfMapper task s mode n) text (OfForm task' s' mode' m) does error Unwritten CutOff cut = absurd does
+text_left (worker.WellFormed s) text (OfForm task' s' mode' m) does error Unwritten CutOff cut = absurd does
+text_left self text (OfMapper task s mode m) does transfer.Read Unwritten CutOff cut = cut
+text_left self text (OfMapper task s mode m) does transfer.Write Unwritten CutOff cut = cut
+text_left self text (OfMapper task s mode m) does transfer.Memory Unwritten CutOff cut = cut
+text_left self text (WellFormed s) does transfer.Read Unwritten CutOff cut = cut
+text_left self text (WellFormed s) does transfer.Write Unwritten CutOff cut = cut
+text_left self text (WellFormed s) does transfer.Memory Unwritten CutOff cut = cut
+
+pub reply_left : (self : Worker) → IsOfText self → (w : Work) → Does self w → (r : Result Answer Fault) (error : TransferError) → IsErrAnd r (λ fault. fault ≡ fault_of_transfer error)
+    → (Unwritten CutOff : Type 0) → CutOff → IfErr r (λ fault. Leaves w fault Unwritten CutOff)
+reply_left self text w does (Ok answer) error e Unwritten CutOff cut = tt
+reply_left self text w does (Err fault) error e Unwritten CutOff cut = subst (λ x. Leaves w x Unwritten CutOff) (sym e) (text_left self text w does error Unwritten CutOff cut)

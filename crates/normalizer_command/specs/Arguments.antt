@@ -1,6 +1,6 @@
 -- What the words request that the program is started with.
 use Rattle.std.specs.Prelude.{◌≡◌, ◌≢◌, ◌⊎◌, ◌||◌, ℕ, List, [], ◌∷◌, codes, map, Option, Some, None, option_copied, unwrap_or, IfSome}
-use Rattle.std.specs.Prelude.{IsTrue, Bool, true, false, bytes_eq, if◌then◌else◌}
+use Rattle.std.specs.Prelude.{⊤, IsTrue, Bool, true, false, bytes_eq, if◌then◌else◌}
 use Rattle.std.specs.Str.{str_to_ascii_lowercase}
 use Rattle.clap.specs.Walk.{Row, all_of, first_of, one_of}
 use Rattle.icu_normalizer.specs.declared.any_normalizer.NormalForm.{NormalForm}
@@ -15,7 +15,7 @@ use Rattle.normalizer_replies.specs.declared.mapping.MapperTask.TheVariants.{Map
 use Rattle.normalizer_replies.specs.declared.reply.Task.{Task}
 use Rattle.normalizer_replies.specs.declared.reply.Task.TheVariants.{Write, Check, Locate}
 use Rattle.normalizer_replies.specs.declared.worker.Command.{Command}
-use Rattle.normalizer_replies.specs.declared.worker.Command.TheVariants.{OfForm, OfMapper}
+use Rattle.normalizer_replies.specs.declared.worker.Command.TheVariants.{OfForm, OfMapper, WellFormed}
 use Rattle.normalizer_command.specs.declared.arguments.Flags.{Flags}
 use Rattle.normalizer_command.specs.declared.listing.LineEnd.TheVariants.{LineFeed, Nul}
 use Rattle.normalizer_command.specs.declared.listing.Listing.{Listing}
@@ -52,12 +52,19 @@ abbrev pub IsScheme : (encoding : Option (List ℕ)) → EncodingScheme → Type
 IsScheme None scheme = scheme ≡ Utf8
 IsScheme (Some word) scheme = NamesScheme scheme word
 
+abbrev pub is_well_formed : List ℕ → Bool
+is_well_formed word = bytes_eq word (codes "well-formed")
+
 abbrev pub is_prepare : List ℕ → Bool
 is_prepare word = bytes_eq word (codes "prepare")
 
+-- a command that has no form and no mapper
+abbrev pub is_of_text : List ℕ → Bool
+is_of_text word = is_prepare word || is_well_formed word
+
 -- the word is one of a command
 abbrev pub IsCommandWord : List ℕ → Type 0
-IsCommandWord word = IsTrue (is_prepare word) ⊎ (((task : MapperTask) × NamesMapperTask task word)
+IsCommandWord word = IsTrue (is_of_text word) ⊎ (((task : MapperTask) × NamesMapperTask task word)
     ⊎ (((task : Task) × NamesTask task word) ⊎ ((form : NormalForm) × NamesForm form word)))
 
 -- the words of a command and of an encoding are known, if they are there
@@ -65,11 +72,13 @@ abbrev pub AreKnown : (word encoding : Option (List ℕ)) → Type 0
 AreKnown word encoding = IfSome word IsCommandWord × ((scheme : EncodingScheme) × IsScheme encoding scheme)
 
 -- A word and those after it request a command over named files: FORM NAMES, check FORM NAMES, where FORM NAMES,
--- map NAMES or validate NAMES.
+-- map NAMES, validate NAMES or well-formed NAMES.
 abbrev pub AsksFor : (word : List ℕ) (after : List (List ℕ)) (encoding : Option (List ℕ)) (mode : ErrorMode) → Command
     → (names : List (List ℕ)) → Type 0
 AsksFor word after encoding mode (OfMapper task scheme m) names =
     NamesMapperTask task word × (after ≡ names) × IsScheme encoding scheme × (m ≡ mode)
+AsksFor word after encoding mode (WellFormed scheme) names =
+    IsTrue (is_well_formed word) × (after ≡ names) × IsScheme encoding scheme
 AsksFor word after encoding mode (OfForm Write scheme m form) names =
     NamesForm form word × (after ≡ names) × IsScheme encoding scheme × (m ≡ mode)
 AsksFor word after encoding mode (OfForm task scheme m form) names = NamesTask task word
@@ -105,7 +114,7 @@ of_reports flags = if flags.quiet || flags.names then Some (of_names flags) else
 -- the command of the word lists reports
 abbrev pub has_reports : (word : List ℕ) → Bool
 has_reports word =
-    bytes_eq word (codes "where") || bytes_eq word (codes "validate")
+    bytes_eq word (codes "where") || (bytes_eq word (codes "validate") || bytes_eq word (codes "well-formed"))
 
 -- what the command of a word lists by the flags, if they have a meaning for it
 abbrev pub listing_of : (word : List ℕ) → Flags → Option Listing
@@ -147,6 +156,10 @@ PreparesTo word directory names (Prepare request) =
     Prepares word names request.name.now × (option_copied request.directory ≡ directory)
 PreparesTo word directory names (Unclear reason) = (name : List ℕ) → Prepares word names name → ⊥
 PreparesTo word directory names other = ⊥
+
+abbrev pub NeedsData : Command → Type 0
+NeedsData (WellFormed scheme) = ⊥
+NeedsData other = ⊤
 
 -- The words, by argument, request this: the version, by the data of a directory if one is named; a command over the
 -- named files; or neither, if a word is unknown, no command is requested or a flag has no meaning for it.

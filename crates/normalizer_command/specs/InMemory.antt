@@ -6,8 +6,9 @@ use Rattle.icu_normalizer.specs.RecordValue.{RecordValue, Uts46RecordValue}
 use Rattle.normalizer_ucd.specs.declared.error.UcdFile.{UcdFile}
 use Rattle.normalizer_replies.specs.declared.reply.Answer.{Answer}
 use Rattle.normalizer_replies.specs.declared.worker.Command.{Command}
+use Rattle.normalizer_replies.specs.declared.worker.Command.TheVariants as command
 use Rattle.normalizer_replies.specs.Replies.{IsReply}
-use Rattle.normalizer_replies.specs.Works.{Work, work_by}
+use Rattle.normalizer_replies.specs.Works.{Work, work_by, WellFormed}
 use Rattle.normalizer_command.specs.Listings.{listed}
 use Rattle.normalizer_command.specs.declared.listing.Listing.{Listing}
 use Rattle.normalizer_command.specs.FileReports.{Report}
@@ -98,5 +99,6 @@ pub record LacksDataInMemory (files : List NamedBytes) (command : Command) (dire
 
 -- what the program makes of files, by those of Unicode in a directory
 abbrev pub IsEffectOf : List NamedBytes → Command → Listing → (directory : List ℕ) → (names : List (List ℕ)) → Effect → Type 0
+IsEffectOf files (command.WellFormed scheme) l directory names e = AreHandled files l (WellFormed scheme) names e
 IsEffectOf files command l directory names e =
     RunsInMemory files command l directory names e ⊎ LacksDataInMemory files command directory e

@@ -9,7 +9,6 @@ pub mod Arguments
 pub mod Messages
 pub mod Preparing
 pub mod Listings
-pub mod Written
 pub mod CommandLine
 pub mod DataDirectory
 pub mod InMemory

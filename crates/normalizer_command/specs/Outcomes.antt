@@ -46,10 +46,11 @@ fault_told (Err fault) = Some fault
 abbrev pub greater : ℕ → ℕ → ℕ
 greater a b = if nat_lt a b then b else a
 
--- a form is written while the file is read, and another reply once all of it is known
+-- how a file compares with its form is known before anything is written; another reply is written while the file is read
 abbrev pub is_known_first : Work → Bool
-is_known_first (OfForm task.Write scheme mode m) = false
-is_known_first other = true
+is_known_first (OfForm task.Check scheme mode m) = true
+is_known_first (OfForm task.Locate scheme mode m) = true
+is_known_first other = false
 
 -- nothing is written of work that fails so
 abbrev pub is_unwritten_by : (known_first : Bool) → Fault → Bool

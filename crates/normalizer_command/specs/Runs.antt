@@ -9,7 +9,8 @@ use Rattle.normalizer_command.specs.UnicodeFiles.{AreFiles, AreRecorded, IsDataF
 use Rattle.normalizer_command.specs.Devices.{Devices}
 use Rattle.normalizer_command.specs.Outcomes.{AreDone, State}
 use Rattle.normalizer_command.specs.FileReports.{Tells}
-use Rattle.normalizer_replies.specs.Works.{work_by}
+use Rattle.normalizer_replies.specs.declared.worker.Command.TheVariants as command
+use Rattle.normalizer_replies.specs.Works.{work_by, WellFormed}
 
 -- the command is done with each file by what the lines of the data files mean
 pub record RunsByFiles {W : Type 0} (d : Devices W) (command : Command) (l : Listing) (directory : List ℕ) (names : List (List ℕ))
@@ -33,6 +34,13 @@ pub record LacksData {W : Type 0} (d : Devices W) (command : Command) (directory
   pub unwritten : t.writer ≡ s.writer
   pub status : t.status ≡ 2
 
+abbrev pub RunsWithData : {W : Type 0} → Devices W → Command → Listing → (directory : List ℕ) → (names : List (List ℕ))
+    → State W → State W → Type 0
+RunsWithData d command l directory names s t =
+    RunsByFiles d command l directory names s t ⊎ LacksData d command directory s t
+
+-- ill-formed sequences are listed without data
 abbrev pub IsRun : {W : Type 0} → Devices W → Command → Listing → (directory : List ℕ) → (names : List (List ℕ))
     → State W → State W → Type 0
-IsRun d command l directory names s t = RunsByFiles d command l directory names s t ⊎ LacksData d command directory s t
+IsRun d (command.WellFormed scheme) l directory names s t = AreDone d l (WellFormed scheme) names s t
+IsRun d command l directory names s t = RunsWithData d command l directory names s t

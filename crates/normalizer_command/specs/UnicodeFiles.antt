@@ -21,7 +21,7 @@ use Rattle.normalizer_command.specs.declared.fault.Fault.{Fault}
 use Rattle.normalizer_command.specs.declared.fault.RecordsFault.{RecordsFault}
 use Rattle.normalizer_command.specs.declared.fault.Fault.TheVariants.{Open, Read, Write, Memory, Line, Records, IllFormed, Replaced}
 use Rattle.normalizer_replies.specs.declared.worker.Command.{Command}
-use Rattle.normalizer_replies.specs.declared.worker.Command.TheVariants.{OfForm, OfMapper}
+use Rattle.normalizer_replies.specs.declared.worker.Command.TheVariants.{OfForm, OfMapper, WellFormed}
 
 abbrev pub name_of : UcdFile → List ℕ
 name_of UnicodeData = codes "UnicodeData.txt"
@@ -42,6 +42,7 @@ IsFile bytes_of can_open directory file bytes =
 abbrev pub IsTable : (List ℕ → Option (List ℕ)) → (can_open : List ℕ → Type 0) → (directory : List ℕ) → Command
     → (table : Option (List ℕ)) → Type 0
 IsTable bytes_of can_open directory (OfForm task scheme mode form) table = table ≡ None
+IsTable bytes_of can_open directory (WellFormed scheme) table = table ≡ None
 IsTable bytes_of can_open directory (OfMapper task scheme mode) table =
     IsSomeAnd table (λ bytes. IsFile bytes_of can_open directory IdnaMappingTable bytes)
 

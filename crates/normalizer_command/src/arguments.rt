@@ -16,6 +16,7 @@ ghost use Rattle.std.specs.Prelude.{
   IfNone,
   IfOk,
   IfSome,
+  IsTrue,
   OnErr,
   OnSome,
 };
@@ -48,6 +49,7 @@ ghost use Rattle.normalizer_replies.specs.declared.reply.Task.{Task};
 ghost use Rattle.normalizer_replies.specs.declared.worker.Command.{Command as FileCommand};
 ghost use Rattle.normalizer_command.specs.Arguments.{
   has_reports,
+  is_of_text,
   listing_of,
   of_names,
   of_reports,
@@ -62,6 +64,7 @@ ghost use Rattle.normalizer_command.specs.Arguments.{
   NamesMapperTask,
   NamesScheme,
   NamesTask,
+  NeedsData,
   PreparesTo,
   Requests,
 };
@@ -76,7 +79,7 @@ use std::alloc::{AllocError, Global};
 /// The commands.
 const WORD_HELP: &str = "\
 nfc, nfd, nfkc, nfkd, check, where, map, validate,\n\
-prepare";
+well-formed, prepare";
 
 /// How text is read and written.
 const ENCODING_HELP: &str = "\
@@ -109,12 +112,14 @@ check FORM [FILE]...         print the names of files that aren't in the form\n 
 where FORM [FILE]...         print the first mismatch of each file\n  \
 map [FILE]...                write the lines, each mapped by UTS #46\n  \
 validate [FILE]...           print the numbers of lines that aren't valid\n  \
+well-formed [FILE]...        print the places of ill-formed sequences\n  \
 prepare FILE                 write the data as one file, which --data may name\n\
 \n\
 FORM is nfc, nfd, nfkc or nfkd. Forms and encodings may be named in any case.\n\
 \n\
 where prints FILE:LINE:BYTE: found U+0061, wanted U+00E4. Lines and bytes in a\n\
-line count from 1. An ill-formed sequence is found as U+FFFD.\n\
+line count from 1. An ill-formed sequence is found as U+FFFD. well-formed prints\n\
+FILE:LINE:BYTE: ill-formed UTF-8 for each, and needs no data.\n\
 \n\
 For map and validate each line is a text of its own, without its line feed. map\n\
 drops ignored characters, and writes U+FFFD for disallowed ones. A line is valid\n\
@@ -122,14 +127,14 @@ if mapping leaves it as it is, and it has no ignored or disallowed character and
 no U+FFFD. Punycode, STD3 rules, hyphens, joiners and bidi are not checked.\n\
 validate prints FILE:LINE: invalid.\n\
 \n\
-Forms are written, and files compared with them, while they are read. map and\n\
-validate read each file whole first.\n\
+All is written while files are read, in memory that doesn't grow with them but\n\
+for a long line (map, validate) or a long run of marks.\n\
 \n\
--q, -l and -z are for what lists files: check, where and validate.\n\
+-q, -l and -z are for what lists files: check, where, validate and well-formed.\n\
 \n\
 Status: 0; 1 if ill-formed sequences were replaced in a form or mapped lines, if\n\
-a file isn't in the form (check, where), or has a line that isn't valid\n\
-(validate); 2 if a file failed.\n\
+a file isn't in the form (check, where), has a line that isn't valid (validate)\n\
+or isn't well-formed; 2 if a file failed.\n\
 \n\
 Examples:\n  \
 uninorm nfc old.txt >new.txt\n  \
@@ -139,18 +144,18 @@ uninorm where nfc --strict notes.txt";
 
 /// The message if the command is unknown.
 const UNKNOWN_COMMAND: &str =
-    "the command is none of nfc, nfd, nfkc, nfkd, check, where, map, validate and prepare";
+    "the command is none of nfc, nfd, nfkc, nfkd, check, where, map, validate, well-formed and prepare";
 
 /// The message if a command is missing.
 const NO_COMMAND: &str =
-    "a command is missing: nfc, nfd, nfkc, nfkd, check, where, map, validate or prepare";
+    "a command is missing: nfc, nfd, nfkc, nfkd, check, where, map, validate, well-formed or prepare";
 
 /// The message if a command that needs a form has none.
 const NO_FORM: &str = "a form is missing: nfc, nfd, nfkc or nfkd";
 
 /// The message if an option of what is listed has no meaning.
 const NO_LISTING: &str =
-    "-q, -l and -z are for check, where and validate; -z is for names, as check or -l lists";
+    "-q, -l and -z are for check, where, validate and well-formed; -z is for names, as check or -l lists";
 
 /// The message if prepared data are to be written to no file, or to several.
 const NOT_ONE_FILE: &str = "prepare writes one file: name it, or - for standard output";
@@ -182,6 +187,15 @@ pub struct FileRequest<'a> {
     pub names: Vec<&'a str>,
     /// What is listed of each.
     pub listing: Listing,
+}
+
+impl FileRequest<'_> {
+    /// Whether the command needs Unicode's data.
+    pub fn needs_data(&self) -> bool
+        ensures { IsTrue result ↔ NeedsData self.now.command }
+    {
+        !matches!(&self.command, FileCommand::WellFormed(_))
+    }
 }
 
 /// Prepared data, to be written to a file.
@@ -298,7 +312,7 @@ fn listing_of(word: &str, flags: Flags) -> Option<Listing>
 fn has_reports(word: &str) -> bool
     ensures { result ≡ has_reports word.now }
 {
-    is_same(word, "where") || is_same(word, "validate")
+    is_same(word, "where") || is_same(word, "validate") || is_same(word, "well-formed")
 }
 
 fn of_names(flags: Flags) -> Listing
@@ -357,7 +371,7 @@ fn is_command(word: &str) -> bool
     ensures yes { result ≡ true → IsCommandWord word.now }
     ensures no { result ≡ false → IsCommandWord word.now → ⊥ }
 {
-    if is_same(word, "prepare") {
+    if is_of_text(word) {
         return true;
     }
     if mapper_task_named(word).is_some() {
@@ -367,6 +381,13 @@ fn is_command(word: &str) -> bool
         return true;
     }
     form_named(word).is_some()
+}
+
+/// Whether the word is one of a command that has no form and no mapper.
+fn is_of_text(word: &str) -> bool
+    ensures { result ≡ is_of_text word.now }
+{
+    is_same(word, "prepare") || is_same(word, "well-formed")
 }
 
 /// The command of a word and those after it, and the names of its files, or what is wrong.
@@ -384,6 +405,9 @@ fn command_of<'n, 'a>(
     let scheme = scheme_of(encoding)?;
     if let Some(task) = mapper_task_named(word) {
         return Ok((FileCommand::OfMapper(task, scheme, mode), after));
+    }
+    if is_same(word, "well-formed") {
+        return Ok((FileCommand::WellFormed(scheme), after));
     }
     if let Some(form) = form_named(word) {
         return Ok((FileCommand::OfForm(Task::Write, scheme, mode, form), after));

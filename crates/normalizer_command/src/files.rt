@@ -22,7 +22,6 @@ ghost use Rattle.normalizer_streams.specs.declared.scheme.EncodingScheme.{Encodi
 ghost use Rattle.std.specs.Io.KnownBytes.{Appends};
 ghost use Rattle.normalizer_replies.specs.declared.reply.Answer.{Answer};
 ghost use Rattle.normalizer_io.specs.Transfer.{AppendsFront, IsUnrefused};
-ghost use Rattle.normalizer_replies.specs.Replies.{IsReply};
 ghost use Rattle.normalizer_streams.specs.Streams.{IsEndless};
 ghost use Rattle.normalizer_command.specs.Devices.{devices};
 ghost use Rattle.normalizer_command.specs.FileFaults.{IsFileFault, IsReadUnrefused};
@@ -35,11 +34,11 @@ ghost use Rattle.normalizer_command.specs.Outcomes.{
   Leaves,
 };
 ghost use Rattle.normalizer_command.specs.Listings.{byte_of, listed, IsListed, IsListedInPart};
-ghost use Rattle.normalizer_command.specs.Written.{IsCutOff, IsWritten};
+ghost use Rattle.normalizer_replies.specs.Written.{IsCutOff, IsWritten};
 ghost use Rattle.normalizer_command.specs.FileReports.{Tells};
 ghost use Rattle.normalizer_replies.specs.Making.{Makes, Making};
 ghost use Rattle.normalizer_replies.specs.Mismatches.{TellsComparison};
-ghost use Rattle.normalizer_replies.specs.Works.{Does, IsOfMapper, OfForm, Work};
+ghost use Rattle.normalizer_replies.specs.Works.{Does, IsOfText, OfForm, Work};
 
 use crate::devices::{Inputs, Reports};
 use crate::fault::Fault;
@@ -47,7 +46,7 @@ use crate::listing::{LineEnd, Listing};
 use crate::message::Message;
 use crate::unkept::Unkept;
 use icu_normalizer::AnyNormalizer;
-use normalizer_io::{Source, Target, TransferError, read_all, write_all};
+use normalizer_io::{Source, Target, TransferError, write_all};
 use normalizer_replies::{Answer, Task, Worker};
 use normalizer_streams::{
     Comparison, EncodingScheme, Ending, ErrorMode, first_mismatch, write_form,
@@ -130,10 +129,37 @@ fn over_input<S: Source, W: Target>(
     match listing {
         Listing::All => write_input(alloc, worker, name, input, writer),
         Listing::Names(_) | Listing::Nothing => {
-            let answer = write_input(alloc, worker, name, input, &mut Unkept)?;
+            list_name(alloc, worker, listing, name, input, writer)
+        }
+    }
+}
+
+/// Does a worker's work with what an open file has, and lists its name alone, or nothing.
+fn list_name<S: Source, W: Target>(
+    alloc: Global,
+    worker: &Worker,
+    listing: Listing,
+    name: &str,
+    input: &mut S,
+    writer: &mut W,
+) -> Result<Answer, Fault>
+    requires { listing ≢ Listing.All }
+    ensures done { (w : Work) → Does worker.now w → IfOk result
+        (IsListed listing w name.now (S.bytes_left input.old) (W.bytes_taken writer.old) (W.bytes_taken writer.new)) }
+    ensures why { IfErr result (IsFileFault (λ _. ⊥)
+        (S.refusal input.old input.new ⊎ IsEndless (S.bytes_left input.old)) (W.refusal writer.old writer.new)
+        (IsReadUnrefused (S.bytes_left input.new) S.refusal input.old input.new
+        × IsUnrefused W.refusal writer.old writer.new)) }
+    ensures left { (w : Work) → Does worker.now w →
+        IfErr result (λ fault. Leaves w fault (writer.new ≡ writer.old)
+        (IsListedInPart listing w name.now (S.bytes_left input.old) (W.bytes_taken writer.old) (W.bytes_taken writer.new))) }
+{
+    match write_input(alloc, worker, name, input, &mut Unkept) {
+        Ok(answer) => {
             write_name(listing, name, answer, writer)?;
             Ok(answer)
         }
+        Err(fault) => Err(fault),
     }
 }
 
@@ -206,7 +232,9 @@ fn write_input<S: Source, W: Target>(
                 alloc, *task, *scheme, *mode, normalizer, name, input, writer,
             )
         }
-        Worker::OfMapper(..) => write_reply(alloc, worker, name, input, writer),
+        Worker::OfMapper(..) | Worker::WellFormed(_) => {
+            write_reply(alloc, worker, name, input, writer)
+        }
     }
 }
 
@@ -267,7 +295,7 @@ fn write_comparison<W: Target>(
     Ok(reply.answer)
 }
 
-/// Reads to the end, computes the reply, and only then writes it.
+/// Writes the reply to a file while it reads.
 fn write_reply<S: Source, W: Target>(
     alloc: Global,
     worker: &Worker,
@@ -275,42 +303,19 @@ fn write_reply<S: Source, W: Target>(
     input: &mut S,
     writer: &mut W,
 ) -> Result<Answer, Fault>
-    requires { IsOfMapper worker.now }
+    requires { IsOfText worker.now }
     ensures done { (w : Work) → Does worker.now w → IfOk result
         (IsWritten w name.now (S.bytes_left input.old) (W.bytes_taken writer.old) (W.bytes_taken writer.new)) }
-    ensures why { IfErr result (IsFileFault (λ _. ⊥) (S.refusal input.old input.new) (W.refusal writer.old writer.new)
+    ensures why { IfErr result (IsFileFault (λ _. ⊥)
+        (S.refusal input.old input.new ⊎ IsEndless (S.bytes_left input.old)) (W.refusal writer.old writer.new)
         (IsReadUnrefused (S.bytes_left input.new) S.refusal input.old input.new
         × IsUnrefused W.refusal writer.old writer.new)) }
-    ensures cut { (w : Work) → Does worker.now w → IsErrOf result Fault.Write →
-        IsCutOff w name.now (S.bytes_left input.old) (W.bytes_taken writer.old) (W.bytes_taken writer.new) }
-    ensures unwritten { IfErr result (λ fault. fault ≢ Fault.Write → writer.new ≡ writer.old) }
+    ensures left { (w : Work) → Does worker.now w →
+        IfErr result (λ fault. Leaves w fault (writer.new ≡ writer.old)
+        (IsCutOff w name.now (S.bytes_left input.old) (W.bytes_taken writer.old) (W.bytes_taken writer.new))) }
 {
-    let bytes = read_all(alloc, input)?;
-    write_reply_to(alloc, worker, name, &bytes, writer)
-}
-
-/// Computes the reply to bytes, and only then writes it.
-fn write_reply_to<W: Target>(
-    alloc: Global,
-    worker: &Worker,
-    name: &str,
-    bytes: &[u8],
-    writer: &mut W,
-) -> Result<Answer, Fault>
-    requires { IsOfMapper worker.now }
-    ensures done { (w : Work) → Does worker.now w → IfOk result (λ answer. (output : List ℕ)
-        × IsReply w name.now bytes.now answer output
-        × Appends (W.bytes_taken writer.old) (W.bytes_taken writer.new) output) }
-    ensures why { IfErr result (IsFileFault (λ _. ⊥) ⊥ (W.refusal writer.old writer.new)
-        (IsUnrefused W.refusal writer.old writer.new)) }
-    ensures cut { (w : Work) → Does worker.now w → IsErrOf result Fault.Write → (answer : Answer) × (output : List ℕ)
-        × IsReply w name.now bytes.now answer output
-        × AppendsFront (W.bytes_taken writer.old) (W.bytes_taken writer.new) output }
-    ensures unwritten { IfErr result (λ fault. fault ≢ Fault.Write → writer.new ≡ writer.old) }
-{
-    let reply = worker.reply(alloc, name, bytes)?;
-    write_all(writer, &reply.output)?;
-    Ok(reply.answer)
+    let answer = worker.write_reply(alloc, name, input, writer)?;
+    Ok(answer)
 }
 
 /// Reports why a file failed, if it did, and what was ill-formed in it.

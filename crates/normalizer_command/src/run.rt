@@ -7,7 +7,7 @@ ghost use Rattle.normalizer_command.specs.UnicodeFiles.{IsDataFault, path_of};
 ghost use Rattle.normalizer_command.specs.Devices.{devices};
 ghost use Rattle.normalizer_command.specs.Outcomes.{AreDone, state};
 ghost use Rattle.normalizer_command.specs.FileReports.{Tells};
-ghost use Rattle.normalizer_command.specs.Runs.{IsRun, RunsByFiles};
+ghost use Rattle.normalizer_command.specs.Runs.{IsRun, RunsByFiles, RunsWithData};
 ghost use Rattle.normalizer_replies.specs.Works.{work_by};
 
 use crate::devices::{Inputs, Reports};
@@ -18,13 +18,13 @@ use crate::message::Message;
 use crate::unicode_files::{DataFault, built, name_of, read_files};
 use icu_normalizer::{Built, NormalizeError};
 use normalizer_io::Target;
-use normalizer_replies::{Command, worker_for};
+use normalizer_replies::{Command, Worker, worker_for};
 use normalizer_ucd::UcdFile;
 use std::alloc::Global;
 
 /// Does a command with each file in turn, using Unicode's files in a directory, and returns the exit status: 0; 1 if a
-/// file isn't in the form, or has a line that isn't valid; 2 if one failed. If Unicode's files fail, that is reported,
-/// and nothing is written.
+/// file isn't in the form, has a line that isn't valid, or isn't well-formed; 2 if one failed. If the command needs
+/// Unicode's files and they fail, that is reported, and nothing is written.
 pub fn run<I: Inputs, W: Target, R: Reports>(
     alloc: Global,
     command: Command,
@@ -36,6 +36,34 @@ pub fn run<I: Inputs, W: Target, R: Reports>(
     reports: &mut R,
 ) -> u8
     ensures { IsRun
+        (devices (I.bytes_of inputs.now) (I.can_open inputs.now) (I.cannot_open inputs.now) (I.unrefused inputs.now)
+        (I.read_refused inputs.now) W.bytes_taken W.refusal)
+        command listing directory.now (map (λ name. name.now) names.now)
+        (state writer.old (R.reports reports.old) 0) (state writer.new (R.reports reports.new) result) }
+{
+    match command {
+        Command::WellFormed(scheme) => {
+            let worker = Worker::WellFormed(scheme);
+            over_files(alloc, &worker, listing, inputs, names, writer, reports)
+        }
+        Command::OfForm(..) | Command::OfMapper(..) => run_with_data(
+            alloc, command, listing, directory, names, inputs, writer, reports,
+        ),
+    }
+}
+
+/// Does a command with each file in turn, using Unicode's files in a directory.
+fn run_with_data<I: Inputs, W: Target, R: Reports>(
+    alloc: Global,
+    command: Command,
+    listing: Listing,
+    directory: &str,
+    names: &[&str],
+    inputs: &I,
+    writer: &mut W,
+    reports: &mut R,
+) -> u8
+    ensures { RunsWithData
         (devices (I.bytes_of inputs.now) (I.can_open inputs.now) (I.cannot_open inputs.now) (I.unrefused inputs.now)
         (I.read_refused inputs.now) W.bytes_taken W.refusal)
         command listing directory.now (map (λ name. name.now) names.now)

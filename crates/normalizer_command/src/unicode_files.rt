@@ -118,7 +118,7 @@ fn read_table<I: Inputs>(
     ensures needed { IfErr result (λ e. NeedsFile command e.file) }
 {
     match command {
-        Command::OfForm(..) => Ok(None),
+        Command::OfForm(..) | Command::WellFormed(_) => Ok(None),
         Command::OfMapper(..) => {
             let table = read_file(alloc, inputs, directory, UcdFile::IdnaMappingTable)?;
             Ok(Some(table))

@@ -1,5 +1,5 @@
 //! The program `uninorm`: it writes the normal forms of files or of standard input, the names of files that aren't in a
-//! form, and lines mapped or validated for domain names.
+//! form, lines mapped or validated for domain names, and the places of ill-formed sequences.
 #![tactic(auto)]
 
 mod data;
@@ -56,6 +56,9 @@ fn by_words(rt: &HostRuntime, words: &Vec<String>, unclear: &[String]) -> u8 {
 }
 
 fn over_files(rt: &HostRuntime, request: &FileRequest<'_>, unclear: &[String]) -> u8 {
+    if !request.needs_data() {
+        return over_names(rt, request, "", &Named::new(rt, unclear));
+    }
     match directory(rt, request.directory) {
         Ok(directory) => over_names(rt, request, directory.as_str(), &Named::new(rt, unclear)),
         Err(reason) => failed(rt, reason),

@@ -48,7 +48,9 @@ fn status(rt: &HostRuntime) -> io::Result<u8> {
             eprintln!(rt; "uninorm: {reason}")?;
             Ok(FAILED)
         }
-        Ok(Request::Version(_) | Request::Prepare(_)) | Err(_) => Err(io::Error::from(ErrorKind::Unsupported)),
+        Ok(Request::Version(_) | Request::Prepare(_)) | Err(_) => Err(io::Error::from(
+            ErrorKind::Unsupported,
+        )),
     }
 }
 
@@ -85,7 +87,11 @@ fn variable(rt: &HostRuntime) -> io::Result<String> {
 fn read_files(rt: &HostRuntime, directory: &str, names: &[&str]) -> io::Result<Vec<ReadFile>> {
     let mut files = Vec::new(rt.alloc());
     for name in DATA {
-        push_file(rt, format!(in rt.alloc(); "{directory}/{name}")?, &mut files)?;
+        push_file(
+            rt,
+            format!(in rt.alloc(); "{directory}/{name}")?,
+            &mut files,
+        )?;
     }
     for name in names {
         push_file(rt, String::from_str(rt.alloc(), name)?, &mut files)?;

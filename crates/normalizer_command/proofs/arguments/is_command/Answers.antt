@@ -2,8 +2,8 @@ use Rattle.std.proofs.Common.{◌∙◌, inl, inr, sym}
 use Rattle.normalizer_command.proofs.ArgumentLemmas.{differ, found, missed}
 use Rattle.normalizer_command.proofs.arguments.is_command.Goals as goal
 
-pub returns-then-is_same-clause-yes : goal.returns-then-is_same-clause-yes
-returns-then-is_same-clause-yes c = λ _. inl (sym c.is_same.ensures ∙ c.if-is_same.true)
+pub returns-then-is_of_text-clause-yes : goal.returns-then-is_of_text-clause-yes
+returns-then-is_of_text-clause-yes c = λ _. inl (sym c.is_of_text.ensures ∙ c.if-is_of_text.true)
 
 pub returns-then-is_some-clause-yes : goal.returns-then-is_some-clause-yes
 returns-then-is_some-clause-yes c = λ _. inr (inl (found _ c.mapper_task_named.ensures (sym c.is_some.ensures ∙ c.if-is_some.true)))
@@ -16,7 +16,7 @@ returns-clause-yes c = λ yes. inr (inr (inr (found _ c.form_named.ensures (sym 
 
 pub returns-clause-no : goal.returns-clause-no
 returns-clause-no c = λ no command. elim command [
-  | inl of_text ↦ differ (sym c.if-is_same.false ∙ c.is_same.ensures ∙ of_text)
+  | inl of_text ↦ differ (sym c.if-is_of_text.false ∙ c.is_of_text.ensures ∙ of_text)
   | inr named ↦ elim named [
     | inl mapper ↦ missed _ c.mapper_task_named.ensures (sym c.is_some.ensures ∙ c.if-is_some.false) mapper.0 mapper.1
     | inr other ↦ elim other [
