@@ -24,10 +24,11 @@ use crate::composition::passing::{Given, is_at_passthrough, next_passthrough};
 use crate::decomposition::Decomposition;
 use crate::error::NormalizeError;
 use crate::marks::StayingMarks;
+use crate::pairs::compose;
 use crate::waiting::ClassedChar;
+use normalizer_tables::CanonicalCompositions;
 use normalizer_tables::characters::{CharacterData, IgnoredCharacters};
 use normalizer_tables::condition::Bounds;
-use normalizer_tables::{CanonicalCompositions, compose};
 use std::alloc::AllocError;
 
 mod making;

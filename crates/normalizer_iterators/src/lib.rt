@@ -8,6 +8,7 @@ mod error;
 pub mod laws;
 pub mod mark_run;
 mod marks;
+mod pairs;
 mod pending;
 mod reading;
 pub mod segment;

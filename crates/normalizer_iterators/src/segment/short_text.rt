@@ -7,8 +7,9 @@ ghost use Rattle.normal_forms.specs.Reading.{Reading};
 ghost use Rattle.normal_forms.specs.CompositionByStarters.{compose_by_starters};
 ghost use Rattle.normal_forms.specs.ShortRuns.{buffer_limit};
 
+use crate::pairs::compose;
 use crate::waiting::{BUFFER_LIMIT, ClassedChar};
-use normalizer_tables::{CanonicalCompositions, compose};
+use normalizer_tables::CanonicalCompositions;
 
 /// A text of at most `BUFFER_LIMIT` characters.
 #[derive(Drop)]
