@@ -113,7 +113,7 @@ where FORM [FILE]...         print the first mismatch of each file\n  \
 map [FILE]...                write the lines, each mapped by UTS #46\n  \
 validate [FILE]...           print the numbers of lines that aren't valid\n  \
 well-formed [FILE]...        print the places of ill-formed sequences\n  \
-prepare FILE                 write the data as one file, which --data may name\n\
+prepare FILE                 write the data as one file, for the library for C\n\
 \n\
 FORM is nfc, nfd, nfkc or nfkd. Forms and encodings may be named in any case.\n\
 \n\
