@@ -25,9 +25,7 @@ ghost use Rattle.normalizer_examples.specs.Last.{last_of};
 ghost use Rattle.normalizer_examples.specs.IteratorRuns.{IsFormOfDrained};
 
 mod by_bytes;
-mod by_prepared;
 mod by_records;
-mod by_unicode_data;
 pub mod composites;
 pub mod growing;
 pub mod identifiers;
@@ -38,11 +36,7 @@ pub mod shaping;
 pub mod sinks;
 
 pub use by_bytes::bytes_of_form;
-pub use by_prepared::{PreparedFault, form_by_prepared_data};
-pub use by_records::{
-    built_combining_classes, built_composition, built_decomposition, form_by_records,
-};
-pub use by_unicode_data::{UnicodeFault, form_by_unicode_data};
+pub use by_records::{built_combining_classes, built_composition, built_decomposition};
 use icu_normalizer::iterator_laws::{text_comes_unless_a_fault_does, text_comes_without_faults};
 use icu_normalizer::{
     ComposingNormalizer, ComposingNormalizerBorrowed, DataError, DataProvider,

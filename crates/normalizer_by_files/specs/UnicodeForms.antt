@@ -6,8 +6,8 @@ use Rattle.normalizer_ucd.specs.FallibleReads.{Fails}
 use Rattle.normalizer_ucd.specs.UnicodeData.{records_of}
 use Rattle.icu_normalizer.specs.RecordedForms.{recorded_form}
 use Rattle.icu_normalizer.specs.declared.any_normalizer.NormalForm.{NormalForm}
-use Rattle.normalizer_examples.specs.declared.by_unicode_data.UnicodeFault.{UnicodeFault}
-use Rattle.normalizer_examples.specs.declared.by_unicode_data.UnicodeFault.TheVariants.{File, Records}
+use Rattle.normalizer_by_files.specs.declared.by_unicode_data.UnicodeFault.{UnicodeFault}
+use Rattle.normalizer_by_files.specs.declared.by_unicode_data.UnicodeFault.TheVariants.{File, Records}
 
 -- the form of a text by the records of the two files
 abbrev pub IsFormByFiles : List ℕ → List ℕ → NormalForm → List ℕ → List ℕ → Type 0

@@ -6,8 +6,8 @@ use Rattle.icu_normalizer.specs.Forms.{form_of}
 use Rattle.icu_normalizer.specs.declared.any_normalizer.NormalForm.{NormalForm}
 use Rattle.normalizer_prepared.specs.Files.{IsFirstFault}
 use Rattle.normalizer_prepared.specs.Prepared.{prepared_bytes, Fits}
-use Rattle.normalizer_examples.specs.declared.by_prepared.PreparedFault.{PreparedFault}
-use Rattle.normalizer_examples.specs.declared.by_prepared.PreparedFault.TheVariants.{File, Data}
+use Rattle.normalizer_by_files.specs.declared.by_prepared.PreparedFault.{PreparedFault}
+use Rattle.normalizer_by_files.specs.declared.by_prepared.PreparedFault.TheVariants.{File, Data}
 
 -- the form of a text by the data whose file it is
 abbrev pub IsFormByPrepared : List ℕ → NormalForm → List ℕ → List ℕ → Type 0

@@ -8,7 +8,7 @@ ghost use Rattle.icu_normalizer.specs.ByRecords.{packed_form};
 ghost use Rattle.icu_normalizer.specs.Forms.{form_of};
 ghost use Rattle.icu_normalizer.specs.RecordedForms.{recorded_form};
 ghost use Rattle.normalizer_prepared.specs.Prepared.{prepared_bytes, prepared_in, Fits};
-ghost use Rattle.normalizer_examples.specs.PreparedForms.{IsFaultOfPrepared, IsFormByPrepared};
+ghost use Rattle.normalizer_by_files.specs.PreparedForms.{IsFaultOfPrepared, IsFormByPrepared};
 
 use icu_normalizer::{DataError, FormData, NormalForm, Utf8Chars};
 use normalizer_prepared::{PreparedData, PreparedError};

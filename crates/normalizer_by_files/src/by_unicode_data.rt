@@ -1,7 +1,7 @@
 //! Normalizing text with a version of Unicode's own data.
 ghost use Rattle.std.specs.Prelude.{MatchResult};
 ghost use Rattle.icu_normalizer.specs.Utf8.{decoded_utf8};
-ghost use Rattle.normalizer_examples.specs.UnicodeForms.{IsFormByFiles, IsFaultOfFiles};
+ghost use Rattle.normalizer_by_files.specs.UnicodeForms.{IsFormByFiles, IsFaultOfFiles};
 
 use crate::by_records::form_by_records;
 use icu_normalizer::{BuildError, NormalForm};

@@ -1,6 +1,6 @@
 use Rattle.std.proofs.Common.{rules, ◌∙◌}
 use Rattle.icu_normalizer.specs.Building.{IsSmallest}
-use Rattle.normalizer_examples.proofs.by_records.form_by_records.Goals as goal
+use Rattle.normalizer_by_files.proofs.by_records.form_by_records.Goals as goal
 
 pub normalizer_to-requires : goal.normalizer_to-requires
 normalizer_to-requires c = (c.args.records.now, c.args.uts46.now, c.in_ok-built.ensures)

@@ -1,0 +1,2 @@
+pub mod PreparedForms
+pub mod UnicodeForms
