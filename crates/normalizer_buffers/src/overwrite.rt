@@ -1,5 +1,5 @@
 //! Overwriting a buffer.
-ghost use Rattle.std.specs.Prelude.{◌≡◌, ◌≤◌, ◌^◌, ◌-◌, ◌++◌, length, drop, take};
+ghost use Rattle.std.specs.Prelude.{◌≡◌, ◌≤◌, ◌^◌, ◌-◌, ◌++◌, ◌∷◌, [], length, drop, take};
 ghost use Rattle.normalizer_buffers.specs.Overwriting.{overwritten};
 
 /// Writes units to the beginning of a buffer, as many as it has room for.
@@ -22,5 +22,17 @@ pub(crate) fn overwrite_after<T: Copy>(buffer: &mut [T], start: usize, units: &[
 {
     if start < buffer.len() {
         overwrite(&mut buffer[start..], units);
+    }
+}
+
+/// Writes one unit to a buffer at a position, if it has room for it there.
+#[inline(always)]
+pub(crate) fn overwrite_at<T: Copy>(buffer: &mut [T], position: usize, unit: T)
+    ensures fits { length buffer.old ≤ 2 ^ 64 - 1 }
+    ensures len { length buffer.new ≡ length buffer.old }
+    ensures after { buffer.new ≡ take position buffer.old ++ overwritten (drop position buffer.old) (unit ∷ []) }
+{
+    if position < buffer.len() {
+        buffer[position] = unit;
     }
 }

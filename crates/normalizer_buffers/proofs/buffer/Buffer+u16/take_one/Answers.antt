@@ -1,0 +1,17 @@
+use Rattle.std.proofs.Common.{◌∷◌, []}
+use Rattle.normalizer_buffers.proofs.OverwritingLemmas.{still_had, still_has, still_counts}
+use Rattle.normalizer_buffers.proofs.buffer.Buffer+u16.take_one.Goals as goal
+
+pub invariant_of-self : goal.invariant_of-self
+invariant_of-self c =
+    let b = c.args.self.now in
+    let o = c.overwrite_at.ensures in
+    let v = c.overwrite_at.new.buffer in
+    let us = c.args.unit ∷ [] in
+    record {
+      had = still_had b.units.now v b.history.units _ us b.count _ o.fits b.had b.counts o.len c.and-history.ensures;
+      has = still_has b.units.now v b.history.units _ us b.count _ o.fits b.had b.counts o.len c.and-history.ensures
+          b.has o.after;
+      counts = still_counts b.units.now v b.history.units _ us b.count _ o.fits b.had b.counts o.len
+          c.and-history.ensures _ c.saturating_add-self.ensures;
+    }
