@@ -22,7 +22,7 @@ ghost use Rattle.icu_normalizer.specs.inner.WrittenParts.{NothingOffered, Writes
 use crate::boundaries::is_taken_as_boundary;
 use crate::composing_form::ComposingForm;
 use crate::decomposing_form::DecomposingForm;
-use crate::kept::{SeenSegment, seen_segment};
+use crate::kept::{SeenSegment, Unseen, seen_segment};
 use crate::writing::{first_item, write_items};
 use normalizer_iterators::{MarkRun, NormalizeError, SegmentBuffers};
 use normalizer_sets::CharacterSet;
@@ -78,9 +78,9 @@ pub trait Forming {
 
     /// Returns the segment in beginning of the units, if it is seen to be well-formed and normalized, or to become one
     /// character, while it is read.
-    fn seen_segment<U: Units>(&self, units: U) -> Option<SeenSegment>
+    fn seen_segment<U: Units>(&self, units: U) -> Result<SeenSegment, Unseen>
         requires { 0 < length (U.units units) }
-        ensures { let m = made_form self.now in IfSome result (λ seen. IsSeenSegment (beginning self.now)
+        ensures { let m = made_form self.now in IfOk result (λ seen. IsSeenSegment (beginning self.now)
             U.encoding m.reading m.form (U.units units) seen.end seen.becomes) };
 
     /// The form of a character alone, if its list is that.
@@ -184,8 +184,8 @@ impl<'a> Forming for DecomposingForm<'a> {
     }
 
     #[inline(always)]
-    fn seen_segment<U: Units>(&self, _units: U) -> Option<SeenSegment> {
-        None
+    fn seen_segment<U: Units>(&self, _units: U) -> Result<SeenSegment, Unseen> {
+        Err(Unseen::Unknown)
     }
 
     #[inline(always)]
@@ -277,7 +277,7 @@ impl<'a> Forming for ComposingForm<'a> {
     }
 
     #[inline(always)]
-    fn seen_segment<U: Units>(&self, units: U) -> Option<SeenSegment> {
+    fn seen_segment<U: Units>(&self, units: U) -> Result<SeenSegment, Unseen> {
         seen_segment(self, units)
     }
 

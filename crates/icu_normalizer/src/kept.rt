@@ -1,5 +1,5 @@
 //! Segments of the composing form that stay as they are, or become one character.
-ghost use Rattle.std.specs.Prelude.{◌≡◌, ◌≢◌, ◌<◌, ◌≤◌, drop, length, IfSome, None, Some};
+ghost use Rattle.std.specs.Prelude.{◌≡◌, ◌≢◌, ◌<◌, ◌≤◌, drop, length, IfOk, IfSome, None, Some};
 ghost use Rattle.normalizer_text.specs.Encodings.{first_in};
 ghost use Rattle.normal_forms.specs.declared.Form.TheVariants.{Composing};
 ghost use Rattle.normalizer_tables.specs.Characters.{word_of};
@@ -23,6 +23,15 @@ pub struct SeenSegment {
     pub(crate) end: usize,
     pub(crate) is_before_run: bool,
     pub(crate) becomes: Option<char>,
+}
+
+/// Why a segment isn't seen to stay, or to become one character.
+#[derive(Clone, Copy)]
+pub enum Unseen {
+    /// A mark comes after one of a greater class.
+    Unordered,
+    /// Another reason.
+    Unknown,
 }
 
 /// What a character is after a starter and marks: a mark of this class that stays, or what the starter becomes with it.
@@ -61,38 +70,58 @@ impl KeptStarter {
 /// list, in canonical order, each blocked from what it may compose with, or not composing with it. Or if it is such a
 /// starter and a character that composes with it.
 #[inline(always)]
-pub(crate) fn seen_segment<U: Units>(form: &ComposingForm<'_>, units: U) -> Option<SeenSegment>
+pub(crate) fn seen_segment<U: Units>(
+    form: &ComposingForm<'_>,
+    units: U,
+) -> Result<SeenSegment, Unseen>
     requires { 0 < length (U.units units) }
-    ensures { let f = form.now in IfSome result (λ seen.
+    ensures { let f = form.now in IfOk result (λ seen.
         IsSeenSegment (is_taken_as_boundary f.characters f.bounds) U.encoding
         (reading_by f.characters Dropped f.pairs.now) Composing (U.units units) seen.end seen.becomes) }
 {
     let first = units.step_at(0);
-    let starter = kept_starter(form, first)?;
+    let Some(starter) = kept_starter(form, first) else {
+        return Err(Unseen::Unknown);
+    };
     let mut last = 0;
     let mut end = first.width;
     while end < units.len() {
         let step = units.step_at(end);
         let word = form.characters.word_of(step.character);
         if form.begins_by(step.character, word) {
-            return Some(SeenSegment {
+            return Ok(SeenSegment {
                 end,
                 is_before_run: form.passing().contains(step.character),
                 becomes: None,
             });
         }
-        let mark = mark_after(form, starter, last, step, word)?;
+        let Some(mark) = mark_after(form, starter, last, step, word) else {
+            return Err(unseen_after(form, last, step, word));
+        };
         if mark.joined.is_some() {
-            return joined_segment(form, units, starter, first, end, step, mark);
+            return joined_segment(form, units, starter, first, end, step, mark).ok_or(
+                Unseen::Unknown,
+            );
         }
         last = mark.class;
         end += step.width;
     }
-    Some(SeenSegment {
+    Ok(SeenSegment {
         end,
         is_before_run: false,
         becomes: None,
     })
+}
+
+/// Returns why a character after marks, of which the last has the class `last`, is none that stays or joins.
+#[inline(always)]
+fn unseen_after(form: &ComposingForm<'_>, last: u8, step: Step, word: u32) -> Unseen
+    requires { word ≡ word_of form.now.characters step.character }
+{
+    match form.characters.class_of_itself(step.character, word) {
+        Some(class) if 0 < class && class < last => Unseen::Unordered,
+        _ => Unseen::Unknown,
+    }
 }
 
 /// Returns the segment of a starter and a character that joins it, if that comes right after the starter, and nothing

@@ -7,6 +7,7 @@ ghost use Rattle.icu_normalizer.specs.inner.PassthroughRuns.{next_class, IsBefor
 ghost use Rattle.icu_normalizer.specs.inner.PassthroughRuns.{IsRunEnd, IsSegmentEnd};
 
 use crate::forming::Forming;
+use crate::kept::Unseen;
 use normalizer_text::{Chars, Step, Units};
 
 /// A run of characters that are passed on as they are: where the marks at its end begin, where it ends, and the step
@@ -25,11 +26,13 @@ pub(crate) struct Composite {
     pub(crate) character: char,
 }
 
-/// The end of what is kept, and the segment after it, if that is seen to become one character.
+/// The end of what is kept, the segment after it, if that is seen to become one character, and whether its marks are seen
+/// to be out of order.
 #[derive(Clone, Copy)]
 pub(crate) struct Kept {
     pub(crate) end: usize,
     pub(crate) composite: Option<Composite>,
+    pub(crate) is_unordered: bool,
 }
 
 /// The end of a segment, the step that follows, and whether that is passed on as it is.
@@ -183,6 +186,7 @@ pub(crate) fn kept_end<U: Units, N: Forming>(normalizer: &N, units: U) -> Kept
     Kept {
         end,
         composite: None,
+        is_unordered: false,
     }
 }
 
@@ -198,11 +202,15 @@ fn kept_after<U: Units, N: Forming>(normalizer: &N, units: U, run: usize) -> Kep
     let mut end = run;
     while end < units.len() {
         let rest = units.after(end);
-        let Some(seen) = normalizer.seen_segment(rest) else {
-            return Kept {
-                end,
-                composite: None,
-            };
+        let seen = match normalizer.seen_segment(rest) {
+            Ok(seen) => seen,
+            Err(unseen) => {
+                return Kept {
+                    end,
+                    composite: None,
+                    is_unordered: matches!(unseen, Unseen::Unordered),
+                };
+            }
         };
         if let Some(character) = seen.becomes {
             let composite = Composite {
@@ -212,6 +220,7 @@ fn kept_after<U: Units, N: Forming>(normalizer: &N, units: U, run: usize) -> Kep
             return Kept {
                 end,
                 composite: Some(composite),
+                is_unordered: false,
             };
         }
         end += seen.end;
@@ -222,5 +231,6 @@ fn kept_after<U: Units, N: Forming>(normalizer: &N, units: U, run: usize) -> Kep
     Kept {
         end,
         composite: None,
+        is_unordered: false,
     }
 }

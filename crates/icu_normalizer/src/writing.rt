@@ -280,6 +280,7 @@ fn write_segments<U: Units, N: Forming, O: Output<U>>(
             position += kept.end;
             first = None;
             seen = kept.composite;
+            buffers.expect_unordered(kept.is_unordered);
         }
     }
     Ok(())

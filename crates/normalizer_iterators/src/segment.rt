@@ -33,6 +33,8 @@ mod short_text;
 pub struct SegmentBuffers {
     waiting: WaitingList,
     text: ShortText,
+    /// Whether marks of the next text are known to be out of order.
+    is_unordered: bool,
 }
 
 impl SegmentBuffers {
@@ -45,7 +47,16 @@ impl SegmentBuffers {
         SegmentBuffers {
             waiting: WaitingList::new(characters.allocator()),
             text: ShortText::new(),
+            is_unordered: false,
         }
+    }
+
+    /// Says whether marks of the next text are known to be out of order: its composed form then takes less time.
+    #[inline(always)]
+    pub fn expect_unordered(&mut self, is_unordered: bool)
+        ensures { text self.new ≡ text self.old }
+    {
+        self.is_unordered = is_unordered;
     }
 
     /// Returns the form that was made last.
@@ -88,7 +99,9 @@ impl SegmentBuffers {
         ensures fits { length (expand (reading_by characters.now ignored []) (decoded_in U.encoding (U.units units)))
             ≤ buffer_limit → IsTrue result }
     {
-        if compose_in_order(characters, pairs, units, &mut self.text) {
+        let is_unordered = self.is_unordered;
+        self.is_unordered = false;
+        if !is_unordered && compose_in_order(characters, pairs, units, &mut self.text) {
             return true;
         }
         if !read_all(characters, ignored, units, &mut self.waiting) {

@@ -8,7 +8,7 @@ pub loop-end-init : goal.loop-end-init
 loop-end-init g c = (
   (step-some g.U.Units.encoding (g.U.Units.units c.args.units) 0 c.step_at-first.result c.requires c.step_at-first.ensures).0,
   KeptMarks-first _ c.args.form.now.serves.composing.starters c.args.form.now.serves.laws.laws.2 _ _ _ c.step_at-first.ensures c.requires _
-      (rw c.in_ok-starter.was at c.kept_starter.ensures),
+      c.in-Some.ensures,
 )
 
 pub returns-then-begins_by : goal.returns-then-begins_by
@@ -19,7 +19,7 @@ returns-then-begins_by g c = record {
     next = λ _. ap (λ s. is_taken_as_boundary c.args.form.now.characters c.args.form.now.bounds s.character) (sym c.step_at-step.ensures) ∙ sym c.begins_by.ensures ∙ c.if-begins_by.true;
   };
   own = λ _. KeptMarks-own _ c.args.form.now.serves.composing.starters c.args.form.now.serves.laws.laws.2 _ _ _ _ _
-      (kept_itself _ _ _ (rw c.in_ok-starter.was at c.kept_starter.ensures)) c.loop-end.invariant.1;
+      (kept_itself _ _ _ c.in-Some.ensures) c.loop-end.invariant.1;
   one = tt;
 }
 
@@ -27,10 +27,10 @@ pub joined_segment-requires : goal.joined_segment-requires
 joined_segment-requires g c = record {
   some = c.requires;
   first = c.step_at-first.ensures;
-  starter = rw c.in_ok-starter.was at c.kept_starter.ensures;
+  starter = c.in-Some.ensures;
   more = omega (arith, c.len.ensures);
   step = c.step_at-step.ensures;
-  joined = mark_joins _ _ _ _ _ _ (rw c.in_ok-mark.was at c.mark_after.ensures);
+  joined = mark_joins _ _ _ _ _ _ c.in-Some-mark_after.ensures;
   joins = not_none _ (cc (c.is_some.ensures, c.if-is_some.true));
 }
 
@@ -46,14 +46,14 @@ pub loop-end-preserved : goal.loop-end-preserved
 loop-end-preserved g c = (
   omega (arith, c.loop-end.invariant.0),
   KeptMarks-more _ c.args.form.now.serves.composing.starters c.args.form.now.serves.laws.laws.2 _ _ _ _ _ _ _
-      (kept_itself _ _ _ (rw c.in_ok-starter.was at c.kept_starter.ensures)) c.step_at-step.ensures (omega (arith, c.len.ensures)) c.loop-end.invariant.1
-      (mark_stays _ _ _ _ _ _ (cc (c.is_some.ensures, c.if-is_some.false)) (rw c.in_ok-mark.was at c.mark_after.ensures)),
+      (kept_itself _ _ _ c.in-Some.ensures) c.step_at-step.ensures (omega (arith, c.len.ensures)) c.loop-end.invariant.1
+      (mark_stays _ _ _ _ _ _ (cc (c.is_some.ensures, c.if-is_some.false)) c.in-Some-mark_after.ensures),
 )
 
 pub returns : goal.returns
 returns g c = record {
   segment = record { some = c.loop-end.invariant.0; boundary = c.loop-end.invariant.1.boundary; next = λ more. absurd (omega (arith, c.len.ensures)) };
   own = λ _. KeptMarks-own _ c.args.form.now.serves.composing.starters c.args.form.now.serves.laws.laws.2 _ _ _ _ _
-      (kept_itself _ _ _ (rw c.in_ok-starter.was at c.kept_starter.ensures)) c.loop-end.invariant.1;
+      (kept_itself _ _ _ c.in-Some.ensures) c.loop-end.invariant.1;
   one = tt;
 }

@@ -13,38 +13,38 @@ after-rest-requires g c = c.loop-end.invariant.boundary
 pub seen_segment-requires : goal.seen_segment-requires
 seen_segment-requires g c = rw c.after-rest.ensures (omega (arith, c.len.ensures, length-drop c.loop-end.end (g.U.Units.units c.args.units)))
 
-pub returns-in-Some-becomes-clause-composite : goal.returns-in-Some-becomes-clause-composite
-returns-in-Some-becomes-clause-composite g c =
-    IsComposite-seen _ _ _ _ _ _ _ (rw (c.in-Some-becomes.is, c.after-rest.ensures) at c.in-Some.ensures)
+pub returns-in-Some-clause-composite : goal.returns-in-Some-clause-composite
+returns-in-Some-clause-composite g c =
+    IsComposite-seen _ _ _ _ _ _ _ (rw (c.in-Some.is, c.after-rest.ensures) at c.in-Ok.ensures)
 
 pub overflow_add-end : goal.overflow_add-end
 overflow_add-end g c =
     let so_far = IsKeptTo-more _ _ _ _ _ _ _ c.after-rest.ensures c.loop-end.invariant
-    (λ _. (IsPart-segment _ _ _ _ _ c.passthrough_is_normalized_apart.ensures.begins _ c.in-Some.ensures.segment, c.in-Some.ensures.own c.in_default-becomes.is)) in
+    (λ _. (IsPart-segment _ _ _ _ _ c.passthrough_is_normalized_apart.ensures.begins _ c.in-Ok.ensures.segment, c.in-Ok.ensures.own c.in_default-becomes.is)) in
     let most = IsKeptTo-le _ _ _ _ _ so_far in
     omega (arith, c.len.ensures)
 
 pub after-requires : goal.after-requires
 after-requires g c =
     let so_far = IsKeptTo-more _ _ _ _ _ _ _ c.after-rest.ensures c.loop-end.invariant
-    (λ _. (IsPart-segment _ _ _ _ _ c.passthrough_is_normalized_apart.ensures.begins _ c.in-Some.ensures.segment, c.in-Some.ensures.own c.in_default-becomes.is)) in
+    (λ _. (IsPart-segment _ _ _ _ _ c.passthrough_is_normalized_apart.ensures.begins _ c.in-Ok.ensures.segment, c.in-Ok.ensures.own c.in_default-becomes.is)) in
     so_far.boundary
 
 pub overflow_add-end-then-seen : goal.overflow_add-end-then-seen
 overflow_add-end-then-seen g c =
     let so_far = IsKeptTo-more _ _ _ _ _ _ _ c.after-rest.ensures c.loop-end.invariant
-    (λ _. (IsPart-segment _ _ _ _ _ c.passthrough_is_normalized_apart.ensures.begins _ c.in-Some.ensures.segment, c.in-Some.ensures.own c.in_default-becomes.is)) in
-    let all = IsKeptTo-more _ _ _ _ _ _ _ c.after.ensures so_far c.passthrough_end-end.ensures in
+    (λ _. (IsPart-segment _ _ _ _ _ c.passthrough_is_normalized_apart.ensures.begins _ c.in-Ok.ensures.segment, c.in-Ok.ensures.own c.in_default-becomes.is)) in
+    let all = IsKeptTo-more _ _ _ _ _ _ _ c.after.ensures so_far c.passthrough_end.ensures in
     let most = IsKeptTo-le _ _ _ _ _ all in
     omega (arith, c.len.ensures)
 
 pub loop-end-preserved-then-seen : goal.loop-end-preserved-then-seen
 loop-end-preserved-then-seen g c =
     let so_far = IsKeptTo-more _ _ _ _ _ _ _ c.after-rest.ensures c.loop-end.invariant
-    (λ _. (IsPart-segment _ _ _ _ _ c.passthrough_is_normalized_apart.ensures.begins _ c.in-Some.ensures.segment, c.in-Some.ensures.own c.in_default-becomes.is)) in
-    IsKeptTo-more _ _ _ _ _ _ _ c.after.ensures so_far c.passthrough_end-end.ensures
+    (λ _. (IsPart-segment _ _ _ _ _ c.passthrough_is_normalized_apart.ensures.begins _ c.in-Ok.ensures.segment, c.in-Ok.ensures.own c.in_default-becomes.is)) in
+    IsKeptTo-more _ _ _ _ _ _ _ c.after.ensures so_far c.passthrough_end.ensures
 
 pub loop-end-preserved : goal.loop-end-preserved
 loop-end-preserved g c =
     IsKeptTo-more _ _ _ _ _ _ _ c.after-rest.ensures c.loop-end.invariant
-    (λ _. (IsPart-segment _ _ _ _ _ c.passthrough_is_normalized_apart.ensures.begins _ c.in-Some.ensures.segment, c.in-Some.ensures.own c.in_default-becomes.is))
+    (λ _. (IsPart-segment _ _ _ _ _ c.passthrough_is_normalized_apart.ensures.begins _ c.in-Ok.ensures.segment, c.in-Ok.ensures.own c.in_default-becomes.is))
