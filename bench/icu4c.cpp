@@ -65,3 +65,9 @@ extern "C" int icu4c_repeat(unsigned form, unsigned call, const struct text *tex
     return call == NORMALIZE_UTF8_TO || call == NORMALIZE_UTF16_TO || call == IS_NORMALIZED_UTF8 ||
            call == IS_NORMALIZED_UTF16;
 }
+
+extern "C" int icu4c_open(void) {
+    UErrorCode error = U_ZERO_ERROR;
+    for (unsigned form = 0; form < FORMS; form++) normalizer_to(form, error);
+    return U_SUCCESS(error);
+}

@@ -45,6 +45,11 @@ typedef int repeat(unsigned form, unsigned call, const struct text *text, size_t
 
 repeat rattle_repeat, direct_repeat, port_repeat, icu4c_repeat, original_repeat;
 
+/* Makes normalizers to the four forms, of the data that the library has. Returns whether they were made. */
+typedef int open_four(void);
+
+open_four icu4c_open, original_open;
+
 #ifdef __cplusplus
 }
 #endif

@@ -4,11 +4,12 @@
    program through-c DATA ROUNDS FILE              each call of the C library, and the same in Rattle, on the text
    program row DATA TIMES FILE FORM CALL LIBRARY   one call of a library, so many times, for a profiler
    program start DATA ROUNDS                       building data, and making normalizers over them
+   program opening                                 the first time that a process makes a peer's four normalizers
    program child COMMAND..                         a program from its start to its end; by the same input and output
 
    DATA is the folder of UnicodeData.txt, CompositionExclusions.txt and the data prepared of them. `calls` and
    `through-c` write a line for each cell: form, call, library, nanoseconds of a call, and the length and the checksum of
-   what was written, with a tab between each two. */
+   what was written, with a tab between each two. `opening` writes one for each peer: its name and nanoseconds. */
 #define _POSIX_C_SOURCE 200809L
 #define _DEFAULT_SOURCE
 
@@ -38,16 +39,17 @@ static const char *const CALL_NAMES[] = {
 static const struct library {
     const char *name;
     repeat *repeat;
+    open_four *open;
 } LIBRARIES[] = {
-    {"this library", rattle_repeat},
-    {"port", port_repeat},
+    {"this library", rattle_repeat, NULL},
+    {"port", port_repeat, NULL},
 #ifdef WITH_ICU4C
-    {"ICU4C", icu4c_repeat},
+    {"ICU4C", icu4c_repeat, icu4c_open},
 #endif
 #ifdef WITH_ORIGINAL
-    {"Rust", original_repeat},
+    {"Rust", original_repeat, original_open},
 #endif
-    {"in Rattle", direct_repeat},
+    {"in Rattle", direct_repeat, NULL},
 };
 #define COUNT_OF_LIBRARIES (sizeof LIBRARIES / sizeof *LIBRARIES)
 
@@ -393,6 +395,16 @@ static void time_start(size_t rounds) {
     time_step("open prepared", open_prepared_spent, 0, 16, rounds);
 }
 
+/* Each peer keeps what it makes first, so a process can tell this once. */
+static void time_opening(void) {
+    for (size_t i = 0; i < COUNT_OF_LIBRARIES; i++) {
+        if (!LIBRARIES[i].open) continue;
+        uint64_t begin = now();
+        if (!LIBRARIES[i].open()) stop("no normalizer was made", LIBRARIES[i].name);
+        printf("%s\t%llu\n", LIBRARIES[i].name, (unsigned long long)(now() - begin));
+    }
+}
+
 /* Writes the seconds and the kilobytes at the peak of a program to standard error. */
 static int run_child(char **command) {
     struct timespec begin, end;
@@ -413,6 +425,7 @@ static int run_child(char **command) {
 
 int main(int count, char **arguments) {
     if (count > 2 && !strcmp(arguments[1], "child")) return run_child(arguments + 2);
+    if (count == 2 && !strcmp(arguments[1], "opening")) return time_opening(), 0;
     size_t rounds = count > 3 ? (size_t)strtoul(arguments[3], NULL, 10) : 0;
     if (!rounds) stop("wrong arguments", "see the head of program.c");
     /* Memory that is freed stays in the process, so that calls don't pay for getting it anew. */
