@@ -1,9 +1,9 @@
 //! A sink over a buffer of a caller.
-ghost use Rattle.std.specs.Prelude.{◌≡◌, ◌≤◌, ◌-◌, ◌++◌, ◌∷◌, ◌^◌, [], length, drop, min, take};
+ghost use Rattle.std.specs.Prelude.{◌≡◌, ◌≤◌, ◌-◌, ◌++◌, ◌^◌, length, drop, min, take};
 ghost use Rattle.normalizer_buffers.specs.Overwriting.{overwritten};
 
 use crate::history::History;
-use crate::overwrite::{overwrite_after, overwrite_at};
+use crate::overwrite::overwrite_after;
 use normalizer_text::sink::{SinkError, Write, Write16};
 
 /// A buffer of a caller, as a sink. It never refuses: what it takes overwrites the buffer from its front on, as far as
@@ -43,6 +43,7 @@ impl<'a, T: Copy> Buffer<'a, T> {
     }
 
     /// Takes units.
+    #[inline(always)]
     fn take(&mut self, units: &[T])
         ensures same_reference { self.new.units.ghost_name ≡ self.old.units.ghost_name }
         ensures room { length self.new.units.now ≡ length self.old.units.now }
@@ -51,21 +52,6 @@ impl<'a, T: Copy> Buffer<'a, T> {
         let history = self.history.and(units);
         overwrite_after(self.units, self.count, units);
         self.count = self.count.saturating_add(units.len());
-        self.history = history;
-    }
-}
-
-impl<'a> Buffer<'a, u16> {
-    /// Takes one unit.
-    #[inline(always)]
-    fn take_one(&mut self, unit: u16)
-        ensures same_reference { self.new.units.ghost_name ≡ self.old.units.ghost_name }
-        ensures room { length self.new.units.now ≡ length self.old.units.now }
-        ensures history { self.new.history.units ≡ self.old.history.units ++ (unit ∷ []) }
-    {
-        let history = self.history.and(&[unit]);
-        overwrite_at(self.units, self.count, unit);
-        self.count = self.count.saturating_add(1);
         self.history = history;
     }
 }
@@ -116,11 +102,7 @@ impl<'a> Write16 for Buffer<'a, u16> {
 
     fn write_char(&mut self, c: char) -> Result<(), SinkError> {
         let mut units = [0; 2];
-        // Most characters are one unit, which is stored without a copy.
-        match c.encode_utf16(&mut units) {
-            [unit] => self.take_one(*unit),
-            units => self.take(units),
-        }
+        self.take(c.encode_utf16(&mut units));
         Ok(())
     }
 }

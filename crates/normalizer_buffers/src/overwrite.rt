@@ -1,9 +1,30 @@
 //! Overwriting a buffer.
-ghost use Rattle.std.specs.Prelude.{◌≡◌, ◌≤◌, ◌^◌, ◌-◌, ◌++◌, ◌∷◌, [], length, drop, take};
+ghost use Rattle.std.specs.Prelude.{◌≡◌, ◌≤◌, ◌^◌, ◌-◌, ◌++◌, length, drop, take};
 ghost use Rattle.normalizer_buffers.specs.Overwriting.{overwritten};
 
-/// Writes units to the beginning of a buffer, as many as it has room for.
+/// Writes units to the beginning of a buffer, as many as it has room for. Up to three are stored without a copy.
+#[inline(always)]
 fn overwrite<T: Copy>(buffer: &mut [T], units: &[T])
+    ensures { buffer.new ≡ overwritten buffer.old units.now }
+{
+    let room = buffer.len();
+    match units {
+        [unit] if 1 <= room => buffer[0] = *unit,
+        [first, second] if 2 <= room => {
+            buffer[0] = *first;
+            buffer[1] = *second;
+        }
+        [first, second, third] if 3 <= room => {
+            buffer[0] = *first;
+            buffer[1] = *second;
+            buffer[2] = *third;
+        }
+        _ => overwrite_by_copy(buffer, units),
+    }
+}
+
+/// Copies units to the beginning of a buffer, as many as it has room for.
+fn overwrite_by_copy<T: Copy>(buffer: &mut [T], units: &[T])
     ensures { buffer.new ≡ overwritten buffer.old units.now }
 {
     if units.len() <= buffer.len() {
@@ -15,6 +36,7 @@ fn overwrite<T: Copy>(buffer: &mut [T], units: &[T])
 }
 
 /// Writes units to a buffer from a position on, as many as it has room for. After its end there is none.
+#[inline(always)]
 pub(crate) fn overwrite_after<T: Copy>(buffer: &mut [T], start: usize, units: &[T])
     ensures fits { length buffer.old ≤ 2 ^ 64 - 1 }
     ensures len { length buffer.new ≡ length buffer.old }
@@ -22,17 +44,5 @@ pub(crate) fn overwrite_after<T: Copy>(buffer: &mut [T], start: usize, units: &[
 {
     if start < buffer.len() {
         overwrite(&mut buffer[start..], units);
-    }
-}
-
-/// Writes one unit to a buffer at a position, if it has room for it there.
-#[inline(always)]
-pub(crate) fn overwrite_at<T: Copy>(buffer: &mut [T], position: usize, unit: T)
-    ensures fits { length buffer.old ≤ 2 ^ 64 - 1 }
-    ensures len { length buffer.new ≡ length buffer.old }
-    ensures after { buffer.new ≡ take position buffer.old ++ overwritten (drop position buffer.old) (unit ∷ []) }
-{
-    if position < buffer.len() {
-        buffer[position] = unit;
     }
 }
