@@ -1,15 +1,15 @@
 //! A sink over a buffer of a caller.
 ghost use Rattle.std.specs.Prelude.{◌≡◌, ◌≤◌, ◌-◌, ◌++◌, ◌^◌, length, drop, min, take};
-ghost use Rattle.normalizer_buffers.specs.Overwriting.{overwritten};
+ghost use Rattle.icu_normalizer_c.specs.Overwriting.{overwritten};
 
 use crate::history::History;
 use crate::overwrite::overwrite_after;
-use normalizer_text::sink::{SinkError, Write, Write16};
+use icu_normalizer::sink::{SinkError, Write, Write16};
 
 /// A buffer of a caller, as a sink. It never refuses: what it takes overwrites the buffer from its front on, as far as
 /// there is room, and all is counted.
 #[derive(Drop)]
-pub struct Buffer<'a, T> {
+pub(crate) struct Buffer<'a, T> {
     pub(crate) units: &'a mut [T],
     count: usize,
     /// What the buffer had at first, and then all that was taken.
@@ -22,7 +22,7 @@ pub struct Buffer<'a, T> {
 
 impl<'a, T: Copy> Buffer<'a, T> {
     /// Returns a sink over the buffer.
-    pub fn new(units: &'a mut [T]) -> Buffer<'a, T>
+    pub(crate) fn new(units: &'a mut [T]) -> Buffer<'a, T>
         ensures same_reference { result.units.ghost_name ≡ units.entry.ghost_name }
         ensures room { length result.units.now ≡ length units.old }
         ensures history { result.history.units ≡ units.old }
@@ -36,7 +36,7 @@ impl<'a, T: Copy> Buffer<'a, T> {
     }
 
     /// Returns how many units were taken, or `usize::MAX` if there were more.
-    pub fn count(&self) -> usize
+    pub(crate) fn count(&self) -> usize
         ensures { result ≡ min (length self.now.history.units - length self.now.units.now) (2 ^ 64 - 1) }
     {
         self.count
@@ -57,8 +57,8 @@ impl<'a, T: Copy> Buffer<'a, T> {
 }
 
 impl<'a> Write for Buffer<'a, u8> {
-    ghost use Rattle.normalizer_text.specs.Sinks.{TakesNothing};
-    ghost use Rattle.normalizer_buffers.specs.Buffers.{taken_by};
+    ghost use Rattle.icu_normalizer.specs.Sinks.{TakesNothing};
+    ghost use Rattle.icu_normalizer_c.specs.Taken.{taken_by};
 
     ghost text_taken = { taken_by };
 
@@ -80,8 +80,8 @@ impl<'a> Write for Buffer<'a, u8> {
 
 impl<'a> Write16 for Buffer<'a, u16> {
     ghost use Rattle.std.specs.Prelude.{⊤};
-    ghost use Rattle.normalizer_text.specs.Sinks.{TakesNothing};
-    ghost use Rattle.normalizer_buffers.specs.Buffers.{taken_by};
+    ghost use Rattle.icu_normalizer.specs.Sinks.{TakesNothing};
+    ghost use Rattle.icu_normalizer_c.specs.Taken.{taken_by};
 
     ghost text_taken = { taken_by };
 

@@ -1,6 +1,6 @@
 //! Overwriting a buffer.
 ghost use Rattle.std.specs.Prelude.{◌≡◌, ◌≤◌, ◌^◌, ◌-◌, ◌++◌, length, drop, take};
-ghost use Rattle.normalizer_buffers.specs.Overwriting.{overwritten};
+ghost use Rattle.icu_normalizer_c.specs.Overwriting.{overwritten};
 
 /// Writes units to the beginning of a buffer, as many as it has room for. Up to three are stored without a copy.
 #[inline(always)]

@@ -3,7 +3,7 @@ use Rattle.std.proofs.Common.{◌≡◌, ℕ, ◌≤◌, ◌-◌, ◌+◌, List,
 use Rattle.std.proofs.Common.{arith}
 use Rattle.std.proofs.Math.Seq.{take-length, take-nil, drop-nil}
 use Rattle.std.proofs.lemmas.List.{length-append, length-drop, length-take, take-append-le, drop-append-le}
-use Rattle.normalizer_buffers.specs.Overwriting.{overwritten}
+use Rattle.icu_normalizer_c.specs.Overwriting.{overwritten}
 
 module _ {X : Type 0} where
   -- units after others overwrite what comes after these, if they were counted up to a greatest number
