@@ -14,10 +14,10 @@ use Rattle.icu_normalizer.specs.NormalizeError.{NormalizeError}
 use Rattle.icu_normalizer.specs.NormalizeError.TheVariants as error
 use Rattle.icu_normalizer.specs.Forms.{MadeForm}
 use Rattle.icu_normalizer.specs.Writing.{WritesForm as WritesFormTo}
-use Rattle.normalizer_buffers.specs.declared.buffer.Buffer.{Buffer}
-use Rattle.normalizer_buffers.specs.Buffers.{taken_by, count_of}
-use Rattle.normalizer_buffers.specs.Overwriting.{overwritten}
-use Rattle.normalizer_buffers.proofs.BufferLemmas.{taken-reference, taken-overwrites, taken-count}
+use Rattle.icu_normalizer_c.specs.declared.sink.Buffer.{Buffer}
+use Rattle.icu_normalizer_c.specs.Taken.{taken_by, count_of}
+use Rattle.icu_normalizer_c.specs.Overwriting.{overwritten}
+use Rattle.icu_normalizer_c.proofs.BufferLemmas.{taken-reference, taken-overwrites, taken-count}
 use Rattle.normalizer_handles.specs.declared.fault.Fault.{Fault}
 use Rattle.normalizer_handles.specs.declared.fault.Fault.TheVariants as fault
 use Rattle.icu_normalizer_c.specs.Buffers.{HasBeginning, ReportsCount}

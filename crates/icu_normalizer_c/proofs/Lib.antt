@@ -1,1 +1,3 @@
+mod BufferLemmas
 mod FormLemmas
+mod OverwritingLemmas

@@ -4,7 +4,7 @@ use Rattle.std.specs.Prelude.{Result, IsOk, OnOk, OnErr, IfErr, IsErrOf}
 use Rattle.icu_normalizer.specs.ShortRuns.{HasShortRuns}
 use Rattle.icu_normalizer.specs.Encodings.{Encoding, decoded_in}
 use Rattle.icu_normalizer.specs.Forms.{MadeForm}
-use Rattle.normalizer_buffers.specs.Overwriting.{overwritten}
+use Rattle.icu_normalizer_c.specs.Overwriting.{overwritten}
 use Rattle.normalizer_handles.specs.declared.fault.Fault.{Fault}
 use Rattle.normalizer_handles.specs.declared.fault.Fault.TheVariants.{BufferTooSmall, Memory}
 

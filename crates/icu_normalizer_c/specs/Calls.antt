@@ -9,7 +9,7 @@ use Rattle.icu_normalizer.specs.EncodedForm.{encoded_form}
 use Rattle.icu_normalizer.specs.InputCut.{IsInputCut, IsInputNormalized}
 use Rattle.icu_normalizer.specs.Offence.{Offence}
 use Rattle.icu_normalizer.specs.Mapping.{mapped_in}
-use Rattle.normalizer_buffers.specs.Overwriting.{overwritten}
+use Rattle.icu_normalizer_c.specs.Overwriting.{overwritten}
 use Rattle.icu_normalizer.specs.NormalizeError.{NormalizeError}
 use Rattle.icu_normalizer.specs.NormalizeError.TheVariants.{Memory}
 use Rattle.icu_normalizer.specs.Checks.{IsLastingOffence}

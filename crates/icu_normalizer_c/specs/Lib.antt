@@ -1,3 +1,5 @@
 pub mod Buffers
 pub mod Calls
 pub mod Mismatches
+pub mod Overwriting
+pub mod Taken

@@ -3,10 +3,13 @@
 
 mod buffer;
 mod checking;
+mod history;
 mod mapping;
 mod mismatch;
 mod opening;
+mod overwrite;
 mod question;
+mod sink;
 mod text;
 mod version;
 mod writing;

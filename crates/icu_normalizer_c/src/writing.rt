@@ -8,9 +8,9 @@ ghost use Rattle.normalizer_handles.specs.Handles.{held_normalizers};
 ghost use Rattle.normalizer_handles.specs.Status.{IsStatus};
 ghost use Rattle.icu_normalizer.specs.AnyNormalizers.{made_by_borrowed};
 
+use crate::sink::Buffer;
 use crate::text::{Text, write};
 use icu_normalizer::{AnyNormalizerBorrowed, NormalizeError};
-use normalizer_buffers::Buffer;
 use normalizer_handles::{Fault, Handle, Normalizers};
 use std::alloc::Global;
 

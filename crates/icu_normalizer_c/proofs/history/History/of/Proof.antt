@@ -29,11 +29,11 @@ use denote.Triple.Entry.{alive}
 use denote.Triple.Spec.{Meets, triple_of}
 use denote.Triple.Table.{entered}
 use denote.Triple.Walked.{says, Stays, stay_dropped, Goes-dropped, ends_at, walked, walk_Meets}
-use Rattle.normalizer_buffers.specs.contracts.history.History as Histories
-use Rattle.normalizer_buffers.specs.contracts.history.History.of.{ended, clauses}
-use Rattle.normalizer_buffers.specs.contracts.history.History.of.Key.{name as #self}
-use Rattle.normalizer_buffers.proofs.history.History.of.Statement as stated
-use Rattle.normalizer_buffers.proofs.history.History.of.Code as code
+use Rattle.icu_normalizer_c.specs.contracts.history.History as Histories
+use Rattle.icu_normalizer_c.specs.contracts.history.History.of.{ended, clauses}
+use Rattle.icu_normalizer_c.specs.contracts.history.History.of.Key.{name as #self}
+use Rattle.icu_normalizer_c.proofs.history.History.of.Statement as stated
+use Rattle.icu_normalizer_c.proofs.history.History.of.Code as code
 
 abbrev v : Val
 v = vstruct (vcons (vstruct vnil) vnil)

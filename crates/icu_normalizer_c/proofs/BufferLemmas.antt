@@ -2,9 +2,9 @@
 use Rattle.std.proofs.Common.{◌≡◌, ℕ, ◌-◌, ◌^◌, List, [], ◌∷◌, ◌++◌, length, min, ap, ◌∙◌, arith}
 use Rattle.std.proofs.Math.Seq.{take-append_seam, drop-append_seam}
 use Rattle.std.proofs.lemmas.List.{length-append}
-use Rattle.normalizer_buffers.specs.declared.buffer.Buffer.{Buffer}
-use Rattle.normalizer_buffers.specs.Buffers.{taken_by, count_of}
-use Rattle.normalizer_buffers.specs.Overwriting.{overwritten}
+use Rattle.icu_normalizer_c.specs.declared.sink.Buffer.{Buffer}
+use Rattle.icu_normalizer_c.specs.Taken.{taken_by, count_of}
+use Rattle.icu_normalizer_c.specs.Overwriting.{overwritten}
 
 first : List ℕ → ℕ
 first [] = 0

@@ -6,7 +6,7 @@ use std::marker::{Model, PhantomData};
 
 /// Units that only clauses read. At run time there are none.
 #[derive(Drop)]
-pub struct History<T> {
+pub(crate) struct History<T> {
     of: PhantomData<T>,
     pub ghost units: { List T },
 }

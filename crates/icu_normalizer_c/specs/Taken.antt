@@ -1,6 +1,6 @@
 -- What a sink over a buffer has taken.
 use Rattle.std.specs.Prelude.{ℕ, ◌-◌, ◌^◌, List, ◌∷◌, length, min}
-use Rattle.normalizer_buffers.specs.declared.buffer.Buffer.{Buffer}
+use Rattle.icu_normalizer_c.specs.declared.sink.Buffer.{Buffer}
 
 -- which buffer it is and how long, what that had at first, and all that was taken
 abbrev pub taken_by : Buffer ℕ → List ℕ

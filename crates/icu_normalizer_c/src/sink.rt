@@ -1,15 +1,15 @@
 //! A sink over a buffer of a caller.
-ghost use Rattle.std.specs.Prelude.{◌≡◌, ◌≤◌, ◌-◌, ◌++◌, ◌∷◌, ◌^◌, [], length, drop, min, take};
-ghost use Rattle.normalizer_buffers.specs.Overwriting.{overwritten};
+ghost use Rattle.std.specs.Prelude.{◌≡◌, ◌≤◌, ◌-◌, ◌++◌, ◌^◌, length, drop, min, take};
+ghost use Rattle.icu_normalizer_c.specs.Overwriting.{overwritten};
 
 use crate::history::History;
-use crate::overwrite::{overwrite_after, overwrite_at};
-use normalizer_text::sink::{SinkError, Write, Write16};
+use crate::overwrite::overwrite_after;
+use icu_normalizer::sink::{SinkError, Write, Write16};
 
 /// A buffer of a caller, as a sink. It never refuses: what it takes overwrites the buffer from its front on, as far as
 /// there is room, and all is counted.
 #[derive(Drop)]
-pub struct Buffer<'a, T> {
+pub(crate) struct Buffer<'a, T> {
     pub(crate) units: &'a mut [T],
     count: usize,
     /// What the buffer had at first, and then all that was taken.
@@ -22,7 +22,7 @@ pub struct Buffer<'a, T> {
 
 impl<'a, T: Copy> Buffer<'a, T> {
     /// Returns a sink over the buffer.
-    pub fn new(units: &'a mut [T]) -> Buffer<'a, T>
+    pub(crate) fn new(units: &'a mut [T]) -> Buffer<'a, T>
         ensures same_reference { result.units.ghost_name ≡ units.entry.ghost_name }
         ensures room { length result.units.now ≡ length units.old }
         ensures history { result.history.units ≡ units.old }
@@ -36,13 +36,14 @@ impl<'a, T: Copy> Buffer<'a, T> {
     }
 
     /// Returns how many units were taken, or `usize::MAX` if there were more.
-    pub fn count(&self) -> usize
+    pub(crate) fn count(&self) -> usize
         ensures { result ≡ min (length self.now.history.units - length self.now.units.now) (2 ^ 64 - 1) }
     {
         self.count
     }
 
     /// Takes units.
+    #[inline(always)]
     fn take(&mut self, units: &[T])
         ensures same_reference { self.new.units.ghost_name ≡ self.old.units.ghost_name }
         ensures room { length self.new.units.now ≡ length self.old.units.now }
@@ -55,24 +56,9 @@ impl<'a, T: Copy> Buffer<'a, T> {
     }
 }
 
-impl<'a> Buffer<'a, u16> {
-    /// Takes one unit.
-    #[inline(always)]
-    fn take_one(&mut self, unit: u16)
-        ensures same_reference { self.new.units.ghost_name ≡ self.old.units.ghost_name }
-        ensures room { length self.new.units.now ≡ length self.old.units.now }
-        ensures history { self.new.history.units ≡ self.old.history.units ++ (unit ∷ []) }
-    {
-        let history = self.history.and(&[unit]);
-        overwrite_at(self.units, self.count, unit);
-        self.count = self.count.saturating_add(1);
-        self.history = history;
-    }
-}
-
 impl<'a> Write for Buffer<'a, u8> {
-    ghost use Rattle.normalizer_text.specs.Sinks.{TakesNothing};
-    ghost use Rattle.normalizer_buffers.specs.Buffers.{taken_by};
+    ghost use Rattle.icu_normalizer.specs.Sinks.{TakesNothing};
+    ghost use Rattle.icu_normalizer_c.specs.Taken.{taken_by};
 
     ghost text_taken = { taken_by };
 
@@ -94,8 +80,8 @@ impl<'a> Write for Buffer<'a, u8> {
 
 impl<'a> Write16 for Buffer<'a, u16> {
     ghost use Rattle.std.specs.Prelude.{⊤};
-    ghost use Rattle.normalizer_text.specs.Sinks.{TakesNothing};
-    ghost use Rattle.normalizer_buffers.specs.Buffers.{taken_by};
+    ghost use Rattle.icu_normalizer.specs.Sinks.{TakesNothing};
+    ghost use Rattle.icu_normalizer_c.specs.Taken.{taken_by};
 
     ghost text_taken = { taken_by };
 
@@ -116,11 +102,7 @@ impl<'a> Write16 for Buffer<'a, u16> {
 
     fn write_char(&mut self, c: char) -> Result<(), SinkError> {
         let mut units = [0; 2];
-        // Most characters are one unit, which is stored without a copy.
-        match c.encode_utf16(&mut units) {
-            [unit] => self.take_one(*unit),
-            units => self.take(units),
-        }
+        self.take(c.encode_utf16(&mut units));
         Ok(())
     }
 }

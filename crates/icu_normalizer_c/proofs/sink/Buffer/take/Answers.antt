@@ -1,5 +1,5 @@
-use Rattle.normalizer_buffers.proofs.OverwritingLemmas.{still_had, still_has, still_counts}
-use Rattle.normalizer_buffers.proofs.buffer.Buffer.take.Goals as goal
+use Rattle.icu_normalizer_c.proofs.OverwritingLemmas.{still_had, still_has, still_counts}
+use Rattle.icu_normalizer_c.proofs.sink.Buffer.take.Goals as goal
 
 pub invariant_of-self : goal.invariant_of-self
 invariant_of-self g c =

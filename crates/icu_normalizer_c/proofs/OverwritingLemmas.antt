@@ -1,9 +1,9 @@
 -- Overwriting in steps.
 use Rattle.std.proofs.Common.{◌≡◌, ℕ, ◌≤◌, ◌-◌, ◌+◌, List, [], ◌∷◌, ◌++◌, length, take, drop, min, suc, zero, refl, ap}
-use Rattle.std.proofs.Common.{arith, ◌<◌, slice_set, sym}
+use Rattle.std.proofs.Common.{arith}
 use Rattle.std.proofs.Math.Seq.{take-length, take-nil, drop-nil}
 use Rattle.std.proofs.lemmas.List.{length-append, length-drop, length-take, take-append-le, drop-append-le}
-use Rattle.normalizer_buffers.specs.Overwriting.{overwritten}
+use Rattle.icu_normalizer_c.specs.Overwriting.{overwritten}
 
 module _ {X : Type 0} where
   -- units after others overwrite what comes after these, if they were counted up to a greatest number
@@ -20,13 +20,6 @@ module _ {X : Type 0} where
   overwritten-append (x ∷ xs) (u ∷ us) more (suc count) zero room is = absurd (omega (arith, room))
   overwritten-append (x ∷ xs) (u ∷ us) more (suc count) (suc greatest) room is =
       ap (λ l. u ∷ l) (overwritten-append xs us more count greatest (omega (arith, room)) (omega (arith, is)))
-
-  -- one unit is stored at a position
-  pub overwritten-one : (buffer : List X) (position : ℕ) (unit : X) → position < length buffer
-      → slice_set buffer position unit ≡ take position buffer ++ overwritten (drop position buffer) (unit ∷ [])
-  overwritten-one [] position unit low = absurd (omega (arith, low))
-  overwritten-one (x ∷ xs) zero unit low = ap (λ l. unit ∷ l) (sym (take-length xs))
-  overwritten-one (x ∷ xs) (suc position) unit low = ap (λ l. x ∷ l) (overwritten-one xs position unit (omega (arith, low)))
 
   module _ (u v h k us : List X) (count greatest : ℕ) (room : length u ≤ greatest) (had : length u ≤ length h)
       (counts : count ≡ min (length h - length u) greatest) (same : length v ≡ length u) (and : k ≡ h ++ us) where

@@ -1,2 +1,0 @@
-pub mod BufferLemmas
-mod OverwritingLemmas
