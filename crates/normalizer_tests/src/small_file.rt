@@ -1,4 +1,4 @@
-//! A small file, and files of other bytes of data.
+//! A small file of prepared data, and files of other bytes of data.
 use icu_normalizer::{Record, Records};
 use normalizer_prepared::prepared_data;
 use std::alloc::{AllocError, Global};

@@ -1,4 +1,5 @@
-//! What is refused, and where.
+//! Files of prepared data that are wrong: in each field, cut off at every byte, longer than they say, and with a bit
+//! flipped at every place.
 use crate::small_file::{HEADER, file_of, flipped, small_file};
 use normalizer_prepared::{Fault, PreparedData, PreparedError};
 use std::alloc::{AllocError, Global};
