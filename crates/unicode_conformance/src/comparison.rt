@@ -2,9 +2,9 @@
 use crate::fault::Fault;
 use crate::sample::wanted_of;
 use icu_normalizer::{AnyNormalizerBorrowed, NormalForm};
-use rows_language::fault::Fault as RowFault;
-use rows_language::input::Input;
 use rows_questions::encoded::results_of_input;
+use rows_questions::language::fault::Fault as RowFault;
+use rows_questions::language::input::Input;
 
 /// A form, its name, and the normalizer to it.
 #[derive(Drop)]
