@@ -8,10 +8,14 @@ mod documented;
 #[cfg(test)]
 mod over_rows;
 #[cfg(test)]
+mod prepared_files;
+#[cfg(test)]
 mod program;
 #[cfg(test)]
 mod readme;
 #[cfg(test)]
 mod sinks;
+#[cfg(test)]
+mod small_file;
 #[cfg(test)]
 mod texts;

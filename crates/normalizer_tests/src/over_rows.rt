@@ -1,12 +1,17 @@
 //! Normalizers over the record set `rows`.
-use icu_normalizer::{Built, ComposingNormalizer, DecomposingNormalizer, Records};
-use normalizer_record_set::{mapper_records, records};
+use icu_normalizer::{
+    AnyNormalizer, Built, ComposingNormalizer, DecomposingNormalizer, FormData, NormalForm,
+};
+use normtool_command::arguments::RecordSet;
+use normtool_command::run;
 use std::alloc::Global;
 
 pub(crate) fn built(alloc: Global) -> Option<Built> {
-    let records = records(alloc).ok()?;
-    let mapper = mapper_records(alloc).ok()?;
-    Records::build(alloc, &records, &mapper).ok()
+    run::built(alloc, RecordSet::Rows).ok()
+}
+
+pub(crate) fn normalizer(alloc: Global, form: NormalForm) -> Option<AnyNormalizer> {
+    built(alloc)?.normalizer(form).ok()
 }
 
 pub(crate) fn nfd(alloc: Global) -> Option<DecomposingNormalizer> {

@@ -2,9 +2,9 @@
 ghost use Rattle.std.specs.Prelude.{◌≡◌, ⊤, string_bytes};
 ghost use Rattle.icu_normalizer.specs.Sinks.{AnyFault};
 
-use crate::over_rows::{nfc, nfd};
-use icu_normalizer::NormalizeError;
+use crate::over_rows::{nfd, normalizer};
 use icu_normalizer::sink::{SinkError, Write, Write16};
+use icu_normalizer::{NormalForm, NormalizeError};
 use std::alloc::Global;
 
 /// Takes this many bytes, and refuses the whole of a text that would exceed them. It counts the writes.
@@ -138,33 +138,21 @@ fn a_sink_with_little_room_holds_a_beginning(rt: HostRuntime) {
     assert_eq!(rt; wrong_room(rt.alloc()), None);
 }
 
-// Whether the only hint is the number of units, and comes before any unit, and one that is refused ends the call with
-// nothing written.
-macro_rules! hints_first {
-    ($alloc:expr, $normalizer:expr, $units:expr, $want:expr) => {{
-        let mut sink = noting_sink($alloc, false);
-        let mut refusing = noting_sink($alloc, true);
-        let answer = $normalizer.normalize_utf16_to($units, &mut refusing);
-        $normalizer.normalize_utf16_to($units, &mut sink).is_ok()
-            && sink.hints.as_slice() == [($units.len(), 0)].as_slice()
-            && sink.units.as_slice() == $want
+/// Whether the only hint is the number of units, and comes before any unit, and one that is refused ends the call with
+/// nothing written.
+fn hints_first(alloc: Global, form: NormalForm, units: &[u16], want: &[u16]) -> Option<bool> {
+    let owned = normalizer(alloc, form)?;
+    let normalizer = owned.as_borrowed();
+    let mut sink = noting_sink(alloc, false);
+    let mut refusing = noting_sink(alloc, true);
+    let answer = normalizer.normalize_utf16_to(units, &mut refusing);
+    normalizer.normalize_utf16_to(units, &mut sink).ok()?;
+    Some(
+        sink.hints.as_slice() == [(units.len(), 0)].as_slice()
+            && sink.units.as_slice() == want
             && matches!(answer, Err(NormalizeError::Sink))
-            && refusing.units.is_empty()
-    }};
-}
-
-fn decomposing_hints_first(alloc: Global, units: &[u16], want: &[u16]) -> bool {
-    match nfd(alloc) {
-        Some(normalizer) => hints_first!(alloc, normalizer.as_borrowed(), units, want),
-        None => false,
-    }
-}
-
-fn composing_hints_first(alloc: Global, units: &[u16], want: &[u16]) -> bool {
-    match nfc(alloc) {
-        Some(normalizer) => hints_first!(alloc, normalizer.as_borrowed(), units, want),
-        None => false,
-    }
+            && refusing.units.is_empty(),
+    )
 }
 
 const APART: [u16; 4] = [0x65, 0x323, 0x302, 0x61];
@@ -173,39 +161,29 @@ const TOGETHER: [u16; 2] = [0x1EC7, 0x61];
 
 #[test]
 fn a_sink_is_told_the_length_first(rt: HostRuntime) {
-    assert!(rt; decomposing_hints_first(rt.alloc(), &[], &[]));
-    assert!(rt; decomposing_hints_first(rt.alloc(), &TOGETHER, &APART));
-    assert!(rt; composing_hints_first(rt.alloc(), &[], &[]));
-    assert!(rt; composing_hints_first(rt.alloc(), &APART, &TOGETHER));
+    assert!(rt; hints_first(rt.alloc(), NormalForm::Nfd, &[], &[]) == Some(true));
+    assert!(rt; hints_first(rt.alloc(), NormalForm::Nfd, &TOGETHER, &APART) == Some(true));
+    assert!(rt; hints_first(rt.alloc(), NormalForm::Nfc, &[], &[]) == Some(true));
+    assert!(rt; hints_first(rt.alloc(), NormalForm::Nfc, &APART, &TOGETHER) == Some(true));
 }
 
-// Whether a normalizer takes a text as it is in each encoding, in two writes at most.
-macro_rules! in_two_writes {
-    ($alloc:expr, $normalizer:expr, $text:expr, $units:expr) => {{
-        let mut text = narrow_sink($alloc, $text.len());
-        let mut bytes = narrow_sink($alloc, $text.len());
-        let mut units = noting_sink($alloc, false);
-        $normalizer.normalize_to($text, &mut text).is_ok()
-            && $normalizer.normalize_utf8_to($text.as_bytes(), &mut bytes).is_ok()
-            && $normalizer.normalize_utf16_to($units, &mut units).is_ok()
-            && (text.writes <= 2 && text.text.as_str() == $text)
-            && (bytes.writes <= 2 && bytes.text.as_str() == $text)
-            && (units.writes <= 2 && units.units.as_slice() == $units)
-    }};
-}
-
-fn decomposes_in_two_writes(alloc: Global, text: &str, units: &[u16]) -> bool {
-    match nfd(alloc) {
-        Some(normalizer) => in_two_writes!(alloc, normalizer.as_borrowed(), text, units),
-        None => false,
-    }
-}
-
-fn composes_in_two_writes(alloc: Global, text: &str, units: &[u16]) -> bool {
-    match nfc(alloc) {
-        Some(normalizer) => in_two_writes!(alloc, normalizer.as_borrowed(), text, units),
-        None => false,
-    }
+/// Whether a normalizer takes a text as it is in each encoding, in two writes at most.
+fn is_in_two_writes(alloc: Global, form: NormalForm, text: &str, units: &[u16]) -> Option<bool> {
+    let owned = normalizer(alloc, form)?;
+    let normalizer = owned.as_borrowed();
+    let mut of_text = narrow_sink(alloc, text.len());
+    let mut of_bytes = narrow_sink(alloc, text.len());
+    let mut of_units = noting_sink(alloc, false);
+    normalizer.normalize_to(text, &mut of_text).ok()?;
+    normalizer
+        .normalize_utf8_to(text.as_bytes(), &mut of_bytes)
+        .ok()?;
+    normalizer.normalize_utf16_to(units, &mut of_units).ok()?;
+    Some(
+        (of_text.writes <= 2 && of_text.text.as_str() == text)
+            && (of_bytes.writes <= 2 && of_bytes.text.as_str() == text)
+            && (of_units.writes <= 2 && of_units.units.as_slice() == units),
+    )
 }
 
 /// Whether both forms of a thousand letters are written in two pieces at most.
@@ -216,8 +194,8 @@ fn are_letters_passed(alloc: Global) -> Option<bool> {
     }
     let units: Vec<u16> = text.encode_utf16().collect(alloc).ok()?;
     Some(
-        decomposes_in_two_writes(alloc, &text, &units)
-            && composes_in_two_writes(alloc, &text, &units),
+        is_in_two_writes(alloc, NormalForm::Nfd, &text, &units)?
+            && is_in_two_writes(alloc, NormalForm::Nfc, &text, &units)?,
     )
 }
 

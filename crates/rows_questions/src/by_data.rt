@@ -1,17 +1,17 @@
 //! `unchecked 0061 0308 = 0061 0308`: the NFD over data that are checked once and then used unchecked. `by-records nfc
 //! 0061 0308 = 00E4`: the form by the records.
+use crate::language::fault::{Answer, Fault, agreed};
+use crate::language::held::Held;
+use crate::language::input::text;
+use crate::language::items::are;
+use crate::language::printing::spelled_all;
+use crate::language::setting::Setting;
+use crate::language::stage::Stage;
+use crate::language::words::form_named;
 use icu_normalizer::{
     DecomposingNormalizerBorrowed, Decomposition, Records, Utf8Chars, check_nfd_data, collected,
     normalizer_to,
 };
-use rows_language::fault::{Answer, Fault, agreed};
-use rows_language::held::Held;
-use rows_language::input::text;
-use rows_language::items::are;
-use rows_language::printing::spelled_all;
-use rows_language::setting::Setting;
-use rows_language::stage::Stage;
-use rows_language::words::form_named;
 use std::alloc::Global;
 
 /// The NFD of a text over data that are checked once and then used unchecked.

@@ -3,10 +3,10 @@
 //! or 16-bit units, the character found, the one expected; else `none`. `owned nfc 0308 0061 = borrowed 0308 0061`: the
 //! form as it is returned. Each makes all calls, which must agree, and characters are checked in all three encodings.
 use crate::encoded::{Results, results_of_input};
+use crate::language::fault::Answer;
+use crate::language::input::Input;
+use crate::language::printing::{Spelled, spelled_all, spelled_bool};
 use icu_normalizer::{AnyNormalizer, Offence};
-use rows_language::fault::Answer;
-use rows_language::input::Input;
-use rows_language::printing::{Spelled, spelled_all, spelled_bool};
 use std::alloc::Global;
 
 /// What the calls of a normalizer return for an input.

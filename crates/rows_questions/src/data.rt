@@ -1,14 +1,14 @@
 //! `word nfd 00E4`, `cap nfd`: what data say. `try nfc`, `try mapper`, `check nfd`: the result of a constructor or of a
 //! check of data; `said nfc` has the text of the error.
+use crate::language::fault::{Answer, Fault, agreed};
+use crate::language::held::Held;
+use crate::language::printing::acceptance;
+use crate::language::words::{form_named, hexadecimal};
 use icu_normalizer::properties::{
     CanonicalCombiningClassMap, CanonicalComposition, CanonicalDecomposition,
 };
 use icu_normalizer::uts46::Uts46Mapper;
 use icu_normalizer::{CodePointTable, DataError, DecompositionData, FormData, check_nfd_data};
-use rows_language::fault::{Answer, Fault, agreed};
-use rows_language::held::Held;
-use rows_language::printing::acceptance;
-use rows_language::words::{form_named, hexadecimal};
 use std::alloc::Global;
 
 pub fn data_named<'a>(held: &'a Held, kind: &str) -> Result<&'a DecompositionData, Fault> {

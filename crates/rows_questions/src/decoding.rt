@@ -1,11 +1,11 @@
 //! `decode bytes E2 98 E2 98 83`, `decode units D800 DC00`, `decode 0061 0308`: the characters, from the beginning,
 //! from the back and in turn. `head E0 80 80`: the same of bytes, also put before 62, after 61 and between the two.
 //! `every 2 61 80`: how many strings of this many of the bytes are decoded as by std: all.
+use crate::language::fault::{Answer, Fault, agreed};
+use crate::language::input::Input;
+use crate::language::printing::spelled_all;
+use crate::language::words::{all, decimal};
 use icu_normalizer::{Chars, Units};
-use rows_language::fault::{Answer, Fault, agreed};
-use rows_language::input::Input;
-use rows_language::printing::spelled_all;
-use rows_language::words::{all, decimal};
 use std::alloc::Global;
 
 /// The characters that an input decodes to.

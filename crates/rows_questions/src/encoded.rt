@@ -1,10 +1,10 @@
 //! What the calls of a normalizer return for an input, in each of the three encodings.
+use crate::language::fault::{Fault, agreed};
+use crate::language::input::Input;
+use crate::language::items::are;
 use icu_normalizer::{
     AnyNormalizerBorrowed as Normalizer, Chars, NormalizeError, Offence, Units, Utf16Chars,
 };
-use rows_language::fault::{Fault, agreed};
-use rows_language::input::Input;
-use rows_language::items::are;
 use std::alloc::Global;
 use std::borrow::{CowSlice, CowStr};
 

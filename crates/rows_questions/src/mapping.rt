@@ -1,15 +1,15 @@
 //! `map 0041 0308 = 00E4`: a text as the mapper maps and normalizes it. `validate 180B = FFFD`: the same with U+FFFD
 //! for each ignored character. `virama 094D = yes`: whether a character is a virama for the mapper.
+use crate::language::fault::{Answer, Fault, agreed};
+use crate::language::held::Held;
+use crate::language::input::text;
+use crate::language::items::are;
+use crate::language::printing::{spelled_all, spelled_bool};
+use crate::language::stage::Stage;
+use crate::language::words::character;
 use icu_normalizer::IgnoredCharacters::{self, Dropped, Replaced};
 use icu_normalizer::uts46::Uts46Mapper;
 use icu_normalizer::{MappingData, mapped};
-use rows_language::fault::{Answer, Fault, agreed};
-use rows_language::held::Held;
-use rows_language::input::text;
-use rows_language::items::are;
-use rows_language::printing::{spelled_all, spelled_bool};
-use rows_language::stage::Stage;
-use rows_language::words::character;
 use std::alloc::Global;
 
 /// What the mapper says: `map` and `validate` of a text, `virama` of a character.

@@ -3,15 +3,15 @@
 //! the lists. `same nfd nfkd = yes`: whether words are equal. `copies = yes`: whether each part equals its copy.
 //! `ranges 0..5 1 6 2 = accepted`: whether words of ranges are made; `pairs 0308 0041 00C4 = accepted`: pairs.
 use crate::data::{data_named, table_named};
+use crate::language::by_hand::{numbers, with_pairs};
+use crate::language::fault::{Answer, Fault, agreed};
+use crate::language::held::Held;
+use crate::language::printing::{Spelled, spelled_all, spelled_bool};
+use crate::language::ranges::Range;
+use crate::language::stage::Stage;
+use crate::language::words::{character, hexadecimal};
 use icu_normalizer::{CanonicalCompositions, CodePointTable, DecompositionTables, TableError};
 use normalizer_tables::{block_count, compose, is_never_second};
-use rows_language::by_hand::{numbers, with_pairs};
-use rows_language::fault::{Answer, Fault, agreed};
-use rows_language::held::Held;
-use rows_language::printing::{Spelled, spelled_all, spelled_bool};
-use rows_language::ranges::Range;
-use rows_language::stage::Stage;
-use rows_language::words::{character, hexadecimal};
 use std::alloc::Global;
 
 fn pairs_of(held: &Held) -> Result<&CanonicalCompositions, Fault> {

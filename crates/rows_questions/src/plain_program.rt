@@ -1,14 +1,14 @@
 //! `plain nfd 1EC7`: the form by the plain program of `normal_forms`, over what the data say of the characters of the
 //! records and over the pairs of those. `plain-cut nfd 0065 0302`: how many characters may be cut off.
+use crate::language::fault::{Answer, Fault};
+use crate::language::held::Held;
+use crate::language::printing::spelled_all;
+use crate::language::setting::Setting;
+use crate::language::words::all;
+use crate::plain::{CharacterRow, Form, PairRow, Rows, cut, normal_form};
 use icu_normalizer::Record;
-use normalizer_plain::{CharacterRow, Form, PairRow, Rows, cut, normal_form};
 use normalizer_records::pairs;
 use normalizer_tables::characters::{CharacterData, IgnoredCharacters};
-use rows_language::fault::{Answer, Fault};
-use rows_language::held::Held;
-use rows_language::printing::spelled_all;
-use rows_language::setting::Setting;
-use rows_language::words::all;
 use std::alloc::Global;
 
 /// A character with the class and the list that data have of it.

@@ -1,17 +1,17 @@
 //! `class 0340 = 230`: the canonical combining class of a number. `decompose AC01 = expansion AC00 11A8`: one step of
 //! decomposition; `shaped 2126 = 03A9 0000`: what a shaper gets for it. `compose 0061 0308 = 00E4`: what two characters
 //! compose to. Each is checked by every call, of owned and of borrowed properties, and by the shaper traits.
+use crate::language::fault::{Answer, Fault, agreed};
+use crate::language::held::Held;
+use crate::language::printing::{Spelled, spelled_all};
+use crate::language::setting::Setting;
+use crate::language::words::{character, hexadecimal};
 use icu_normalizer::AnyNormalizer;
 use icu_normalizer::harfbuzz::{CombiningClassFunc, ComposeFunc, DecomposeFunc};
 use icu_normalizer::properties::{
     CanonicalCombiningClass, CanonicalCombiningClassMap, CanonicalComposition,
     CanonicalDecomposition, Decomposed,
 };
-use rows_language::fault::{Answer, Fault, agreed};
-use rows_language::held::Held;
-use rows_language::printing::{Spelled, spelled_all};
-use rows_language::setting::Setting;
-use rows_language::words::{character, hexadecimal};
 use std::alloc::Global;
 
 /// The class of a number.

@@ -1,11 +1,11 @@
 //! `build`: whether the records build data; `said build` has the text of the error. `record 0344`, `mapper 0041`: what
 //! is recorded. `count records`: how many.
+use crate::language::fault::{Answer, Fault};
+use crate::language::printing::building;
+use crate::language::record_rows::{spelled_mapper_record, spelled_record};
+use crate::language::setting::Setting;
+use crate::language::words::character;
 use icu_normalizer::{BuildError, Record, Uts46Record};
-use rows_language::fault::{Answer, Fault};
-use rows_language::printing::building;
-use rows_language::record_rows::{spelled_mapper_record, spelled_record};
-use rows_language::setting::Setting;
-use rows_language::words::character;
 use std::alloc::Global;
 
 /// Why the records build no data, or `ok`.

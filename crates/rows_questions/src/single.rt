@@ -4,12 +4,12 @@
 //! `unchecked`, `map` and `validate` the iterator, of `ranges` and `pairs` what makes them.
 use crate::data::refusal;
 use crate::encoded::Encoded;
+use crate::language::fault::{Fault, agreed};
+use crate::language::input::Input;
+use crate::language::setting::Setting;
+use crate::language::stage::Stage;
 use crate::{by_data, mapping, parts};
 use icu_normalizer::AnyNormalizerBorrowed as Normalizer;
-use rows_language::fault::{Fault, agreed};
-use rows_language::input::Input;
-use rows_language::setting::Setting;
-use rows_language::stage::Stage;
 use std::alloc::Global;
 
 /// Makes the call of a question, or if the question is a form's the call of this name. Nothing else then allocates.

@@ -2,9 +2,10 @@
 use crate::fault::Fault;
 use crate::sample::wanted_of;
 use icu_normalizer::{AnyNormalizerBorrowed, NormalForm};
-use rows_language::fault::Fault as RowFault;
-use rows_language::input::Input;
 use rows_questions::encoded::results_of_input;
+use rows_questions::language::fault::Fault as RowFault;
+use rows_questions::language::input::Input;
+use std::alloc::AllocError;
 
 /// A form, its name, and the normalizer to it.
 #[derive(Drop)]
@@ -81,7 +82,7 @@ fn has_wanted_results(
     let input = Input::Text(String::from_str(alloc, text)?);
     match results_of_input(alloc, normalizer, &input) {
         Ok(results) => Ok(results == wanted_of(alloc, text, wanted)?),
-        Err(RowFault::Memory) => Err(Fault::Memory),
+        Err(RowFault::Memory) => Err(Fault::Memory(AllocError)),
         Err(_) => Ok(false),
     }
 }

@@ -1,7 +1,7 @@
 //! Why nothing more is compared.
 use icu_normalizer::{BuildError, DataError, NormalizeError};
 use normalizer_ucd::UcdError;
-use std::alloc::{AllocError, AllocFailed};
+use std::alloc::AllocError;
 use std::io;
 use thiserror::Error;
 
@@ -23,17 +23,5 @@ pub enum Fault {
     #[error("{0}")]
     Device(#[from] io::Error),
     #[error("out of memory")]
-    Memory,
-}
-
-impl From<AllocError> for Fault {
-    fn from(_error: AllocError) -> Fault {
-        Fault::Memory
-    }
-}
-
-impl<T: Drop> From<AllocFailed<T>> for Fault {
-    fn from(_error: AllocFailed<T>) -> Fault {
-        Fault::Memory
-    }
+    Memory(#[from(alloc)] AllocError),
 }

@@ -1,8 +1,8 @@
 //! Whether the result of a row is the expected one.
 use crate::questions::answer;
-use rows_language::fault::Fault;
-use rows_language::setting::Setting;
-use rows_language::words::{joined, words};
+use rows_questions::language::fault::Fault;
+use rows_questions::language::setting::Setting;
+use rows_questions::language::words::{joined, words};
 use std::alloc::AllocError;
 
 /// How many rows a text has.

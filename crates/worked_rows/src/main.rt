@@ -14,8 +14,8 @@ mod refused;
 mod unicode_files;
 
 use comparison::{row_count, what_differs, without_comment};
-use rows_language::setting::Setting;
-use rows_language::stage::Stage;
+use rows_questions::language::setting::Setting;
+use rows_questions::language::stage::Stage;
 use std::process::ExitCode;
 use std::{env, fs, io};
 

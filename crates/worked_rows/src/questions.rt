@@ -1,7 +1,7 @@
 //! The questions of rows, one per line.
-use rows_language::fault::{Answer, Fault};
-use rows_language::held::Held;
-use rows_language::setting::Setting;
+use rows_questions::language::fault::{Answer, Fault};
+use rows_questions::language::held::Held;
+use rows_questions::language::setting::Setting;
 use rows_questions::{
     by_data, calls, data, decoding, mapping, parts, plain_program, properties, record_questions,
 };

@@ -1,9 +1,9 @@
 //! One call of the library, of which a script refuses a growth of memory.
 use crate::comparison::difference;
-use rows_language::fault::Fault;
-use rows_language::setting::Setting;
-use rows_language::stage::Stage;
-use rows_language::words::words;
+use rows_questions::language::fault::Fault;
+use rows_questions::language::setting::Setting;
+use rows_questions::language::stage::Stage;
+use rows_questions::language::words::words;
 use rows_questions::single;
 use std::alloc::Global;
 

@@ -10,7 +10,7 @@ use normalizer_ucd::{
     Disallowed, UcdError, place_of_record, records_of_unicode_data,
     uts46_records_beside_exclusions, uts46_records_of_idna_table,
 };
-use rows_language::record_rows::spelled_mapper_record;
+use rows_questions::language::record_rows::spelled_mapper_record;
 use std::{fs, io};
 
 /// Writes an argument, and what the files that it names are read as.
