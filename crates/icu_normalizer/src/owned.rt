@@ -121,7 +121,7 @@ fn changes_first<U: Units, N: Forming>(
     }
 }
 
-/// Where units change: a place before which they stay as they are, and the segment after it, if that is seen to become
+/// A change of units: a place before which they stay as they are, and the segment after it, if that is seen to become
 /// one character.
 #[derive(Clone, Copy)]
 pub(crate) struct Change {
@@ -129,8 +129,8 @@ pub(crate) struct Change {
     pub(crate) composite: Option<Composite>,
 }
 
-/// Returns where the units change: at the end of what is kept, if what follows is seen to change, so that it is read
-/// once only; else at the cut. Nothing if the units are well-formed and normalized.
+/// Returns the first change of the units: at the end of what is kept, if what follows is seen to change, so that it is
+/// read once only; else at the cut. Nothing if the units are well-formed and normalized.
 fn change_of<U: Expected, N: Forming>(
     normalizer: &N,
     units: U,

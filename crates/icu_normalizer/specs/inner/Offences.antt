@@ -14,8 +14,8 @@ abbrev pub IsCutUnlessNormalized : Encoding → Reading → Form → List ℕ �
 IsCutUnlessNormalized e d form units result = MatchOption result (IsInputNormalized e d form units)
     (λ place. (IsInputNormalized e d form units → ⊥) × IsInputCut e d form units place)
 
--- a place that qualifies for the cut of the units, and the segment after it, if that is seen to become one character, or
--- nothing if they are well-formed and normalized
+-- a place that qualifies for the cut of the units, and the segment after it, if that is seen to become one character; or
+-- nothing, if they are well-formed and normalized
 abbrev pub ChangesUnlessNormalized : (ℕ → Bool) → Encoding → Reading → Form → List ℕ → Option Change → Type 0
 ChangesUnlessNormalized beginning e d form units result = MatchOption result (IsInputNormalized e d form units)
     (λ change. (IsInputNormalized e d form units → ⊥)
