@@ -77,6 +77,7 @@ impl<'data, I: Iterator<Item = char> + Drop> Composition<'data, I> {
     };
 
     /// Reads the delegate up to the first boundary.
+    #[inline(always)]
     fn over(
         characters: CharacterData<'data>,
         ignored: IgnoredCharacters,

@@ -88,6 +88,7 @@ impl<'data, I: Iterator<Item = char> + Drop> Decomposition<'data, I> {
     }
 
     /// Reads the delegate up to the first boundary.
+    #[inline(always)]
     pub(crate) fn over(
         characters: CharacterData<'data>,
         ignored: IgnoredCharacters,
@@ -206,6 +207,7 @@ impl<'data, I: Iterator<Item = char> + Drop> Decomposition<'data, I> {
 ///
 /// # Errors
 /// `Memory` if an allocation failed.
+#[inline(always)]
 pub fn decomposed<'data, I: Iterator<Item = char> + Drop>(
     characters: CharacterData<'data>,
     ignored: IgnoredCharacters,

@@ -23,6 +23,7 @@ impl StayingMarks {
     ghost use Rattle.normalizer_iterators.specs.StayingMarks.{mark_count, staying_marks, BlocksBelow};
 
     #[tactic(auto, unfolding(crate::specs::StayingMarks::staying_marks, crate::specs::StayingMarks::mark_count))]
+    #[inline(always)]
     pub(crate) fn new(alloc: Global) -> Self
         ensures staying { staying_marks result ≡ [] }
         ensures used { mark_count result ≡ 0 }

@@ -20,6 +20,7 @@ use normalizer_tables::condition::Bounds;
 ///
 /// # Errors
 /// `Memory` if an allocation failed.
+#[inline(always)]
 pub fn composed<'data, I: Iterator<Item = char> + Drop>(
     characters: CharacterData<'data>,
     ignored: IgnoredCharacters,
