@@ -7,7 +7,7 @@ use crate::language::items::are;
 use crate::language::printing::spelled_all;
 use crate::language::setting::Setting;
 use crate::language::stage::Stage;
-use crate::language::words::form_named;
+use crate::language::words::{first_of, form_named};
 use icu_normalizer::{
     DecomposingNormalizerBorrowed, Decomposition, Records, Utf8Chars, check_nfd_data, collected,
     normalizer_to,
@@ -68,9 +68,7 @@ pub fn make_normalizer(
 
 /// The form of a text by the records, in one call.
 pub fn by_records(alloc: Global, setting: &Setting<'_>, question: &[&str]) -> Answer {
-    let [name, characters @ ..] = question else {
-        return Err(Fault::Unreadable);
-    };
+    let (name, characters) = first_of(question)?;
     let form = form_named(name)?;
     let text = text(alloc, characters)?;
     let built = Records::build(alloc, setting.records(), setting.mapper())?;

@@ -3,7 +3,7 @@
 use crate::language::fault::{Answer, Fault, agreed};
 use crate::language::held::Held;
 use crate::language::printing::acceptance;
-use crate::language::words::{form_named, hexadecimal};
+use crate::language::words::{form_named, hexadecimal, only};
 use icu_normalizer::properties::{
     CanonicalCombiningClassMap, CanonicalComposition, CanonicalDecomposition,
 };
@@ -56,27 +56,18 @@ fn is_word_of_unit(table: &CodePointTable, number: u32, word: u32) -> bool {
 
 /// The number below which a loop that composes may pass every character without looking up its word.
 pub fn cap(alloc: Global, held: &Held, question: &[&str]) -> Answer {
-    let [kind] = question else {
-        return Err(Fault::Unreadable);
-    };
-    let cap = data_named(held, kind)?.passthrough_cap;
+    let cap = data_named(held, only(question)?)?.passthrough_cap;
     Ok(format!(in alloc; "{:04X}", cap)?)
 }
 
 /// The result of a constructor.
 pub fn constructed(alloc: Global, held: &Held, question: &[&str]) -> Answer {
-    let [name] = question else {
-        return Err(Fault::Unreadable);
-    };
-    acceptance(alloc, refusal(held, name)?)
+    acceptance(alloc, refusal(held, only(question)?)?)
 }
 
 /// The text of the error of a constructor, or `none`.
 pub fn said(alloc: Global, held: &Held, question: &[&str]) -> Answer {
-    let [name] = question else {
-        return Err(Fault::Unreadable);
-    };
-    match refusal(held, name)? {
+    match refusal(held, only(question)?)? {
         None => Ok(String::from_str(alloc, "none")?),
         Some(DataError::Memory) => Err(Fault::Memory),
         Some(error) => Ok(format!(in alloc; "{error}")?),

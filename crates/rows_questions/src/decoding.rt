@@ -4,7 +4,7 @@
 use crate::language::fault::{Answer, Fault, agreed};
 use crate::language::input::Input;
 use crate::language::printing::spelled_all;
-use crate::language::words::{all, decimal};
+use crate::language::words::{all, decimal, first_of};
 use icu_normalizer::{Chars, Units};
 use std::alloc::Global;
 
@@ -90,9 +90,7 @@ fn stands_between(
 
 /// How many strings of some bytes, of this length, decode as in std.
 pub fn every(alloc: Global, question: &[&str]) -> Answer {
-    let [length, letters @ ..] = question else {
-        return Err(Fault::Unreadable);
-    };
+    let (length, letters) = first_of(question)?;
     let letters: Vec<u8> = all(alloc, letters)?;
     let count = count_of_alike(alloc, decimal(length)?, &letters)?;
     Ok(format!(in alloc; "{count}")?)

@@ -3,13 +3,13 @@
 //! the lists. `same nfd nfkd = yes`: whether words are equal. `copies = yes`: whether each part equals its copy.
 //! `ranges 0..5 1 6 2 = accepted`: whether words of ranges are made; `pairs 0308 0041 00C4 = accepted`: pairs.
 use crate::data::{data_named, table_named};
-use crate::language::by_hand::{numbers, with_pairs};
+use crate::language::by_hand::{range_of, with_pairs};
 use crate::language::fault::{Answer, Fault, agreed};
 use crate::language::held::Held;
 use crate::language::printing::{Spelled, spelled_all, spelled_bool};
 use crate::language::ranges::Range;
 use crate::language::stage::Stage;
-use crate::language::words::{character, hexadecimal};
+use crate::language::words::{character, only};
 use icu_normalizer::{CanonicalCompositions, CodePointTable, DecompositionTables, TableError};
 use normalizer_tables::{block_count, compose, is_never_second};
 use std::alloc::Global;
@@ -31,18 +31,13 @@ pub fn joined(alloc: Global, held: &Held, question: &[&str]) -> Answer {
 
 /// Whether a character is second in no pair.
 pub fn never_second(alloc: Global, held: &Held, question: &[&str]) -> Answer {
-    let [second] = question else {
-        return Err(Fault::Unreadable);
-    };
-    spelled_bool(alloc, is_never_second(pairs_of(held)?, character(second)?))
+    let second = character(only(question)?)?;
+    spelled_bool(alloc, is_never_second(pairs_of(held)?, second))
 }
 
 /// How many blocks a table has.
 pub fn counted(alloc: Global, held: &Held, question: &[&str]) -> Answer {
-    let [kind] = question else {
-        return Err(Fault::Unreadable);
-    };
-    let count = block_count(table_named(held, kind)?);
+    let count = block_count(table_named(held, only(question)?)?);
     Ok(format!(in alloc; "{count}")?)
 }
 
@@ -105,11 +100,7 @@ fn is_copied<T: Clone + PartialEq + Drop>(part: &Option<T>) -> Result<bool, Faul
 fn ranges_of(alloc: Global, question: &[&str]) -> Result<Vec<Range>, Fault> {
     let mut ranges = Vec::new(alloc);
     for two in question.chunks(2) {
-        let [range, word] = two else {
-            return Err(Fault::Unreadable);
-        };
-        let (first, last) = numbers(range)?;
-        ranges.push((first, last, hexadecimal(word)?))?;
+        ranges.push(range_of(two)?)?;
     }
     Ok(ranges)
 }

@@ -4,7 +4,7 @@ use crate::language::fault::{Answer, Fault};
 use crate::language::held::Held;
 use crate::language::printing::spelled_all;
 use crate::language::setting::Setting;
-use crate::language::words::all;
+use crate::language::words::{all, first_of};
 use crate::plain::{CharacterRow, Form, PairRow, Rows, cut, normal_form};
 use icu_normalizer::Record;
 use normalizer_records::pairs;
@@ -99,9 +99,7 @@ fn canonical_form_named(name: &str) -> Result<Form, Fault> {
 
 /// The form of a text (`plain`), or how many of its characters may be cut off (`plain-cut`).
 pub fn asked(alloc: Global, setting: &mut Setting<'_>, name: &str, question: &[&str]) -> Answer {
-    let [form, text @ ..] = question else {
-        return Err(Fault::Unreadable);
-    };
+    let (form, text) = first_of(question)?;
     let form = canonical_form_named(form)?;
     let text: Vec<char> = all(alloc, text)?;
     asked_of_data(alloc, setting, name, form, &text)

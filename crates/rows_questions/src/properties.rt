@@ -5,7 +5,7 @@ use crate::language::fault::{Answer, Fault, agreed};
 use crate::language::held::Held;
 use crate::language::printing::{Spelled, spelled_all};
 use crate::language::setting::Setting;
-use crate::language::words::{character, hexadecimal};
+use crate::language::words::{character, hexadecimal, only};
 use icu_normalizer::AnyNormalizer;
 use icu_normalizer::harfbuzz::{CombiningClassFunc, ComposeFunc, DecomposeFunc};
 use icu_normalizer::properties::{
@@ -16,10 +16,7 @@ use std::alloc::Global;
 
 /// The class of a number.
 pub fn class(alloc: Global, held: &Held, question: &[&str]) -> Answer {
-    let [number] = question else {
-        return Err(Fault::Unreadable);
-    };
-    let class = class_of_number(held, hexadecimal(number)?)?;
+    let class = class_of_number(held, hexadecimal(only(question)?)?)?;
     Ok(format!(in alloc; "{class}")?)
 }
 
@@ -48,10 +45,7 @@ fn is_told_class<C: CombiningClassFunc>(classes: &C, character: char, class: u8)
 
 /// One step of the canonical decomposition of a character (`decompose`), or what a shaper gets for it.
 pub fn step(alloc: Global, held: &Held, name: &str, question: &[&str]) -> Answer {
-    let [digits] = question else {
-        return Err(Fault::Unreadable);
-    };
-    let character = character(digits)?;
+    let character = character(only(question)?)?;
     let steps = CanonicalDecomposition::try_new_unstable(held)?;
     match name {
         "decompose" => spelled_step(alloc, steps.as_borrowed().decompose(character)),

@@ -4,7 +4,7 @@ use crate::language::fault::{Answer, Fault};
 use crate::language::printing::building;
 use crate::language::record_rows::{spelled_mapper_record, spelled_record};
 use crate::language::setting::Setting;
-use crate::language::words::character;
+use crate::language::words::{character, only};
 use icu_normalizer::{BuildError, Record, Uts46Record};
 use std::alloc::Global;
 
@@ -27,10 +27,7 @@ pub fn said(setting: &Setting<'_>) -> Answer {
 
 /// What is recorded of a character.
 pub fn record(alloc: Global, records: &[Record], question: &[&str]) -> Answer {
-    let [c] = question else {
-        return Err(Fault::Unreadable);
-    };
-    let c = character(c)?;
+    let c = character(only(question)?)?;
     match records.iter().find(|record| record.c == c) {
         Some(record) => spelled_record(alloc, record),
         None => Ok(String::from_str(alloc, "none")?),
@@ -39,10 +36,7 @@ pub fn record(alloc: Global, records: &[Record], question: &[&str]) -> Answer {
 
 /// What is recorded of a character for the mapper.
 pub fn mapper_record(alloc: Global, records: &[Uts46Record], question: &[&str]) -> Answer {
-    let [c] = question else {
-        return Err(Fault::Unreadable);
-    };
-    let c = character(c)?;
+    let c = character(only(question)?)?;
     match records.iter().find(|record| record.c == c) {
         Some(record) => spelled_mapper_record(alloc, record),
         None => Ok(String::from_str(alloc, "none")?),

@@ -2,6 +2,7 @@
 use rows_questions::language::fault::{Answer, Fault};
 use rows_questions::language::held::Held;
 use rows_questions::language::setting::Setting;
+use rows_questions::language::words::first_of;
 use rows_questions::{
     by_data, calls, data, decoding, mapping, parts, plain_program, properties, record_questions,
 };
@@ -10,10 +11,8 @@ use std::alloc::Global;
 /// The result of a question.
 pub fn answer(setting: &mut Setting<'_>, question: &[&str]) -> Answer {
     let alloc = setting.alloc;
-    let [name, rest @ ..] = question else {
-        return Err(Fault::Unreadable);
-    };
-    match *name {
+    let (name, rest) = first_of(question)?;
+    match name {
         "nfd" | "nfc" | "nfkd" | "nfkc" => of_form(setting, "form", question),
         "is" | "split" | "offence" | "owned" => of_form(setting, name, rest),
         "compose" => properties::composite(alloc, setting, rest),
@@ -33,9 +32,7 @@ pub fn answer(setting: &mut Setting<'_>, question: &[&str]) -> Answer {
 
 /// The result of a question about an input.
 fn of_form(setting: &mut Setting<'_>, name: &str, question: &[&str]) -> Answer {
-    let [form, input @ ..] = question else {
-        return Err(Fault::Unreadable);
-    };
+    let (form, input) = first_of(question)?;
     calls::asked(setting.alloc, setting.normalizer(form)?, name, input)
 }
 

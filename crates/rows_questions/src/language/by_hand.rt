@@ -4,7 +4,7 @@
 //! no row sets is not held, and neither is one after `no nfd words`, `no nfd lists` or `no pairs`.
 use crate::language::fault::Fault;
 use crate::language::ranges::{Range, with_range};
-use crate::language::words::{Read, all, character, hexadecimal, words};
+use crate::language::words::{Read, all, character, hexadecimal, only, words};
 use icu_normalizer::{
     CanonicalCompositions, CodePointTable, DecompositionData, DecompositionTables,
     NonRecursiveDecompositionSupplement, Scalars16, Scalars24,
@@ -184,20 +184,12 @@ impl Part {
 }
 
 /// The range and the word that two words say.
-fn range_of(words: &[&str]) -> Result<Range, Fault> {
+pub fn range_of(words: &[&str]) -> Result<Range, Fault> {
     let [range, word] = words else {
         return Err(Fault::Unreadable);
     };
     let (first, last) = numbers(range)?;
     Ok((first, last, hexadecimal(word)?))
-}
-
-/// The one word.
-fn only<'a>(rest: &[&'a str]) -> Result<&'a str, Fault> {
-    match rest {
-        [word] => Ok(*word),
-        _ => Err(Fault::Unreadable),
-    }
 }
 
 /// The pairs that rows set, as data.

@@ -2,7 +2,7 @@
 //! `mapped 03B9`, `ignored`, `disallowed`.
 use crate::language::fault::Fault;
 use crate::language::printing::spelled_all;
-use crate::language::words::{all, character, decimal, hexadecimal};
+use crate::language::words::{all, character, decimal, first_of, hexadecimal};
 use icu_normalizer::{Record, Uts46Record, Uts46Status};
 use std::alloc::Global;
 
@@ -97,9 +97,7 @@ pub fn push_records(
 
 fn counted_record(alloc: Global, first: u32, number: u32, words: &[&str]) -> Result<Record, Fault> {
     let c = char::from_u32(number).ok_or(Fault::Unreadable)?;
-    let [kind, mapping @ ..] = words else {
-        return Err(Fault::Unreadable);
-    };
+    let (kind, mapping) = first_of(words)?;
     let mut record = record(alloc, c, 0, Some(kind_named(kind)?), &[])?;
     for word in mapping {
         record
@@ -123,10 +121,8 @@ fn counted(word: &str, steps: u32) -> Result<char, Fault> {
 
 /// The record of the mapper that words spell.
 pub fn mapper_record_of(alloc: Global, c: char, words: &[&str]) -> Result<Uts46Record, Fault> {
-    let [name, mapping @ ..] = words else {
-        return Err(Fault::Unreadable);
-    };
-    let status = match *name {
+    let (name, mapping) = first_of(words)?;
+    let status = match name {
         "mapped" => Uts46Status::Mapped(all(alloc, mapping)?),
         "ignored" => Uts46Status::Ignored,
         "disallowed" => Uts46Status::Disallowed,

@@ -33,6 +33,22 @@ fn push_pieces<'a>(words: &mut Vec<&'a str>, pieces: &'a str) -> Result<(), Faul
     Ok(())
 }
 
+/// The word, if there is one and no other.
+pub fn only<'a>(words: &[&'a str]) -> Result<&'a str, Fault> {
+    match words {
+        [word] => Ok(*word),
+        _ => Err(Fault::Unreadable),
+    }
+}
+
+/// The first word, and the others.
+pub fn first_of<'w, 'a>(words: &'w [&'a str]) -> Result<(&'a str, &'w [&'a str]), Fault> {
+    match words {
+        [first, others @ ..] => Ok((*first, others)),
+        [] => Err(Fault::Unreadable),
+    }
+}
+
 /// The words with a space between each two.
 pub fn joined(alloc: Global, words: &[&str]) -> Result<String, Fault> {
     let mut text = String::new(alloc);
