@@ -12,7 +12,7 @@ use Rattle.normalizer_tables.specs.PairConditions.{HasOrderedLists}
 use Rattle.normalizer_tables.specs.declared.condition.Bounds.{Bounds}
 use Rattle.normalizer_tables.specs.Characters.{Characters, characters_from, list_of}
 use Rattle.normalizer_tables.specs.Data.{Decompositions, Lists}
-use Rattle.normalizer_tables.specs.NfdData.{IsSoundNfdData, nfd_bounds}
+use Rattle.normalizer_tables.specs.NfdData.{IsSoundNfdData, nfd_bounds, nfd_conditions, nfd_loaded}
 use Rattle.normalizer_tables.specs.Pairs.{Pair}
 use Rattle.normalizer_tables.specs.Readings.{reading_by}
 use Rattle.normalizer_tables.specs.declared.characters.IgnoredCharacters.TheVariants.{Dropped}
@@ -68,6 +68,6 @@ pub ServesDecomposing-handed_in : (decompositions : Decompositions) (tables : Li
 ServesDecomposing-handed_in decompositions tables sound = record {
   reading = SuitsLazyReading-nfd decompositions tables sound;
   passthrough = IsPassthroughBelow-handed_in decompositions tables sound;
-  ordered = list_ordered (characters_from decompositions tables None) nfd_bounds (sound 7 Order (omega arith));
+  ordered = list_ordered (characters_from decompositions tables None) nfd_bounds (met (nfd_loaded decompositions tables) nfd_conditions Order sound refl);
   laws = SuitsTexts-handed_in decompositions tables sound;
 }

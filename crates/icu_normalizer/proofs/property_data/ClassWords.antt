@@ -1,5 +1,5 @@
 -- The class of any number is that of its word alone: what is no scalar value has no class form.
-use Rattle.std.proofs.Common.{◌≡◌, ℕ, ◌≤◌, inl, inr, Bool, true, false, refl, ap, ◌∙◌, arith}
+use Rattle.std.proofs.Common.{◌≡◌, ℕ, ◌≤◌, inl, inr, Bool, true, false, refl, ap, ◌∙◌}
 use lib.Utf8.{scalar}
 use Rattle.normalizer_tables.specs.Characters.{class_of, word_of}
 use Rattle.normalizer_tables.specs.Conditions.{says}

@@ -1,5 +1,5 @@
 -- Data that meet the conditions on steps have steps that agree with the lists of characters.
-use Rattle.std.proofs.Common.{◌≡◌, ◌≢◌, ℕ, Bool, true, false, IsSomeAnd, [], ◌∷◌, Some, None, refl, sym, subst, ◌∙◌, arith}
+use Rattle.std.proofs.Common.{◌≡◌, ◌≢◌, ℕ, Bool, true, false, IsSomeAnd, [], ◌∷◌, Some, None, refl, sym, subst, ◌∙◌}
 use Rattle.std.specs.Char.{IsScalar}
 use lib.Utf8.{scalar}
 use Rattle.normal_forms.specs.Order.{insert, order}

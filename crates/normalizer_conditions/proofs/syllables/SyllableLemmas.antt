@@ -24,7 +24,7 @@ use Rattle.normalizer_tables.specs.Pairs.{Pair, is_vowel_or_trailing_jamo, pair_
 use Rattle.normalizer_tables.specs.Words.{is_backward_combining}
 use Rattle.normalizer_tables.specs.Readings.{reading_by}
 use Rattle.normalizer_tables.specs.declared.characters.IgnoredCharacters.TheVariants.{Dropped}
-use Rattle.normalizer_tables.proofs.conditions.ConditionLemmas.{HasSoundStep-hangul, IsSoundClass-none, syllable-scalar}
+use Rattle.normalizer_tables.proofs.conditions.ConditionLemmas.{HasSoundStep-hangul, IsSoundClass-none}
 use Rattle.normalizer_conditions.proofs.words.FdfaWords.{syllable_avoids}
 use Rattle.normalizer_conditions.proofs.conditions.LoadedLemmas.{IfSome-all}
 use Rattle.normalizer_conditions.proofs.composites.PairLaws.{order-starters}

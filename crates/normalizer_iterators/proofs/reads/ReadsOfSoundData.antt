@@ -1,5 +1,5 @@
 -- Data that meet the written conditions may be read lazily.
-use Rattle.std.proofs.Common.{◌≡◌, ℕ, false, List, [], ◌∷◌, ap, ◌∙◌, subst, arith, inl, inr, None}
+use Rattle.std.proofs.Common.{◌≡◌, ℕ, false, List, [], ◌∷◌, refl, ap, ◌∙◌, subst, arith, inl, inr, None}
 use Rattle.std.proofs.lemmas.Bool.{cases_Bool, cond-false}
 use lib.Utf8.{scalar}
 use Rattle.normal_forms.specs.Reading.{Reading, IsStarter}
