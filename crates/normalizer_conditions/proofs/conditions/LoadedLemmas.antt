@@ -15,7 +15,7 @@ pub IfSome-all : {A : Type 0} (P : A → Type 0) → ((a : A) → P a) → (o : 
 IfSome-all P f None = tt
 IfSome-all P f (Some a) = f a
 
--- a condition is met exactly if what is checked before the walk is met, and what is checked of each character
+-- a condition is met if and only if what is checked before the walk is met, and what is checked of each character
 pub IsMet-parts : (d : Loaded) (c : Condition) → IsMet d c ↔ (IsMetBefore d c × ((n : ℕ) → IsScalar n → (says d c).of_each n))
 IsMet-parts d c = (λ met. ((met.0, λ n is plain. met.1 n is), met.1), λ parts. (parts.0.0, parts.1))
 
