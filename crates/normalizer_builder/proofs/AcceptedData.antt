@@ -26,14 +26,14 @@ use Rattle.normalizer_builder.specs.inner.Earlier.{conditions_of}
 use Rattle.normalizer_builder.proofs.FirstUnmet.{fit_kind}
 
 pub met_not_refused : (d : Loaded) (conditions : List Condition) (kind : DataMarkerInfo) (e : DataError) → All (IsMet d) conditions → ¬ RefusesFirstFailing kind d conditions e
-met_not_refused d conditions kind e met refuses = IsFirstFailing-not_all (IsMet d) conditions refuses.0 refuses.1 met
+met_not_refused d conditions kind e all refuses = IsFirstFailing-not_all (IsMet d) conditions refuses.0 refuses.1 all
 
-module _ (s : Characters) (pairs : List Pair) (met : All (IsMet (characters_and_pairs s pairs)) (composing_conditions s.is_mapper)) where
+module _ (s : Characters) (pairs : List Pair) (all : All (IsMet (characters_and_pairs s pairs)) (composing_conditions s.is_mapper)) where
   pub accepted_characters : IsAccepted s (bounds_of_cap s.decompositions.cap)
-  accepted_characters = (parts_met s pairs met).0
+  accepted_characters = (parts_met s pairs all).0
 
   pub accepted_pairs : AreAcceptedPairs s (bounds_of_cap s.decompositions.cap) pairs
-  accepted_pairs = (parts_met s pairs met).1
+  accepted_pairs = (parts_met s pairs all).1
 
 module _ (records : List RecordValue) (p : Packed) (fit : IsFirstUnmet records p None) where
   -- of the conditions of canonical data those on texts are first, and none of them speaks of the supplement
