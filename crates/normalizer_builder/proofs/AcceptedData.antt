@@ -1,5 +1,5 @@
 -- Built data meet all conditions of constructors.
-use Rattle.std.proofs.Common.{false, true, [], ◌∷◌, List, All, None, arith}
+use Rattle.std.proofs.Common.{false, true, [], ◌∷◌, List, All, None, refl}
 use Rattle.std.proofs.lemmas.List.Elements.{All-cons, All-nil}
 use Rattle.normalizer_tables.specs.declared.condition.Bounds.{Bounds}
 use Rattle.normalizer_tables.specs.declared.condition.Condition.{Condition}
@@ -7,12 +7,13 @@ use Rattle.normalizer_tables.specs.declared.condition.Condition.TheVariants.{Ite
 use Rattle.normalizer_tables.specs.declared.provider.DataError.{DataError}
 use Rattle.normalizer_tables.specs.declared.provider.DataMarkerInfo.{DataMarkerInfo}
 use Rattle.normalizer_conditions.specs.RequiredConditions.{AreAcceptedPairs, class_conditions, composing_conditions, decomposing_conditions, IsAccepted, step_conditions}
-use Rattle.normalizer_tables.specs.Conditions.{IsMet}
+use Rattle.normalizer_tables.specs.Conditions.{IsMet, says}
 use Rattle.normalizer_tables.specs.Loaded.{Loaded, bounds_of_cap, characters_alone, characters_and_pairs, characters_loaded, classes_loaded, pairs_loaded}
 use Rattle.normalizer_tables.specs.PairConditions.{AreSoundPairs}
 use Rattle.normalizer_tables.specs.Characters.{Characters}
 use Rattle.normalizer_tables.specs.Pairs.{Pair}
 use Rattle.normalizer_conditions.specs.Refusals.{RefusesFirstFailing}
+use Rattle.normalizer_tables.proofs.conditions.ListedConditions.{met}
 use Rattle.normalizer_conditions.proofs.conditions.FailingLemmas.{IsFirstFailing-not_all}
 use Rattle.normalizer_conditions.proofs.conditions.LoadedLemmas.{All-front, IsMet-unsupplemented, parts_met}
 use Rattle.normalizer_packing.specs.declared.Packed.{Packed}
@@ -21,17 +22,18 @@ use Rattle.normalizer_packing.specs.ReadBack.{characters_of}
 use Rattle.normalizer_builder.specs.Accepted.{steps_loaded}
 use Rattle.normalizer_records.specs.RecordValue.{RecordValue}
 use Rattle.normalizer_builder.specs.Demands.{IsFirstUnmet, loaded_of}
+use Rattle.normalizer_builder.specs.inner.Earlier.{conditions_of}
 use Rattle.normalizer_builder.proofs.FirstUnmet.{fit_kind}
 
 pub met_not_refused : (d : Loaded) (conditions : List Condition) (kind : DataMarkerInfo) (e : DataError) → All (IsMet d) conditions → ¬ RefusesFirstFailing kind d conditions e
-met_not_refused d conditions kind e met refuses = IsFirstFailing-not_all (IsMet d) conditions refuses.0 refuses.1 met
+met_not_refused d conditions kind e all refuses = IsFirstFailing-not_all (IsMet d) conditions refuses.0 refuses.1 all
 
-module _ (s : Characters) (pairs : List Pair) (met : All (IsMet (characters_and_pairs s pairs)) (composing_conditions s.is_mapper)) where
+module _ (s : Characters) (pairs : List Pair) (all : All (IsMet (characters_and_pairs s pairs)) (composing_conditions s.is_mapper)) where
   pub accepted_characters : IsAccepted s (bounds_of_cap s.decompositions.cap)
-  accepted_characters = (parts_met s pairs met).0
+  accepted_characters = (parts_met s pairs all).0
 
   pub accepted_pairs : AreAcceptedPairs s (bounds_of_cap s.decompositions.cap) pairs
-  accepted_pairs = (parts_met s pairs met).1
+  accepted_pairs = (parts_met s pairs all).1
 
 module _ (records : List RecordValue) (p : Packed) (fit : IsFirstUnmet records p None) where
   -- of the conditions of canonical data those on texts are first, and none of them speaks of the supplement
@@ -54,30 +56,25 @@ module _ (records : List RecordValue) (p : Packed) (fit : IsFirstUnmet records p
   pub classes_met : ((s : Characters) (b : Bounds) → IsMet (characters_loaded s b) Surrogates → IsMet (characters_loaded s b) PastTheEnd → IsMet (characters_loaded s b) Words →
       All (IsMet (classes_loaded s.decompositions)) class_conditions) → All (IsMet (classes_loaded p.canonical)) class_conditions
   classes_met follow =
-      follow (characters_of p Canonical) (bounds_of_cap p.canonical.cap) (nfd_met 3 Surrogates (omega arith)) (nfd_met 4 PastTheEnd (omega arith)) (nfd_met 6 Words (omega arith))
+      let holds = met (characters_alone (characters_of p Canonical)) decomposing_conditions in
+      follow (characters_of p Canonical) (bounds_of_cap p.canonical.cap) (holds Surrogates nfd_met refl) (holds PastTheEnd nfd_met refl) (holds Words nfd_met refl)
 
   pub pairs_met : ((s : Characters) (b : Bounds) (pairs : List Pair) → IsMet (pairs_loaded s b pairs) Pairs → AreSoundPairs pairs) → AreSoundPairs p.compositions
-  pairs_met follow = follow (characters_of p Canonical) (bounds_of_cap p.canonical.cap) p.compositions (nfc_met 10 Pairs (omega arith))
+  pairs_met follow = follow (characters_of p Canonical) (bounds_of_cap p.canonical.cap) p.compositions
+      (met (characters_and_pairs (characters_of p Canonical) p.compositions) (composing_conditions false) Pairs nfc_met refl)
 
   -- the conditions of one step are among those of canonical data, and none of them looks at the bounds
   pub steps_met : All (IsMet (steps_loaded p)) step_conditions
-  unfolding IsMet
+  unfolding says
   steps_met =
-      let met = fit_kind records p fit Canonical in
+      let all = fit_kind records p fit Canonical in
+      let holds = met (loaded_of p Canonical) (conditions_of Canonical) in
       let P = IsMet (steps_loaded p) in
-      let limit = met 0 ItemLimit (omega arith) in
-      let past = met 4 PastTheEnd (omega arith) in
-      let hangul = met 5 Hangul (omega arith) in
-      let words = met 6 Words (omega arith) in
-      let members = met 7 Members (omega arith) in
-      let order = met 8 Order (omega arith) in
-      let forms = met 14 FdfaForms (omega arith) in
-      let steps = met 15 Steps (omega arith) in
-      All-cons P ItemLimit (PastTheEnd ∷ Hangul ∷ Words ∷ Members ∷ Order ∷ FdfaForms ∷ Steps ∷ []) limit
-      (All-cons P PastTheEnd (Hangul ∷ Words ∷ Members ∷ Order ∷ FdfaForms ∷ Steps ∷ []) past
-      (All-cons P Hangul (Words ∷ Members ∷ Order ∷ FdfaForms ∷ Steps ∷ []) hangul
-      (All-cons P Words (Members ∷ Order ∷ FdfaForms ∷ Steps ∷ []) words
-      (All-cons P Members (Order ∷ FdfaForms ∷ Steps ∷ []) members
-      (All-cons P Order (FdfaForms ∷ Steps ∷ []) order
-      (All-cons P FdfaForms (Steps ∷ []) forms
-      (All-cons P Steps [] steps (All-nil P))))))))
+      All-cons P ItemLimit (PastTheEnd ∷ Hangul ∷ Words ∷ Members ∷ Order ∷ FdfaForms ∷ Steps ∷ []) (holds ItemLimit all refl)
+      (All-cons P PastTheEnd (Hangul ∷ Words ∷ Members ∷ Order ∷ FdfaForms ∷ Steps ∷ []) (holds PastTheEnd all refl)
+      (All-cons P Hangul (Words ∷ Members ∷ Order ∷ FdfaForms ∷ Steps ∷ []) (holds Hangul all refl)
+      (All-cons P Words (Members ∷ Order ∷ FdfaForms ∷ Steps ∷ []) (holds Words all refl)
+      (All-cons P Members (Order ∷ FdfaForms ∷ Steps ∷ []) (holds Members all refl)
+      (All-cons P Order (FdfaForms ∷ Steps ∷ []) (holds Order all refl)
+      (All-cons P FdfaForms (Steps ∷ []) (holds FdfaForms all refl)
+      (All-cons P Steps [] (holds Steps all refl) (All-nil P))))))))

@@ -2,14 +2,13 @@
 ghost use Rattle.std.specs.Prelude.{◌≡◌, ◌↔◌, ◌≤◌, IsTrue, IsOk, IfErr, All};
 ghost use Rattle.std.specs.Char.{IsScalar};
 ghost use Rattle.std.specs.List.{Contains};
-ghost use Rattle.normalizer_tables.specs.Conditions.{IsFirstFailing, IsMet};
+ghost use Rattle.normalizer_tables.specs.Conditions.{IsFirstFailing, IsMet, says};
 ghost use Rattle.normalizer_conditions.specs.Refusals.{RefusesFirstFailing};
 ghost use Rattle.normalizer_tables.specs.Table.{code_points};
 ghost use Rattle.normalizer_tables.specs.declared.condition.Condition.TheVariants as condition;
-ghost use Rattle.normalizer_conditions.specs.inner.Walk.{AreUnasked, is_asked_of_words, IsEndOfEqualWords, IsMetApart, IsPlaceOfFirstFailing};
-ghost use Rattle.normalizer_conditions.specs.EachCharacter.{IsMetAt};
+ghost use Rattle.normalizer_conditions.specs.inner.Walk.{AreUnasked, is_asked_of_words, IsEndOfEqualWords, IsMetBefore, IsPlaceOfFirstFailing};
 
-use crate::check::met::{is_met_apart, is_met_at};
+use crate::check::met::{is_met_at, is_met_before};
 use crate::loaded::LoadedData;
 use crate::refusal::refusal_of;
 use normalizer_tables::characters::CODE_POINTS;
@@ -48,7 +47,7 @@ pub fn check(
 pub fn first_failing(data: &LoadedData<'_>, conditions: &[Condition]) -> Option<Condition>
     ensures { IsFirstFailing (IsMet data.now) conditions.now result }
 {
-    let mut failing = first_failing_apart(data, conditions);
+    let mut failing = first_failing_before(data, conditions);
     let hangul_is_sound = asks_hangul(&conditions[..failing]);
     // Those before say nothing of each character.
     let asked = first_asked_of_words(conditions);
@@ -70,7 +69,7 @@ fn asks_hangul(conditions: &[Condition]) -> bool
         .any(|&condition| condition == Condition::Hangul)
 }
 
-/// The place of the first condition that says something of each character.
+/// The place of the first condition that may say something of each character.
 fn first_asked_of_words(conditions: &[Condition]) -> usize
     ensures { AreUnasked conditions.now result }
 {
@@ -80,23 +79,12 @@ fn first_asked_of_words(conditions: &[Condition]) -> usize
         .unwrap_or(conditions.len())
 }
 
-/// Whether a condition says something of each character.
+/// Whether a condition may say something of each character: those below 7 say nothing.
 #[tactic(auto, unfolding(crate::specs::inner::Walk::is_asked_of_words))]
 fn is_asked_of_words(condition: Condition) -> bool
     ensures { result ≡ is_asked_of_words condition }
 {
-    matches!(
-        condition,
-        Condition::Words
-            | Condition::Members
-            | Condition::Order
-            | Condition::Passthrough
-            | Condition::RoundTrip
-            | Condition::SafeBeginning
-            | Condition::FdfaForms
-            | Condition::Steps
-            | Condition::WordClasses
-    )
+    condition.number() >= Condition::Words.number()
 }
 
 /// The end of the numbers for which it suffices to check this one. If Hangul is sound, that is all syllables after it
@@ -113,19 +101,19 @@ fn end_of_equal_words(number: u32, hangul_is_sound: bool) -> u32
     }
 }
 
-/// The place of the first condition that fails apart from the walk over words.
-fn first_failing_apart(data: &LoadedData<'_>, conditions: &[Condition]) -> usize
-    ensures { IsPlaceOfFirstFailing (IsMetApart data.now) conditions.now result }
+/// The place of the first condition that fails before the walk over words.
+fn first_failing_before(data: &LoadedData<'_>, conditions: &[Condition]) -> usize
+    ensures { IsPlaceOfFirstFailing (IsMetBefore data.now) conditions.now result }
 {
     conditions
         .iter()
-        .position(|&condition| !is_met_apart(data, condition))
+        .position(|&condition| !is_met_before(data, condition))
         .unwrap_or(conditions.len())
 }
 
 /// The place of the first condition that fails of a number, if a character has it.
 fn first_failing_at(data: &LoadedData<'_>, conditions: &[Condition], number: u32) -> usize
-    ensures { IsPlaceOfFirstFailing (λ c. IsScalar number → IsMetAt data.now c number) conditions.now result }
+    ensures { IsPlaceOfFirstFailing (λ c. IsScalar number → (says data.now c).of_each number) conditions.now result }
 {
     let Some(character) = char::from_u32(number) else {
         return conditions.len();

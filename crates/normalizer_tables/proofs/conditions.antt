@@ -1,2 +1,3 @@
 -- The written conditions and accepted data.
 pub mod ConditionLemmas
+pub mod ListedConditions

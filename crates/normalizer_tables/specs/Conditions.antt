@@ -50,28 +50,46 @@ number_of SurrogateClasses = 4
 number_of WordClasses = 7
 number_of PairOrder = 11
 
--- What a condition says of all that was loaded; of pairs and a supplement that weren't, it says nothing. The last three
--- are the parts of 4, 7 and 11 for classes alone, or for pairs alone.
-unfoldable pub IsMet : Loaded → Condition → Type 0
-IsMet d ItemLimit = item_count d.characters.tables + item_count d.characters.supplementary ≤ item_limit
-IsMet d CapLimit = d.characters.decompositions.cap ≤ cap_limit
-IsMet d ReplacementCharacter = IsFlaggedReplacement d.characters
-IsMet d Surrogates = (n : ℕ) → is_surrogate n ≡ true → word_of d.characters n ≡ 0xC000FFFD
-IsMet d PastTheEnd = is_class_form d.characters.decompositions.table.past ≡ false
-IsMet d Hangul = (n : ℕ) → IsSoundHangul d.characters n
-IsMet d Words = (n : ℕ) → IsScalar n → IsSoundWord d.characters n
-IsMet d Members = (n : ℕ) → IsScalar n → All (ReadsToItself d.characters) (list_of d.characters [] n)
-IsMet d Order = (n : ℕ) → IsScalar n → IsOrderedList d.characters n
-IsMet d Passthrough = (n : ℕ) → IsScalar n → n < d.bounds.decomposition → IsPlainStarter d.characters n
-IsMet d Pairs = IfSome d.pairs (λ pairs. AreSoundPairs pairs × All (IsComposablePair d.characters) pairs)
-IsMet d RoundTrip = IfSome d.pairs (λ pairs. (n : ℕ) → KeepsRoundTrip d.characters d.bounds pairs n)
-IsMet d SafeBeginning = IfSome d.pairs (λ pairs. (n : ℕ) → KeepsBoundary d.characters d.bounds pairs n)
-IsMet d Results = IfSome d.pairs (λ pairs. All (HasOrderedLists d.characters []) pairs)
-IsMet d FdfaForms = (n : ℕ) → AvoidsFdfa d.characters n
-IsMet d Steps = IfSome d.supplement (λ t. (n : ℕ) → HasSoundStep d.characters t n)
-IsMet d SurrogateClasses = (n : ℕ) → is_surrogate n ≡ true → is_class_form (word_of d.characters n) ≡ false
-IsMet d WordClasses = (n : ℕ) → IsScalar n → IsSoundClass n (word_of d.characters n)
-IsMet d PairOrder = IfSome d.pairs AreSoundPairs
+-- what is said of all that was loaded, and of each character
+pub record Statement : Type 1 where
+  pub of_all : Type 0
+  pub of_each : ℕ → Type 0
+
+abbrev all : Type 0 → Statement
+all A = record { of_all = A; of_each = λ n. Unit {0} }
+
+abbrev each : (ℕ → Type 0) → Statement
+each P = record { of_all = Unit {0}; of_each = P }
+
+-- What a condition says; of pairs and a supplement that weren't loaded, it says nothing. The last three are the parts of
+-- 4, 7 and 11 for classes alone, or for pairs alone.
+unfoldable pub says : Loaded → Condition → Statement
+says d ItemLimit = all (item_count d.characters.tables + item_count d.characters.supplementary ≤ item_limit)
+says d CapLimit = all (d.characters.decompositions.cap ≤ cap_limit)
+says d ReplacementCharacter = all (IsFlaggedReplacement d.characters)
+says d Surrogates = all ((n : ℕ) → is_surrogate n ≡ true → word_of d.characters n ≡ 0xC000FFFD)
+says d PastTheEnd = all (is_class_form d.characters.decompositions.table.past ≡ false)
+says d Hangul = all ((n : ℕ) → IsSoundHangul d.characters n)
+says d Words = each (λ n. IsSoundWord d.characters n)
+says d Members = each (λ n. All (ReadsToItself d.characters) (list_of d.characters [] n))
+says d Order = each (λ n. IsOrderedList d.characters n)
+says d Passthrough = each (λ n. n < d.bounds.decomposition → IsPlainStarter d.characters n)
+says d Pairs = all (IfSome d.pairs (λ pairs. AreSoundPairs pairs × All (IsComposablePair d.characters) pairs))
+says d RoundTrip = each (λ n. IfSome d.pairs (λ pairs. KeepsRoundTrip d.characters d.bounds pairs n))
+says d SafeBeginning = each (λ n. IfSome d.pairs (λ pairs. KeepsBoundary d.characters d.bounds pairs n))
+says d Results = all (IfSome d.pairs (λ pairs. All (HasOrderedLists d.characters []) pairs))
+says d FdfaForms = record {
+  of_all = (n : ℕ) → (IsScalar n → ⊥) → AvoidsFdfa d.characters n;
+  of_each = λ n. AvoidsFdfa d.characters n;
+}
+says d Steps = each (λ n. IfSome d.supplement (λ t. HasSoundStep d.characters t n))
+says d SurrogateClasses = all ((n : ℕ) → is_surrogate n ≡ true → is_class_form (word_of d.characters n) ≡ false)
+says d WordClasses = each (λ n. IsSoundClass n (word_of d.characters n))
+says d PairOrder = all (IfSome d.pairs AreSoundPairs)
+
+-- a condition is met if both that it says are so
+abbrev pub IsMet : Loaded → Condition → Type 0
+IsMet d c = (says d c).of_all × ((n : ℕ) → IsScalar n → (says d c).of_each n)
 
 -- no condition of the list fails, or this one does, and none before it
 unfoldable pub IsFirstFailing : {C : Type 0} → (C → Type 0) → List C → Option C → Type 0

@@ -1,6 +1,5 @@
 -- What the written conditions say of composing pairs, and of decomposition data by the pairs.
 use Rattle.std.specs.Prelude.{◌≡◌, ◌≢◌, ℕ, ◌||◌, ◌&&◌, Bool, true, false, not, nat_lt, List, [], ◌∷◌, ◌++◌, All}
-use Rattle.std.specs.Char.{IsScalar}
 use Rattle.normal_forms.specs.Order.{order}
 use Rattle.normal_forms.specs.Composition.{compose}
 use Rattle.normal_forms.specs.Boundary.{BeginsAtBoundary}
@@ -50,11 +49,11 @@ pub record ListBeginsAtBoundary (s : Characters) (pairs : List Pair) (n : ℕ) :
 
 -- if a composing loop relies on it, the list of n composes to n
 unfoldable pub KeepsRoundTrip : Characters → Bounds → List Pair → ℕ → Type 0
-KeepsRoundTrip s b pairs n = IsScalar n → is_taken_to_round_trip s b n ≡ true → RoundTrips s pairs n
+KeepsRoundTrip s b pairs n = is_taken_to_round_trip s b n ≡ true → RoundTrips s pairs n
 
 -- if a composing loop relies on the beginning of n, the list of n begins at a boundary
 unfoldable pub KeepsBoundary : Characters → Bounds → List Pair → ℕ → Type 0
-KeepsBoundary s b pairs n = IsScalar n → is_taken_as_boundary s b n ≡ true → ListBeginsAtBoundary s pairs n
+KeepsBoundary s b pairs n = is_taken_as_boundary s b n ≡ true → ListBeginsAtBoundary s pairs n
 
 -- a result has the ordered lists of first and second; `ignored` is the list of an ignored character
 unfoldable pub HasOrderedLists : Characters → List ℕ → Pair → Type 0

@@ -1,6 +1,5 @@
 -- What the written conditions say of canonical data and the supplement, by which characters are decomposed one step.
 use Rattle.std.specs.Prelude.{◌≡◌, ◌≢◌, ℕ, false, List, [], ◌∷◌, ◌++◌, IsSomeAnd}
-use Rattle.std.specs.Char.{IsScalar}
 use Rattle.normal_forms.specs.Order.{order}
 use Rattle.normalizer_tables.specs.declared.step.Step.{Step}
 use Rattle.normalizer_tables.specs.declared.step.Step.TheVariants.{Default, Singleton, Expansion}
@@ -27,6 +26,6 @@ IsSoundStep s n (Expansion a b) = IsInOrder s n (list_of s [] a ++ list_of s [] 
 unfoldable pub AvoidsFdfa : Characters → ℕ → Type 0
 AvoidsFdfa s n = reading_of_word s n ≢ Fdfa
 
--- a scalar value that isn't a Hangul syllable has a sound step
+-- n has a sound step, if it isn't a Hangul syllable
 unfoldable pub HasSoundStep : Characters → Supplement → ℕ → Type 0
-HasSoundStep s t n = IsScalar n → is_hangul_syllable n ≡ false → IsSomeAnd (step_of s t n) (IsSoundStep s n)
+HasSoundStep s t n = is_hangul_syllable n ≡ false → IsSomeAnd (step_of s t n) (IsSoundStep s n)

@@ -7,7 +7,7 @@ use Rattle.normalizer_conditions.specs.RequiredConditions.{decomposing_condition
 use Rattle.normalizer_conditions.proofs.conditions.FailingLemmas.{IsFirstFailing-here, IsFirstFailing-next}
 use Rattle.normalizer_conditions.proofs.conditions.LoadedLemmas.{IsMet-alone, parts_met}
 use Rattle.normalizer_tables.specs.Characters.{Characters}
-use Rattle.normalizer_tables.specs.Conditions.{IsFirstFailing, IsMet}
+use Rattle.normalizer_tables.specs.Conditions.{IsFirstFailing, IsMet, says}
 use Rattle.normalizer_tables.specs.Held.{AcceptsHeld}
 use Rattle.normalizer_tables.specs.Loaded.{characters_alone, characters_and_pairs}
 use Rattle.normalizer_tables.specs.Pairs.{Pair}
@@ -49,7 +49,7 @@ first_failing-split P Q (x ∷ xs) ys c same weaker (b ∷ before, after, e, met
 
 -- the conditions for decomposing say nothing of pairs
 same_met : (s : Characters) (pairs : List Pair) → All (λ c. IsMet (characters_alone s) c → IsMet (characters_and_pairs s pairs) c) decomposing_conditions
-unfolding IsMet
+unfolding says
 same_met s pairs = All-from_recursion (λ c. IsMet (characters_alone s) c → IsMet (characters_and_pairs s pairs) c) decomposing_conditions
     (λ h. h, (λ h. h, (λ h. h, (λ h. h, (λ h. h, (λ h. h, (λ h. h, (λ h. h, (λ h. h, (λ h. h, tt))))))))))
 

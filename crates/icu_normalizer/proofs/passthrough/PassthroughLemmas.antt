@@ -22,8 +22,10 @@ use Rattle.normal_forms.proofs.ordering.OrderLemmas.{order-at_starter}
 use Rattle.normalizer_tables.specs.declared.characters.IgnoredCharacters.TheVariants.{Dropped}
 use Rattle.normalizer_tables.specs.declared.condition.Bounds.{Bounds}
 use Rattle.normalizer_tables.specs.declared.condition.Condition.TheVariants.{SafeBeginning}
-use Rattle.normalizer_conditions.specs.RequiredConditions.{AreAcceptedPairs}
-use Rattle.normalizer_tables.specs.Conditions.{IsMet}
+use Rattle.normalizer_conditions.specs.RequiredConditions.{AreAcceptedPairs, pair_conditions}
+use Rattle.normalizer_tables.specs.Loaded.{pairs_loaded}
+use Rattle.normalizer_tables.proofs.conditions.ListedConditions.{met}
+use Rattle.normalizer_tables.specs.Conditions.{says}
 use Rattle.normalizer_tables.specs.PairConditions.{is_composing_passthrough, is_taken_as_boundary, KeepsBoundary}
 use Rattle.normalizer_tables.specs.Characters.{Characters, class_of, class_of_itself, has_class_form, list_of, list_read, named_list, reading_of_word, word_of}
 use Rattle.normalizer_tables.specs.declared.word.WordReading.{WordReading}
@@ -143,10 +145,10 @@ HasBoundaryBefore-boundary s b serves c scalar at_boundary = HasBoundaryBefore-d
 -- a character that is taken to begin at a boundary begins a new part where text is composed: condition 13
 pub HasBoundaryBefore-taken : (s : Characters) (b : Bounds) (pairs : List Pair) → HasStarterResults (reading_by s Dropped pairs) → AreAcceptedPairs s b pairs
     → (c : ℕ) → IsScalar c → is_taken_as_boundary s b c ≡ true → HasBoundaryBefore (reading_by s Dropped pairs) Composing c
-unfolding IsMet KeepsBoundary normal_form
+unfolding says KeepsBoundary normal_form
 HasBoundaryBefore-taken s b pairs starters accepted c scalar taken =
     let d = reading_by s Dropped pairs in
-    let safe = accepted 2 SafeBeginning (omega arith) c scalar taken in
+    let safe = (met (pairs_loaded s b pairs) (pair_conditions s.is_mapper) SafeBeginning accepted refl).1 c scalar taken in
     λ front x. nfc-boundary d starters front (c ∷ x) (BeginsAtBoundary-expand d c x safe.begins safe.safely)
 
 -- the form of a character alone is its list

@@ -1,13 +1,16 @@
 -- The class of any number is that of its word alone: what is no scalar value has no class form.
-use Rattle.std.proofs.Common.{◌≡◌, ℕ, ◌≤◌, inl, inr, Bool, true, false, refl, ap, ◌∙◌, arith}
+use Rattle.std.proofs.Common.{◌≡◌, ℕ, ◌≤◌, inl, inr, Bool, true, false, refl, ap, ◌∙◌}
 use lib.Utf8.{scalar}
 use Rattle.normalizer_tables.specs.Characters.{class_of, word_of}
-use Rattle.normalizer_tables.specs.Conditions.{IsMet}
+use Rattle.normalizer_tables.specs.Conditions.{says}
 use Rattle.normalizer_tables.specs.declared.condition.Condition.TheVariants.{SurrogateClasses, PastTheEnd}
 use Rattle.normalizer_tables.specs.Data.{Decompositions}
 use Rattle.normalizer_tables.specs.Table.{word_at, code_points}
 use Rattle.normalizer_tables.specs.Words.{class_of_word, is_class_form}
 use Rattle.normalizer_tables.proofs.conditions.ConditionLemmas.{no_scalar}
+use Rattle.normalizer_tables.proofs.conditions.ListedConditions.{met}
+use Rattle.normalizer_conditions.specs.RequiredConditions.{class_conditions}
+use Rattle.normalizer_tables.specs.Loaded.{classes_loaded}
 use Rattle.icu_normalizer.specs.ClassData.{combining_class, HasNoClassesElsewhere, SuitsClasses}
 
 no_class : (w : ℕ) → is_class_form w ≡ false → class_of_word w ≡ 0
@@ -31,5 +34,6 @@ module _ (d : Decompositions) (classes : HasNoClassesElsewhere d) (n w : ℕ) (w
 
 -- data that meet the conditions on classes
 pub HasNoClassesElsewhere-met : (d : Decompositions) → SuitsClasses d → HasNoClassesElsewhere d
-unfolding IsMet word_of
-HasNoClassesElsewhere-met d met = record { surrogates = met 0 SurrogateClasses (omega arith); past = met 1 PastTheEnd (omega arith) }
+unfolding says word_of
+HasNoClassesElsewhere-met d accepted =
+    let holds = met (classes_loaded d) class_conditions in record { surrogates = (holds SurrogateClasses accepted refl).0; past = (holds PastTheEnd accepted refl).0 }

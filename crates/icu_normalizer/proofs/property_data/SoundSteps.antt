@@ -1,5 +1,5 @@
 -- Data that meet the conditions on steps have steps that agree with the lists of characters.
-use Rattle.std.proofs.Common.{◌≡◌, ◌≢◌, ℕ, Bool, true, false, IsSomeAnd, [], ◌∷◌, Some, None, refl, sym, subst, ◌∙◌, arith}
+use Rattle.std.proofs.Common.{◌≡◌, ◌≢◌, ℕ, Bool, true, false, IsSomeAnd, [], ◌∷◌, Some, None, refl, sym, subst, ◌∙◌}
 use Rattle.std.specs.Char.{IsScalar}
 use lib.Utf8.{scalar}
 use Rattle.normal_forms.specs.Order.{insert, order}
@@ -8,7 +8,7 @@ use Rattle.normalizer_tables.specs.declared.condition.Condition.TheVariants.{Han
 use Rattle.normalizer_tables.specs.declared.step.Step.{Step}
 use Rattle.normalizer_tables.specs.declared.step.Step.TheVariants.{Default, Singleton, Expansion}
 use Rattle.normalizer_tables.specs.Characters.{Characters, list_of}
-use Rattle.normalizer_tables.specs.Conditions.{IsMet}
+use Rattle.normalizer_tables.specs.Conditions.{IsMet, says}
 use Rattle.normalizer_tables.specs.Loaded.{characters_loaded, nfd_bounds}
 use Rattle.normalizer_tables.specs.StepConditions.{HasSoundStep, IsInOrder, IsSoundStep}
 use Rattle.normalizer_tables.specs.Data.{Supplement}
@@ -19,7 +19,9 @@ use Rattle.normalizer_tables.specs.Readings.{reading_by}
 use Rattle.normalizer_tables.specs.declared.characters.IgnoredCharacters.TheVariants.{Dropped}
 use Rattle.normalizer_tables.proofs.words.CharacterLemmas.{list_of-default}
 use Rattle.normalizer_tables.proofs.lists.SoundLists.{list_read-elsewhere}
-use Rattle.icu_normalizer.specs.StepData.{StepData, SuitsSteps}
+use Rattle.normalizer_tables.proofs.conditions.ListedConditions.{met}
+use Rattle.normalizer_conditions.specs.RequiredConditions.{step_conditions}
+use Rattle.icu_normalizer.specs.StepData.{StepData, steps_loaded, SuitsSteps}
 use Rattle.icu_normalizer.specs.StepMeaning.{HasSteps, MeansInLists}
 use Rattle.icu_normalizer.proofs.property_data.HangulSteps.{IsHangulMapping, has_mapping, list_of-hangul, list_of-hangul_apart, step_of-hangul}
 
@@ -30,8 +32,8 @@ order-one d c = refl
 module _ (s : Characters) (t : Supplement) (b : Bounds) where
   module _ (in_order : IsMet (characters_loaded s b) Order) where
     by_kind : (n : ℕ) (is_scalar : Bool) → scalar n ≡ is_scalar → order (reading_by s Dropped []) (list_of s [] n) ≡ list_of s [] n
-    unfolding IsMet
-    by_kind n true h = (in_order n h).ordered
+    unfolding says
+    by_kind n true h = (in_order.1 n h).ordered
     by_kind n false h = rw (list_of-default s [] n (list_read-elsewhere s [] n h)) (order-one (reading_by s Dropped []) n)
 
     ordered : (n : ℕ) → order (reading_by s Dropped []) (list_of s [] n) ≡ list_of s [] n
@@ -65,7 +67,7 @@ module _ (s : Characters) (t : Supplement) (b : Bounds) where
         list_of-hangul s b hangul n a c h ∙ rw (first, second) refl;
   }
 
-  module _ (hangul : IsMet (characters_loaded s b) Hangul) (in_order : IsMet (characters_loaded s b) Order) (sound : (n : ℕ) → HasSoundStep s t n) (n : ℕ) (of_character : IsScalar n) where
+  module _ (hangul : IsMet (characters_loaded s b) Hangul) (in_order : IsMet (characters_loaded s b) Order) (sound : (n : ℕ) → IsScalar n → HasSoundStep s t n) (n : ℕ) (of_character : IsScalar n) where
     given : (syllable : Bool) → is_hangul_syllable n ≡ syllable → step_of s t n ≢ None
     unfolding HasSoundStep
     given true h none =
@@ -81,11 +83,12 @@ module _ (s : Characters) (t : Supplement) (b : Bounds) where
     means false h step e = MeansInLists-sound in_order n step (subst (λ o. IsSomeAnd o (IsSoundStep s n)) e (sound n of_character h))
 
 pub HasSteps-met : (h : StepData) → SuitsSteps h → HasSteps h.0 h.1
-unfolding IsMet
+unfolding says
 HasSteps-met h suits =
-    let hangul = suits 2 Hangul (omega arith) in
-    let in_order = suits 5 Order (omega arith) in
-    let sound = suits 7 Steps (omega arith) in
+    let holds = met (steps_loaded h) step_conditions in
+    let hangul = holds Hangul suits refl in
+    let in_order = holds Order suits refl in
+    let sound = (holds Steps suits refl).1 in
     record {
       given = λ n of_character. given h.0 h.1 nfd_bounds hangul in_order sound n of_character (is_hangul_syllable n) refl;
       means = λ n of_character step e. means h.0 h.1 nfd_bounds hangul in_order sound n of_character (is_hangul_syllable n) refl step e;

@@ -41,9 +41,9 @@ pub scalar_below : (n : ℕ) → IsScalar n → n < 0x110000
 scalar_below n h = elim (scalar_cases n h) as (λ _. n < 0x110000) [ inl low ↦ omega arith | inr high ↦ high.1 ]
 
 -- a plain word keeps the condition on round trips
-pub KeepsRoundTrip-plain : (s : Characters) (b : Bounds) (pairs : List Pair) (n : ℕ) → is_plain (word_of s n) ≡ true → KeepsRoundTrip s b pairs n
+pub KeepsRoundTrip-plain : (s : Characters) (b : Bounds) (pairs : List Pair) (n : ℕ) → IsScalar n → is_plain (word_of s n) ≡ true → KeepsRoundTrip s b pairs n
 unfolding KeepsRoundTrip RoundTrips compose compose_from visit
-KeepsRoundTrip-plain s b pairs n plain h taken = ap (compose (reading_by s Dropped pairs)) (list_of-plain_word s [] n h plain)
+KeepsRoundTrip-plain s b pairs n h plain taken = ap (compose (reading_by s Dropped pairs)) (list_of-plain_word s [] n h plain)
 
 -- what the functions that put lists in order cite
 pub ruleset ordered_lists = (insertions, length-take-le, length-list_of, two_lists-fit)

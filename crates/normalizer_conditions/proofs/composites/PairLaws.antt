@@ -22,7 +22,7 @@ use Rattle.normalizer_tables.specs.Words.{is_plain, is_non_round_trip, is_class_
 use Rattle.normalizer_tables.specs.Words.{is_special_class_form, has_high_zeros, has_low_zeros, read, read_low}
 use Rattle.normalizer_tables.specs.Characters.{Characters, word_of, reading_of_word, as_text, named_list, list_read, list_of, class_of, has_class_form}
 use Rattle.normalizer_tables.specs.CharacterConditions.{is_composing_jamo, IsPlainStarter, IsSoundHangul}
-use Rattle.normalizer_tables.specs.Conditions.{IsMet}
+use Rattle.normalizer_tables.specs.Conditions.{IsMet, says}
 use Rattle.normalizer_tables.specs.Loaded.{characters_loaded, pairs_loaded}
 use Rattle.normalizer_tables.specs.PairConditions.{HasOrderedLists, ListBeginsAtBoundary, is_composing_passthrough, is_taken_as_boundary, is_taken_to_round_trip, IsComposablePair, KeepsBoundary, KeepsRoundTrip, RoundTrips}
 use Rattle.normalizer_tables.specs.declared.condition.Bounds.{Bounds}
@@ -131,15 +131,15 @@ module _ (s : Characters) (sound : (n : ℕ) → IsSoundHangul s n) where
 
 module _ (s : Characters) (b : Bounds) (hangul : IsMet (characters_loaded s b) Hangul) where
   pub sound_hangul : (n : ℕ) → IsSoundHangul s n
-  unfolding IsMet
-  sound_hangul n = hangul n
+  unfolding says
+  sound_hangul n = hangul.0 n
 
   pub HasStarterResults-reading_of : (pairs : List Pair) → IsMet (pairs_loaded s b pairs) Pairs → (ignored : List ℕ) → HasStarterResults (reading_of s ignored (pair_of pairs))
-  unfolding IsMet IsComposablePair
+  unfolding says IsComposablePair
   HasStarterResults-reading_of pairs holds ignored = record {
     starters = λ a c r joins. elim (pair_of-some pairs a c r joins) [
       | inl by_hangul ↦ class_of-syllable s sound_hangul r (composed-syllable a c r by_hangul)
-      | inr as_listed ↦ class_of-no_class_form s r (All-listed_result (IsComposablePair s) pairs a c r holds.1 as_listed).1.starter
+      | inr as_listed ↦ class_of-no_class_form s r (All-listed_result (IsComposablePair s) pairs a c r holds.0.1 as_listed).1.starter
     ];
   }
 
@@ -153,8 +153,8 @@ module _ (s : Characters) (b : Bounds) (hangul : IsMet (characters_loaded s b) H
   }
 
   pub HasFaithfulResults-condition : (pairs : List Pair) → IsMet (pairs_loaded s b pairs) Results → HasFaithfulResults (reading_by s Dropped pairs)
-  unfolding IsMet
-  HasFaithfulResults-condition pairs holds = HasFaithfulResults-reading_of pairs [] holds
+  unfolding says
+  HasFaithfulResults-condition pairs holds = HasFaithfulResults-reading_of pairs [] holds.0
 
 module _ (s : Characters) (b : Bounds) (pairs : List Pair) where
   -- a list that isn't empty is the same however ignored characters are treated
@@ -167,21 +167,21 @@ module _ (s : Characters) (b : Bounds) (pairs : List Pair) where
   ]
 
   round_trip : IsMet (pairs_loaded s b pairs) RoundTrip → (n : ℕ) → IsScalar n → is_composing_passthrough s b n ≡ true → compose (reading_by s Dropped pairs) (list_of s [] n) ≡ n ∷ []
-  unfolding IsMet KeepsRoundTrip RoundTrips is_composing_passthrough is_taken_to_round_trip
-  round_trip holds n h passed = holds n h (grind arith)
+  unfolding says KeepsRoundTrip RoundTrips is_composing_passthrough is_taken_to_round_trip
+  round_trip holds n h passed = holds.1 n h (grind arith)
 
   beginning : IsMet (pairs_loaded s b pairs) SafeBeginning → (n : ℕ) → IsScalar n → is_composing_passthrough s b n ≡ true → ListBeginsAtBoundary s pairs n
-  unfolding IsMet KeepsBoundary is_composing_passthrough is_taken_as_boundary
-  beginning holds n h passed = holds n h (grind arith)
+  unfolding says KeepsBoundary is_composing_passthrough is_taken_as_boundary
+  beginning holds n h passed = holds.1 n h (grind arith)
 
   pub IsNormalized-passed : IsMet (characters_loaded s b) Order → IsMet (pairs_loaded s b pairs) RoundTrip → (ignored : List ℕ) (n : ℕ) → IsScalar n → is_composing_passthrough s b n ≡ true →
       IsNormalized (reading_of s ignored (pair_of pairs)) Composing (n ∷ [])
-  unfolding IsMet normal_form nfc nfd expand order insert is_reorderable compose compose_from visit joined is_blocked
+  unfolding says normal_form nfc nfd expand order insert is_reorderable compose compose_from visit joined is_blocked
   IsNormalized-passed in_order trips ignored n h passed =
       let d = reading_of s ignored (pair_of pairs) in
       let trip = round_trip trips n h passed in
       let some : list_of s [] n ≢ [] = λ e. compose-empty (reading_by s Dropped pairs) (list_of s [] n) n (ap (λ x. slice_get x 0) e) trip in
-      ap (λ x. compose d (order d x)) (append-nil (list_of s ignored n) ∙ same_list ignored n h some) ∙ ap (compose d) (in_order n h).ordered ∙ trip
+      ap (λ x. compose d (order d x)) (append-nil (list_of s ignored n) ∙ same_list ignored n h some) ∙ ap (compose d) (in_order.1 n h).ordered ∙ trip
 
   same_beginning : (ignored : List ℕ) (x : List ℕ) → BeginsAtBoundary (reading_by s Dropped pairs) x → BeginsAtBoundary (reading_of s ignored (pair_of pairs)) x
   same_beginning ignored [] h = tt

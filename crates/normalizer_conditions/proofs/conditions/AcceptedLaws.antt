@@ -10,15 +10,15 @@ use Rattle.normal_forms.specs.declared.Form.TheVariants.{Decomposing, Composing}
 use Rattle.normal_forms.specs.Hypotheses.{HasFullLists, HasStarterResults, HasFaithfulResults, HasNonemptyLists, HasTextLists, HasScalarResults, SuitsForm}
 use Rattle.normal_forms.proofs.ordering.OrderLemmas.{length-order}
 use Rattle.normalizer_tables.specs.declared.condition.Condition.TheVariants as condition
-use Rattle.normalizer_conditions.specs.RequiredConditions.{AreAcceptedPairs, class_conditions, IsAccepted, pair_conditions, SuitsMapper, SuitsTexts}
-use Rattle.normalizer_tables.specs.Conditions.{IsMet}
+use Rattle.normalizer_conditions.specs.RequiredConditions.{AreAcceptedPairs, class_conditions, decomposing_conditions, IsAccepted, pair_conditions, SuitsMapper, SuitsTexts}
+use Rattle.normalizer_tables.specs.Conditions.{IsMet, says}
 use Rattle.normalizer_tables.specs.Loaded.{characters_loaded, classes_loaded, pairs_loaded}
 use Rattle.normalizer_tables.specs.Characters.{Characters, characters_from, word_of}
 use Rattle.normalizer_tables.specs.Data.{Decompositions, Lists}
 use Rattle.normalizer_tables.specs.Ignored.{ignored_list}
 use Rattle.normalizer_tables.specs.declared.characters.IgnoredCharacters.{IgnoredCharacters}
 use Rattle.normalizer_tables.specs.declared.characters.IgnoredCharacters.TheVariants.{Dropped}
-use Rattle.normalizer_tables.specs.NfdData.{IsSoundNfdData, nfd_bounds}
+use Rattle.normalizer_tables.specs.NfdData.{IsSoundNfdData, nfd_bounds, nfd_conditions, nfd_loaded}
 use Rattle.normalizer_tables.specs.Pairs.{Pair, pair_of}
 use Rattle.normalizer_tables.specs.declared.condition.Bounds.{Bounds}
 use Rattle.normalizer_tables.specs.SoundData.{IsSoundData}
@@ -28,6 +28,7 @@ use Rattle.normalizer_tables.specs.Words.{is_class_form, is_ordinary_class_form,
 use Rattle.std.proofs.lemmas.List.Elements.{All-cons, All-nil}
 use Rattle.normalizer_tables.proofs.words.CharacterLemmas.{list_of-default}
 use Rattle.normalizer_tables.proofs.conditions.ConditionLemmas.{syllable-scalar}
+use Rattle.normalizer_tables.proofs.conditions.ListedConditions.{met}
 use Rattle.normalizer_tables.proofs.lists.NonemptyLists.{HasNonemptyLists-reading_of}
 use Rattle.normalizer_conditions.proofs.composites.PairLaws.{composed-syllable, pair_of-some, HasFaithfulResults-condition, HasStarterResults-reading_of}
 use Rattle.normalizer_tables.proofs.composites.PairLemmas.{All-listed_result}
@@ -37,20 +38,24 @@ use Rattle.normalizer_tables.proofs.words.PassthroughBound.{IsPassthroughBelow-c
 -- ---- sound data
 
 pub IsSoundData-accepted : (s : Characters) (b : Bounds) → IsAccepted s b → IsSoundData s b
-IsSoundData-accepted s b accepted = record {
-  replacement = accepted 2 condition.ReplacementCharacter (omega arith);
-  words = accepted 6 condition.Words (omega arith);
-  members = accepted 7 condition.Members (omega arith);
-  order = accepted 8 condition.Order (omega arith);
-}
+IsSoundData-accepted s b accepted =
+    let holds = met (characters_loaded s b) decomposing_conditions in
+    record {
+      replacement = holds condition.ReplacementCharacter accepted refl;
+      words = holds condition.Words accepted refl;
+      members = holds condition.Members accepted refl;
+      order = holds condition.Order accepted refl;
+    }
 
 pub IsSoundData-handed_in : (decompositions : Decompositions) (tables : Lists) → IsSoundNfdData decompositions tables → IsSoundData (characters_from decompositions tables None) nfd_bounds
-IsSoundData-handed_in decompositions tables accepted = record {
-  replacement = accepted 1 condition.ReplacementCharacter (omega arith);
-  words = accepted 5 condition.Words (omega arith);
-  members = accepted 6 condition.Members (omega arith);
-  order = accepted 7 condition.Order (omega arith);
-}
+IsSoundData-handed_in decompositions tables accepted =
+    let holds = met (nfd_loaded decompositions tables) nfd_conditions in
+    record {
+      replacement = holds condition.ReplacementCharacter accepted refl;
+      words = holds condition.Words accepted refl;
+      members = holds condition.Members accepted refl;
+      order = holds condition.Order accepted refl;
+    }
 
 HasTextLists-sound : (s : Characters) (b : Bounds) → IsSoundData s b → (i : IgnoredCharacters) (pairing : ℕ → ℕ → Option ℕ) → HasTextLists (reading_of s (ignored_list i) pairing)
 HasTextLists-sound s b sound i pairing = record { texts = IsText-list_of s b sound i }
@@ -104,7 +109,7 @@ SuitsTexts-handed_in decompositions tables accepted = decomposing _ nfd_bounds r
 module _ (s : Characters) (b : Bounds) (pairs : List Pair) (accepted : IsAccepted s b) where
   starters-accepted : AreAcceptedPairs s b pairs → (ignored : List ℕ) → HasStarterResults (reading_of s ignored (pair_of pairs))
   starters-accepted accepted_pairs ignored =
-      HasStarterResults-reading_of s b (accepted 5 condition.Hangul (omega arith)) pairs (accepted_pairs 0 condition.Pairs (omega arith)) ignored
+      HasStarterResults-reading_of s b (met (characters_loaded s b) decomposing_conditions condition.Hangul accepted refl) pairs (met (pairs_loaded s b pairs) (pair_conditions s.is_mapper) condition.Pairs accepted_pairs refl) ignored
 
   pub SuitsMapper-accepted : AreAcceptedPairs s b pairs → (i : IgnoredCharacters) → SuitsMapper (reading_by s i pairs)
   SuitsMapper-accepted accepted_pairs i = record {
@@ -117,7 +122,7 @@ module _ (s : Characters) (b : Bounds) (pairs : List Pair) (accepted : IsAccepte
     faithful-accepted : HasFaithfulResults (reading_by s Dropped pairs)
     faithful-accepted =
         let all : All (IsMet (pairs_loaded s b pairs)) (pair_conditions false) = subst (λ m. All (IsMet (pairs_loaded s b pairs)) (pair_conditions m)) plain accepted_pairs in
-        HasFaithfulResults-condition s b (accepted 5 condition.Hangul (omega arith)) pairs (all 3 condition.Results (omega arith))
+        HasFaithfulResults-condition s b (met (characters_loaded s b) decomposing_conditions condition.Hangul accepted refl) pairs (met (pairs_loaded s b pairs) (pair_conditions false) condition.Results all refl)
 
     suits : (form : Form) → HasFullLists (reading_by s Dropped pairs) → SuitsForm (reading_by s Dropped pairs) form
     suits Decomposing full = full
@@ -128,13 +133,13 @@ module _ (s : Characters) (b : Bounds) (pairs : List Pair) (accepted : IsAccepte
         (HasScalarResults-faithful s pairs faithful-accepted (HasNonemptyLists-reading_of s Dropped (pair_of pairs) (inl plain)))
 
 pub IsPassthroughBelow-accepted : (s : Characters) (b : Bounds) → IsAccepted s b → IsPassthroughBelow s b.decomposition
-IsPassthroughBelow-accepted s b accepted = IsPassthroughBelow-conditions s b (accepted 6 condition.Words (omega arith)) (accepted 9 condition.Passthrough (omega arith))
+IsPassthroughBelow-accepted s b accepted = IsPassthroughBelow-conditions s b (met (characters_loaded s b) decomposing_conditions condition.Words accepted refl) (met (characters_loaded s b) decomposing_conditions condition.Passthrough accepted refl)
 
 -- what is required for classes alone is part of what is required of whole data
 pub class_conditions-met : (s : Characters) (b : Bounds) → IsMet (characters_loaded s b) condition.Surrogates → IsMet (characters_loaded s b) condition.PastTheEnd →
     IsMet (characters_loaded s b) condition.Words → All (IsMet (classes_loaded s.decompositions)) class_conditions
-unfolding IsMet word_of is_class_form is_ordinary_class_form is_special_class_form
+unfolding says word_of is_class_form is_ordinary_class_form is_special_class_form
 class_conditions-met s b surrogates past words =
     let P = IsMet (classes_loaded s.decompositions) in
-    All-cons P condition.SurrogateClasses (condition.PastTheEnd ∷ condition.WordClasses ∷ []) (λ n is. ap is_class_form (surrogates n is))
-    (All-cons P condition.PastTheEnd (condition.WordClasses ∷ []) past (All-cons P condition.WordClasses [] (λ n is. (words n is).class) (All-nil P)))
+    All-cons P condition.SurrogateClasses (condition.PastTheEnd ∷ condition.WordClasses ∷ []) (λ n is. ap is_class_form (surrogates.0 n is), λ n is. tt)
+    (All-cons P condition.PastTheEnd (condition.WordClasses ∷ []) past (All-cons P condition.WordClasses [] (tt, λ n is. (words.1 n is).class) (All-nil P)))

@@ -11,16 +11,15 @@ use Rattle.std.specs.Char.{IsScalar}
 use Rattle.normalizer_tables.specs.declared.condition.Condition.{Condition}
 use Rattle.normalizer_tables.specs.declared.condition.Condition.TheVariants.{Hangul}
 use Rattle.normalizer_tables.specs.CharacterConditions.{IsSoundHangul}
-use Rattle.normalizer_tables.specs.Conditions.{IsFirstFailing, IsMet}
+use Rattle.normalizer_tables.specs.Conditions.{IsFirstFailing, IsMet, says}
 use Rattle.normalizer_tables.specs.Loaded.{Loaded}
-use Rattle.normalizer_conditions.specs.inner.Walk.{is_asked_of_words, AreUnasked, IsMetApart, IsPlaceOfFirstFailing}
-use Rattle.normalizer_conditions.specs.EachCharacter.{IsMetAt}
+use Rattle.normalizer_conditions.specs.inner.Walk.{is_asked_of_words, AreUnasked, IsMetBefore, IsPlaceOfFirstFailing}
 use Rattle.normalizer_tables.proofs.lists.ListedLemmas.{drop_member}
-use Rattle.normalizer_conditions.proofs.conditions.LoadedLemmas.{IsMet-parts, IsMetAt-unasked}
+use Rattle.normalizer_conditions.proofs.conditions.LoadedLemmas.{IsMet-parts, of_each-unasked}
 
--- what is checked apart is met, and what is checked of the characters below `number`
+-- what is checked before the walk is met, and what is checked of the characters below `number`
 abbrev pub IsMetBelow : Loaded → ℕ → Condition → Type 0
-IsMetBelow loaded number c = IsMetApart loaded c × ((n : ℕ) → n < number → IsScalar n → IsMetAt loaded c n)
+IsMetBelow loaded number c = IsMetBefore loaded c × ((n : ℕ) → n < number → IsScalar n → (says loaded c).of_each n)
 
 -- so much is met of the conditions before this place, and the condition at it fails
 pub record FailsFirst (loaded : Loaded) (conditions : List Condition) (number place : ℕ) : Type 0 where
@@ -35,8 +34,8 @@ slice_get-take conditions n k c h e =
 
 -- checking a number suffices for those from `from` on and below `next`, by the first condition that fails for it
 pub FailsFirst-step : (loaded : Loaded) (conditions : List Condition) (from number next place nearer : ℕ) → FailsFirst loaded conditions from place →
-    ((c : Condition) → IsMetApart loaded c → (IsScalar number → IsMetAt loaded c number) → (n : ℕ) → from ≤ n → n < next → IsScalar n → IsMetAt loaded c n) →
-    IsPlaceOfFirstFailing (λ c. IsScalar number → IsMetAt loaded c number) (take place conditions) nearer → FailsFirst loaded conditions next nearer
+    ((c : Condition) → IsMetBefore loaded c → (IsScalar number → (says loaded c).of_each number) → (n : ℕ) → from ≤ n → n < next → IsScalar n → (says loaded c).of_each n) →
+    IsPlaceOfFirstFailing (λ c. IsScalar number → (says loaded c).of_each number) (take place conditions) nearer → FailsFirst loaded conditions next nearer
 FailsFirst-step loaded conditions from number next place nearer old settles new =
     let short : nearer ≤ min place (length conditions) = simp length-take at new.within in
     record {
@@ -46,7 +45,7 @@ FailsFirst-step loaded conditions from number next place nearer old settles new 
             met.0,
             λ n nh. elim (cases_lt n from) [
               | inl less ↦ met.1 n less
-              | inr behind ↦ settles (slice_index_or conditions k d) met.0 (subst (λ c. IsScalar number → IsMetAt loaded c number) (get_or-take place conditions k d (omega arith)) (new.before k d low h)) n behind nh
+              | inr behind ↦ settles (slice_index_or conditions k d) met.0 (subst (λ c. IsScalar number → (says loaded c).of_each number) (get_or-take place conditions k d (omega arith)) (new.before k d low h)) n behind nh
             ],
           ));
       fails = λ c e q. elim (cases_lt nearer place) [
@@ -60,11 +59,11 @@ All-front P conditions place h k d kh =
     let short : k < min place (length conditions) = simp length-take at kh in
     subst P (sym (get_or-take place conditions k d (omega arith))) (h k d (omega arith) (omega arith))
 
--- if Hangul is among the conditions that are met apart, it is sound
-pub has_sound_hangul : (loaded : Loaded) (conditions : List Condition) (place : ℕ) → IsPlaceOfFirstFailing (IsMetApart loaded) conditions place →
+-- if Hangul is among the conditions that are met before the walk, it is sound
+pub has_sound_hangul : (loaded : Loaded) (conditions : List Condition) (place : ℕ) → IsPlaceOfFirstFailing (IsMetBefore loaded) conditions place →
     Contains (take place conditions) Hangul → (n : ℕ) → IsSoundHangul loaded.characters n
-unfolding IsMetApart IsMet
-has_sound_hangul loaded conditions place h asked = All-contains (IsMetApart loaded) (take place conditions) Hangul (All-front (IsMetApart loaded) conditions place h.before) asked
+unfolding says
+has_sound_hangul loaded conditions place h asked = (All-contains (IsMetBefore loaded) (take place conditions) Hangul (All-front (IsMetBefore loaded) conditions place h.before) asked).0
 
 -- if these are all numbers, it is the first that fails
 pub FailsFirst-all : (loaded : Loaded) (conditions : List Condition) (number place : ℕ) (r : Option Condition) → FailsFirst loaded conditions number place →
@@ -85,7 +84,7 @@ FailsFirst-all loaded conditions number place (Some c) h all e = (
 pub unasked : (loaded : Loaded) (conditions : List Condition) (number place asked : ℕ) → place ≤ asked → AreUnasked conditions asked →
     AllWithin (λ c. IsMetBelow loaded number c → IsMet loaded c) conditions 0 place
 unasked loaded conditions number place asked early none k d low h met =
-    (IsMet-parts loaded (slice_index_or conditions k d)).1 (met.0, λ n is. IsMetAt-unasked loaded _ (none k d low (omega arith)) n)
+    (IsMet-parts loaded (slice_index_or conditions k d)).1 (met.0, λ n is. of_each-unasked loaded _ (none k d low (omega arith)) n)
 
 -- the first that fails is not among those that depend on no word
 pub FirstFailing-asked : (P : Condition → Type 0) (conditions : List Condition) (asked failing place : ℕ) → asked ≤ failing → failing ≤ length conditions →

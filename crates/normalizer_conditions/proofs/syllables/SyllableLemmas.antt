@@ -17,14 +17,14 @@ use Rattle.normalizer_tables.specs.Loaded.{Loaded}
 use Rattle.normalizer_tables.specs.PairConditions.{is_taken_as_boundary, KeepsBoundary, KeepsRoundTrip, RoundTrips}
 use Rattle.normalizer_tables.specs.StepConditions.{AvoidsFdfa}
 use Rattle.normalizer_conditions.specs.inner.Walk.{IsSyllableAfter}
-use Rattle.normalizer_conditions.specs.EachCharacter.{IsMetAt}
+use Rattle.normalizer_tables.specs.Conditions.{says}
 use Rattle.normalizer_tables.specs.Hangul.{is_hangul_syllable, hangul_decomposition}
 use Rattle.normalizer_tables.specs.HangulComposition.{compose_hangul}
 use Rattle.normalizer_tables.specs.Pairs.{Pair, is_vowel_or_trailing_jamo, pair_of}
 use Rattle.normalizer_tables.specs.Words.{is_backward_combining}
 use Rattle.normalizer_tables.specs.Readings.{reading_by}
 use Rattle.normalizer_tables.specs.declared.characters.IgnoredCharacters.TheVariants.{Dropped}
-use Rattle.normalizer_tables.proofs.conditions.ConditionLemmas.{HasSoundStep-hangul, IsSoundClass-none, syllable-scalar}
+use Rattle.normalizer_tables.proofs.conditions.ConditionLemmas.{HasSoundStep-hangul, IsSoundClass-none}
 use Rattle.normalizer_conditions.proofs.words.FdfaWords.{syllable_avoids}
 use Rattle.normalizer_conditions.proofs.conditions.LoadedLemmas.{IfSome-all}
 use Rattle.normalizer_conditions.proofs.composites.PairLaws.{order-starters}
@@ -67,29 +67,29 @@ module _ (s : Characters) (sound : (n : ℕ) → IsSoundHangul s n) where
 
 -- if Hangul is sound, what a syllable meets is met by those after it with the same leading consonant
 module _ (d : Loaded) (sound : (n : ℕ) → IsSoundHangul d.characters n) where
-  pub IsMetAt-syllable_behind : (c : Condition) (m n : ℕ) → IsSyllableAfter m n → IsMetAt d c m → IsMetAt d c n
-  unfolding IsMetAt IsPlainStarter KeepsPromise ReadsToItself AvoidsFdfa reading_of_word KeepsRoundTrip KeepsBoundary RoundTrips is_taken_as_boundary is_backward_combining
-  IsMetAt-syllable_behind Words m n alike met = record {
+  pub of_each-syllable_behind : (c : Condition) (m n : ℕ) → IsSyllableAfter m n → (says d c).of_each m → (says d c).of_each n
+  unfolding says IsPlainStarter KeepsPromise ReadsToItself AvoidsFdfa reading_of_word KeepsRoundTrip KeepsBoundary RoundTrips is_taken_as_boundary is_backward_combining
+  of_each-syllable_behind Words m n alike met = record {
     reads = rw (list_read-syllable d.characters sound [] n alike.second);
     class = IsSoundClass-none n (word_of d.characters n) (no_class_form-syllable d.characters sound n alike.second);
     flagged = λ form. absurd (true≢false (sym form ∙ no_class_form-syllable d.characters sound n alike.second));
     marker = λ r e. (let one = (sound n).syllable alike.second in absurd (omega arith));
   }
-  IsMetAt-syllable_behind Members m n alike met = all-members d.characters sound (ReadsToItself d.characters) (λ j jamo. ((sound j).jamo jamo).0) n alike.second
-  IsMetAt-syllable_behind Order m n alike met =
+  of_each-syllable_behind Members m n alike met = all-members d.characters sound (ReadsToItself d.characters) (λ j jamo. ((sound j).jamo jamo).0) n alike.second
+  of_each-syllable_behind Order m n alike met =
       let starters = all-members d.characters sound (IsStarter (reading_by d.characters Dropped [])) (jamo-starts d.characters sound) n alike.second in record {
         ordered = order-starters (reading_by d.characters Dropped []) (list_of d.characters [] n) starters;
         first = λ r. begins (reading_by d.characters Dropped []) (list_of d.characters [] n) starters;
         promise = rw (reading-syllable d.characters sound n alike.second) tt;
       }
-  IsMetAt-syllable_behind Passthrough m n alike met = λ below.
+  of_each-syllable_behind Passthrough m n alike met = λ below.
       (let alone = sym (list_read-syllable d.characters sound [] m alike.first) ∙ (met (omega (arith, alike.behind))).0 in absurd (apart-syllable m m cc))
-  IsMetAt-syllable_behind RoundTrip m n alike met =
-      IfSome-all _ (λ pairs q taken. rw (list_of-syllable d.characters sound [] n alike.second) (compose-syllable d.characters sound pairs n alike.second)) d.pairs
-  IsMetAt-syllable_behind SafeBeginning m n alike met = IfSome_then d.pairs met (λ pairs holds q taken.
+  of_each-syllable_behind RoundTrip m n alike met =
+      IfSome-all _ (λ pairs taken. rw (list_of-syllable d.characters sound [] n alike.second) (compose-syllable d.characters sound pairs n alike.second)) d.pairs
+  of_each-syllable_behind SafeBeginning m n alike met = IfSome_then d.pairs met (λ pairs holds taken.
       (safe_beginning d.characters pairs n _ (first-list d.characters sound n alike.second ∙ ap (λ k. Some (0x1100 + k)) (sym alike.leading))).1
-      ((safe_beginning d.characters pairs m _ (first-list d.characters sound m alike.first)).0 (holds (syllable-scalar m alike.first) (rw ((sound m).syllable alike.first)))))
-  IsMetAt-syllable_behind FdfaForms m n alike met = syllable_avoids n (word_of d.characters n) d.characters.is_mapper alike.second
-  IsMetAt-syllable_behind Steps m n alike met = IfSome-all _ (λ t. HasSoundStep-hangul d.characters t n alike.second) d.supplement
-  IsMetAt-syllable_behind WordClasses m n alike met = IsSoundClass-none n (word_of d.characters n) (no_class_form-syllable d.characters sound n alike.second)
-  IsMetAt-syllable_behind _ m n alike met = tt
+      ((safe_beginning d.characters pairs m _ (first-list d.characters sound m alike.first)).0 (holds (rw ((sound m).syllable alike.first)))))
+  of_each-syllable_behind FdfaForms m n alike met = syllable_avoids n (word_of d.characters n) d.characters.is_mapper alike.second
+  of_each-syllable_behind Steps m n alike met = IfSome-all _ (λ t. HasSoundStep-hangul d.characters t n alike.second) d.supplement
+  of_each-syllable_behind WordClasses m n alike met = IsSoundClass-none n (word_of d.characters n) (no_class_form-syllable d.characters sound n alike.second)
+  of_each-syllable_behind _ m n alike met = tt

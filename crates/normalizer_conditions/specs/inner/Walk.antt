@@ -1,19 +1,16 @@
 -- How the check goes over the numbers, from one word that isn't 0 to the next, and what it checks of all others before.
-use Rattle.std.specs.Prelude.{◌≡◌, ℕ, ◌+◌, ◌-◌, ◌/◌, ◌<◌, ◌≤◌, Bool, true, false, List, IfSome, Some, length, slice_get}
+use Rattle.std.specs.Prelude.{◌≡◌, ℕ, ◌+◌, ◌-◌, ◌/◌, ◌<◌, ◌≤◌, nat_le, Bool, true, false, List, Some, length, slice_get}
 use Rattle.std.specs.List.{AllWithin}
 use Rattle.std.specs.Char.{IsScalar}
 use Rattle.normalizer_tables.specs.declared.condition.Bounds.{Bounds}
 use Rattle.normalizer_tables.specs.declared.condition.Condition.{Condition}
-use Rattle.normalizer_tables.specs.declared.condition.Condition.TheVariants.{Words, Members, Order, Passthrough}
-use Rattle.normalizer_tables.specs.declared.condition.Condition.TheVariants.{RoundTrip, SafeBeginning, FdfaForms}
-use Rattle.normalizer_tables.specs.declared.condition.Condition.TheVariants.{Steps, WordClasses}
+use Rattle.normalizer_tables.specs.declared.condition.Condition.TheVariants.{Words}
 use Rattle.normalizer_tables.specs.Characters.{Characters, word_of}
-use Rattle.normalizer_tables.specs.Conditions.{IsMet}
+use Rattle.normalizer_tables.specs.Conditions.{number_of, says}
 use Rattle.normalizer_tables.specs.Hangul.{is_hangul_syllable, n_count, s_base}
 use Rattle.normalizer_tables.specs.Loaded.{Loaded}
 use Rattle.normalizer_tables.specs.PairConditions.{KeepsBoundary}
 use Rattle.normalizer_tables.specs.Pairs.{Pair}
-use Rattle.normalizer_tables.specs.StepConditions.{AvoidsFdfa}
 use Rattle.normalizer_tables.specs.Table.{code_points}
 use Rattle.normalizer_tables.specs.Words.{is_plain}
 
@@ -30,36 +27,19 @@ pub record IsEndOfEqualWords (hangul_is_sound : Bool) (n end : ℕ) : Type 0 whe
   pub within : n ≤ code_points → end ≤ code_points + 1
   pub alike : (m : ℕ) → n < m → m < end → (hangul_is_sound ≡ true) × IsSyllableAfter n m
 
--- n has another word, or nothing composes across its beginning if a composing loop relies on it
+-- a character has another word than 0, or nothing composes across its beginning if a composing loop relies on it
 unfoldable pub KeepsPlainBoundary : Characters → Bounds → List Pair → ℕ → Type 0
-KeepsPlainBoundary s b pairs n = is_plain (word_of s n) ≡ true → KeepsBoundary s b pairs n
+KeepsPlainBoundary s b pairs n = IsScalar n → is_plain (word_of s n) ≡ true → KeepsBoundary s b pairs n
 
--- what is checked of a condition apart from that walk: all of it if it says nothing of single words, of beginnings those
--- of characters whose word is 0, flags aside, and of the form of U+FDFA that numbers without a character don't have it
-unfoldable pub IsMetApart : Loaded → Condition → Type 0
-IsMetApart d Words = Unit {0}
-IsMetApart d Members = Unit {0}
-IsMetApart d Order = Unit {0}
-IsMetApart d Passthrough = Unit {0}
-IsMetApart d RoundTrip = Unit {0}
-IsMetApart d SafeBeginning = IfSome d.pairs (λ pairs. (n : ℕ) → KeepsPlainBoundary d.characters d.bounds pairs n)
-IsMetApart d FdfaForms = (n : ℕ) → (IsScalar n → ⊥) → AvoidsFdfa d.characters n
-IsMetApart d Steps = Unit {0}
-IsMetApart d WordClasses = Unit {0}
-IsMetApart d c = IsMet d c
+-- what is checked of a condition before that walk: what it says of all, and of the characters whose word is 0, flags
+-- aside
+abbrev pub IsMetBefore : Loaded → Condition → Type 0
+IsMetBefore d c =
+    (says d c).of_all × ((n : ℕ) → IsScalar n → is_plain (word_of d.characters n) ≡ true → (says d c).of_each n)
 
--- a condition says something of each character
+-- a condition may say something of each character: those below 7 say nothing
 unfoldable pub is_asked_of_words : Condition → Bool
-is_asked_of_words Words = true
-is_asked_of_words Members = true
-is_asked_of_words Order = true
-is_asked_of_words Passthrough = true
-is_asked_of_words RoundTrip = true
-is_asked_of_words SafeBeginning = true
-is_asked_of_words FdfaForms = true
-is_asked_of_words Steps = true
-is_asked_of_words WordClasses = true
-is_asked_of_words _ = false
+is_asked_of_words c = nat_le (number_of Words) (number_of c)
 
 -- no condition before the place does
 abbrev pub AreUnasked : List Condition → ℕ → Type 0

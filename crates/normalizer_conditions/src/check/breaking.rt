@@ -5,8 +5,8 @@ ghost use Rattle.normalizer_conditions.specs.EachCharacter.{
   composing_members,
   IsFirstBreaking,
   IsFirstUncomposable,
-  IsMetAt,
 };
+ghost use Rattle.normalizer_tables.specs.Conditions.{says};
 ghost use Rattle.normalizer_tables.specs.PairConditions.{IsComposable};
 
 use crate::check::met::is_met_at;
@@ -31,8 +31,8 @@ pub fn first_breaking(data: &LoadedData<'_>, condition: Condition) -> Option<cha
 
 /// The character of a number, if it breaks the condition.
 fn breaking_at(data: &LoadedData<'_>, condition: Condition, number: u32) -> Option<char>
-    ensures { MatchOption result (IsScalar number → IsMetAt data.now condition number)
-        (λ c. (c ≡ number) × IsScalar c × (¬ IsMetAt data.now condition c)) }
+    ensures { MatchOption result (IsScalar number → (says data.now condition).of_each number)
+        (λ c. (c ≡ number) × IsScalar c × (¬ (says data.now condition).of_each c)) }
 {
     let character = char::from_u32(number)?;
     let read = read_character(&data.characters, character);

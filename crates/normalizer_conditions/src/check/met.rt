@@ -1,9 +1,11 @@
-//! Each condition: what is checked apart from the walk over words, and what is checked of each character.
-ghost use Rattle.std.specs.Prelude.{◌↔◌, IsTrue};
-ghost use Rattle.normalizer_tables.specs.Conditions.{IsMet};
+//! Each condition: what it says of all that was loaded, and of each character.
+ghost use Rattle.std.specs.Prelude.{◌≡◌, ◌↔◌, ℕ, true, IsTrue};
+ghost use Rattle.std.specs.Char.{IsScalar};
+ghost use Rattle.normalizer_tables.specs.Characters.{word_of};
+ghost use Rattle.normalizer_tables.specs.Conditions.{says};
 ghost use Rattle.normalizer_tables.specs.Read.{IsRead};
-ghost use Rattle.normalizer_conditions.specs.inner.Walk.{IsMetApart};
-ghost use Rattle.normalizer_conditions.specs.EachCharacter.{IsMetAt};
+ghost use Rattle.normalizer_tables.specs.Words.{is_plain};
+ghost use Rattle.normalizer_conditions.specs.inner.Walk.{IsMetBefore};
 
 use crate::check::lists::is_ordered_list;
 use crate::check::numbers::{
@@ -19,10 +21,17 @@ use normalizer_tables::condition::{CAP_LIMIT, Condition};
 use normalizer_tables::read::ReadCharacter;
 use normalizer_tables::word::is_class_form;
 
-/// Whether a condition is met, as far as it is checked apart from the walk over words.
-#[tactic(auto, unfolding(normalizer_tables::specs::Conditions::IsMet, crate::specs::inner::Walk::IsMetApart))]
-pub fn is_met_apart(data: &LoadedData<'_>, condition: Condition) -> bool
-    ensures { IsTrue result ↔ IsMetApart data.now condition }
+/// Whether a condition is met as far as it is checked before the walk over words.
+pub fn is_met_before(data: &LoadedData<'_>, condition: Condition) -> bool
+    ensures { IsTrue result ↔ IsMetBefore data.now condition }
+{
+    is_met_of_all(data, condition) && is_met_of_plain(data, condition)
+}
+
+/// Whether what a condition says of all that was loaded is so.
+#[tactic(auto, unfolding(normalizer_tables::specs::Conditions::says))]
+fn is_met_of_all(data: &LoadedData<'_>, condition: Condition) -> bool
+    ensures { IsTrue result ↔ (says data.now condition).of_all }
 {
     let characters = &data.characters;
     match condition {
@@ -36,10 +45,6 @@ pub fn is_met_apart(data: &LoadedData<'_>, condition: Condition) -> bool
             Some(pairs) => are_sound_pairs(pairs) && have_composable_members(characters, pairs),
             None => true,
         },
-        Condition::SafeBeginning => match data.pairs {
-            Some(pairs) => keep_plain_boundaries(characters, data.bounds, pairs),
-            None => true,
-        },
         Condition::Results => match data.pairs {
             Some(pairs) => have_ordered_lists(characters, pairs),
             None => true,
@@ -50,15 +55,38 @@ pub fn is_met_apart(data: &LoadedData<'_>, condition: Condition) -> bool
             Some(pairs) => are_sound_pairs(pairs),
             None => true,
         },
+        Condition::Words
+        | Condition::Members
+        | Condition::Order
+        | Condition::Passthrough
+        | Condition::RoundTrip
+        | Condition::SafeBeginning
+        | Condition::Steps
+        | Condition::WordClasses => true,
+    }
+}
+
+/// Whether what a condition says of each character is so of those whose word is 0, flags aside. Only the beginnings of
+/// such characters need a look.
+#[tactic(auto, unfolding(normalizer_tables::specs::Conditions::says, crate::specs::inner::Walk::KeepsPlainBoundary))]
+fn is_met_of_plain(data: &LoadedData<'_>, condition: Condition) -> bool
+    ensures { IsTrue result ↔
+        ((n : ℕ) → IsScalar n → is_plain (word_of data.now.characters n) ≡ true → (says data.now condition).of_each n) }
+{
+    match condition {
+        Condition::SafeBeginning => match data.pairs {
+            Some(pairs) => keep_plain_boundaries(&data.characters, data.bounds, pairs),
+            None => true,
+        },
         _ => true,
     }
 }
 
-/// Whether a condition is met, as far as it says something of a character.
-#[tactic(auto, unfolding(crate::specs::EachCharacter::IsMetAt))]
+/// Whether what a condition says of each character is so of this one.
+#[tactic(auto, unfolding(normalizer_tables::specs::Conditions::says))]
 pub fn is_met_at(data: &LoadedData<'_>, condition: Condition, read: &ReadCharacter<'_>) -> bool
     requires { IsRead data.now.characters read.now }
-    ensures { IsTrue result ↔ IsMetAt data.now condition read.now.character }
+    ensures { IsTrue result ↔ (says data.now condition).of_each read.now.character }
 {
     let characters = &data.characters;
     match condition {
@@ -82,6 +110,15 @@ pub fn is_met_at(data: &LoadedData<'_>, condition: Condition, read: &ReadCharact
             None => true,
         },
         Condition::WordClasses => is_sound_class(read.character, read.word),
-        _ => true,
+        Condition::ItemLimit
+        | Condition::CapLimit
+        | Condition::ReplacementCharacter
+        | Condition::Surrogates
+        | Condition::PastTheEnd
+        | Condition::Hangul
+        | Condition::Pairs
+        | Condition::Results
+        | Condition::SurrogateClasses
+        | Condition::PairOrder => true,
     }
 }

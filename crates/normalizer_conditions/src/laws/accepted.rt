@@ -72,7 +72,7 @@ pub fn accepted_data_have_sound_classes()
 {}
 
 /// What is required of pairs alone is part of what is required of data with pairs: condition 11.
-#[tactic(auto, unfolding(normalizer_tables::specs::Conditions::IsMet))]
+#[tactic(auto, unfolding(normalizer_tables::specs::Conditions::says))]
 pub fn accepted_pairs_are_sound()
     ensures { (s : Characters) (b : Bounds) (pairs : List Pair) → IsMet (pairs_loaded s b pairs) condition.Pairs →
         AreSoundPairs pairs }

@@ -10,7 +10,7 @@ use Rattle.normalizer_tables.specs.declared.word.WordReading.{WordReading}
 use Rattle.normalizer_tables.specs.declared.word.WordReading.TheVariants.{Ignored, Itself, ClassForm, SpecialForm}
 use Rattle.normalizer_tables.specs.Characters.{Characters, word_of, reading_of_word, named_list, list_of, class_of, has_class_form}
 use Rattle.normalizer_tables.specs.CharacterConditions.{IsSoundWord}
-use Rattle.normalizer_tables.specs.Conditions.{IsMet}
+use Rattle.normalizer_tables.specs.Conditions.{IsMet, says}
 use Rattle.normalizer_tables.specs.Loaded.{characters_loaded}
 use Rattle.normalizer_tables.specs.PairConditions.{is_composing_passthrough}
 use Rattle.normalizer_tables.specs.Pairs.{Pair}
@@ -78,8 +78,8 @@ module _ (s : Characters) (n : ℕ) (h : IsScalar n) where
   module _ (b : Bounds) (bounded : b.composition ≤ 0x0300) (pairs : List Pair) (words : IsMet (characters_loaded s b) Words) (are_nonempty : list_of s [] n ≡ [] → ⊥)
       (safely : BeginsAtBoundary (reading_by s Dropped pairs) (list_of s [] n)) (passed : is_composing_passthrough s b n ≡ true) where
     sound : IsSoundWord s n
-    unfolding IsMet
-    sound = words n h
+    unfolding says
+    sound = words.1 n h
 
     below : is_class_form (word_of s n) ≡ true → n < b.composition
     unfolding is_composing_passthrough

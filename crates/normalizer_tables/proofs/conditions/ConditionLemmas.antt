@@ -83,14 +83,14 @@ IsOrderedList-plain s n h plain =
     }
 
 -- a character with a plain word has no mapping
-pub HasSoundStep-plain : (s : Characters) (t : Supplement) (n : ℕ) → (IsScalar n → is_plain (word_of s n) ≡ true) → HasSoundStep s t n
+pub HasSoundStep-plain : (s : Characters) (t : Supplement) (n : ℕ) → IsScalar n → is_plain (word_of s n) ≡ true → HasSoundStep s t n
 unfolding HasSoundStep IsSoundStep step_of step_of_reading reading_of_word
-HasSoundStep-plain s t n plain h other = rw (other, read-plain n (word_of s n) s.is_mapper (plain h)) (list_of-reads s [] n (n ∷ []) (list_read-plain s n h (plain h)))
+HasSoundStep-plain s t n h plain other = rw (other, read-plain n (word_of s n) s.is_mapper plain) (list_of-reads s [] n (n ∷ []) (list_read-plain s n h plain))
 
 -- nothing is required of Hangul syllables
 pub HasSoundStep-hangul : (s : Characters) (t : Supplement) (n : ℕ) → is_hangul_syllable n ≡ true → HasSoundStep s t n
 unfolding HasSoundStep
-HasSoundStep-hangul s t n hangul h other = cc
+HasSoundStep-hangul s t n hangul other = cc
 
 -- a number that no character has is a surrogate, or lies past the code points
 pub no_scalar : (n : ℕ) → scalar n ≡ false → (is_surrogate n ≡ true) ⊎ (code_points ≤ n)

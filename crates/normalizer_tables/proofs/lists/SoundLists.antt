@@ -13,7 +13,7 @@ use Rattle.normalizer_tables.specs.declared.word.WordReading.TheVariants.{Ignore
 use Rattle.normalizer_tables.specs.Words.{class_of_word}
 use Rattle.normalizer_tables.specs.Characters.{Characters, reading_of_word, named_list, list_read, list_of, class_of, has_class_form}
 use Rattle.normalizer_tables.specs.CharacterConditions.{IsFlaggedReplacement, IsPlainStarter, ReadsToItself}
-use Rattle.normalizer_tables.specs.Conditions.{IsMet}
+use Rattle.normalizer_tables.specs.Conditions.{says}
 use Rattle.normalizer_tables.specs.Ignored.{IgnoredCharacters, Dropped, Replaced, ignored_list}
 use Rattle.normalizer_tables.specs.SoundData.{Bounds, IsSoundData}
 use Rattle.normalizer_tables.specs.Readings.{reading_by, reading_of}
@@ -66,14 +66,14 @@ reads_as_itself s ignored n h = elim (kind_of s ignored n) [
 
 -- the list of an ignored character reads as itself
 ignored_members : (s : Characters) (b : Bounds) → IsSoundData s b → (i : IgnoredCharacters) → All (ReadsToItself s) (ignored_list i)
-unfolding IsMet IsFlaggedReplacement IsPlainStarter
+unfolding says IsFlaggedReplacement IsPlainStarter
 ignored_members s b sound Dropped = All-nil (ReadsToItself s)
-ignored_members s b sound Replaced = All-cons (ReadsToItself s) 0xFFFD [] sound.replacement.0.0 (All-nil (ReadsToItself s))
+ignored_members s b sound Replaced = All-cons (ReadsToItself s) 0xFFFD [] sound.replacement.0.0.0 (All-nil (ReadsToItself s))
 
 -- each list has only members that read to themselves, or is of the number alone
 own_members : (s : Characters) (b : Bounds) → IsSoundData s b → (i : IgnoredCharacters) (n : ℕ) → scalar n ≡ true → All (ReadsToItself s) (list_of s (ignored_list i) n)
-unfolding IsMet
-own_members s b sound i n h = by_kind s (ignored_list i) n (All (ReadsToItself s)) (λ q e. cc) (λ q. ignored_members s b sound i) (λ q. sound.members n h)
+unfolding says
+own_members s b sound i n h = by_kind s (ignored_list i) n (All (ReadsToItself s)) (λ q e. cc) (λ q. ignored_members s b sound i) (λ q. sound.members.1 n h)
 
 pub HasFullLists-sound : (s : Characters) (b : Bounds) → IsSoundData s b → (i : IgnoredCharacters) (pairing : ℕ → ℕ → Option ℕ) → HasFullLists (reading_of s (ignored_list i) pairing)
 HasFullLists-sound s b sound i pairing = record {
@@ -98,24 +98,24 @@ same_beginning s ignored pairing [] h = tt
 same_beginning s ignored pairing (c ∷ x) h = h
 
 ignored_beginning : (s : Characters) (b : Bounds) → IsSoundData s b → (i : IgnoredCharacters) (d : Reading) → ((c : ℕ) → d.class c ≡ class_of s c) → BeginsWithStarter d (ignored_list i)
-unfolding IsMet IsFlaggedReplacement IsPlainStarter
+unfolding says IsFlaggedReplacement IsPlainStarter
 ignored_beginning s b sound Dropped d e = tt
-ignored_beginning s b sound Replaced d e = e 0xFFFD ∙ sound.replacement.0.1
+ignored_beginning s b sound Replaced d e = e 0xFFFD ∙ sound.replacement.0.0.1
 
 pub BeginsWithStarter-list_of : (s : Characters) (b : Bounds) → IsSoundData s b → (i : IgnoredCharacters) (pairing : ℕ → ℕ → Option ℕ) (c : ℕ) → has_class_form s c ≡ false →
     BeginsWithStarter (reading_of s (ignored_list i) pairing) (list_of s (ignored_list i) c)
-unfolding IsMet
+unfolding says
 BeginsWithStarter-list_of s b sound i pairing c h =
     by_kind s (ignored_list i) c (BeginsWithStarter (reading_of s (ignored_list i) pairing)) (λ q e. class_of-no_class_form s c h)
-    (λ q. ignored_beginning s b sound i (reading_of s (ignored_list i) pairing) (λ n. refl)) (λ q. same_beginning s (ignored_list i) pairing _ ((sound.order c q).first h))
+    (λ q. ignored_beginning s b sound i (reading_of s (ignored_list i) pairing) (λ n. refl)) (λ q. same_beginning s (ignored_list i) pairing _ ((sound.order.1 c q).first h))
 
 pub order-list_of : (s : Characters) (b : Bounds) → IsSoundData s b → (i : IgnoredCharacters) (pairing : ℕ → ℕ → Option ℕ) (c : ℕ) →
     order (reading_of s (ignored_list i) pairing) (list_of s (ignored_list i) c) ≡ list_of s (ignored_list i) c
-unfolding IsMet
+unfolding says
 order-list_of s b sound i pairing c =
     let d = reading_of s (ignored_list i) pairing in
     by_kind s (ignored_list i) c (λ x. order d x ≡ x) (λ q e. order-short d (c ∷ []) (omega arith)) (λ q. order-short d (ignored_list i) (grind arith))
-    (λ q. order-rising d 0 (list_of s [] c) (rising-order (reading_by s Dropped []) (list_of s [] c) (sound.order c q).ordered))
+    (λ q. order-rising d 0 (list_of s [] c) (rising-order (reading_by s Dropped []) (list_of s [] c) (sound.order.1 c q).ordered))
 
 -- what the laws of lists say
 pub ruleset sound_lists = (HasFullLists-sound, IsText-list_of, class_of-no_class_form, order-list_of)

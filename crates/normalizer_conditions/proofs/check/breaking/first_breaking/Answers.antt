@@ -1,6 +1,6 @@
 use Rattle.std.proofs.Common.{arith, below_more}
 use Rattle.std.specs.Char.{IsScalar}
-use Rattle.normalizer_conditions.specs.EachCharacter.{IsMetAt}
+use Rattle.normalizer_tables.specs.Conditions.{says}
 use Rattle.normalizer_conditions.proofs.composites.PairConditionLemmas.{scalar_below}
 use Rattle.normalizer_conditions.proofs.check.breaking.first_breaking.Goals as goal
 
@@ -12,7 +12,7 @@ returns-in-Some c =
 
 pub loop-number-preserved : goal.loop-number-preserved
 loop-number-preserved c =
-    below_more (λ n. IsScalar n → IsMetAt c.args.data.now c.args.condition n) c.loop-number.number c.loop-number.invariant
+    below_more (λ n. IsScalar n → (says c.args.data.now c.args.condition).of_each n) c.loop-number.number c.loop-number.invariant
     c.in_default.ensures
 
 pub returns : goal.returns
