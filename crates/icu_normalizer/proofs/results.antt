@@ -1,4 +1,5 @@
 -- Results of checks and owned forms.
+pub mod ChangeLemmas
 pub mod CheckLemmas
 pub mod OwnedLemmas
 pub mod QualifyingLemmas

@@ -1,19 +1,21 @@
 //! The forms of text, bytes and 16-bit units, borrowed from the input if it is already normalized.
-ghost use Rattle.std.specs.Prelude.{◌≡◌, ◌<◌, ◌++◌, [], chars, IfOk, IsOk, IsOkUnless, IsTrue, OnOk, string_bytes};
+ghost use Rattle.std.specs.Prelude.{◌≡◌, ◌<◌, ◌++◌, ◌∷◌, [], chars, drop, string_bytes};
+ghost use Rattle.std.specs.Prelude.{IfOk, IfSome, IsOk, IsOkUnless, IsTrue, OnOk};
 ghost use Rattle.std.specs.Cow.{cow_slice_items, cow_str_bytes, IsBorrowedSlice, IsBorrowedStr};
 ghost use Rattle.normalizer_text.specs.Encodings.{Encoding};
 ghost use Rattle.normalizer_text.specs.EncodedForm.{encoded_form};
 ghost use Rattle.normalizer_text.specs.InputCut.{IsInputNormalized, QualifiesForInputCut};
+ghost use Rattle.normal_forms.specs.Forms.{IsNormalized};
 ghost use Rattle.icu_normalizer.specs.Forms.{HasShortUnits};
 ghost use Rattle.icu_normalizer.specs.Owned.{ReturnsForm, ReturnsFormOfText};
-ghost use Rattle.icu_normalizer.specs.inner.Offences.{QualifiesUnlessNormalized};
-ghost use Rattle.icu_normalizer.specs.inner.PassthroughRuns.{IsOwnListOfClass};
+ghost use Rattle.icu_normalizer.specs.inner.Offences.{ChangesUnlessNormalized};
+ghost use Rattle.icu_normalizer.specs.inner.PassthroughRuns.{IsComposite, IsOwnListOfClass};
 ghost use Rattle.icu_normalizer.specs.inner.WriteUnlessOwn.{WroteUnlessOwn};
 
 use crate::borrowed::NormalizerBorrowed;
 use crate::forming::Forming;
 use crate::offence::cut_after;
-use crate::runs::kept_end;
+use crate::runs::{Composite, kept_end};
 use crate::writing::write_changed;
 use normalizer_iterators::NormalizeError;
 use normalizer_text::check_sink::Expected;
@@ -22,6 +24,9 @@ use normalizer_text::sink::SinkError;
 use normalizer_text::{Units, text_of};
 use std::alloc::Global;
 use std::borrow::{CowSlice, CowStr};
+
+/// Room for how many units more than those of the input is made at first.
+const SPARE_UNITS: usize = 16;
 
 /// An output that grows, and makes room at once.
 trait Growing<U: Units>: Output<U> {
@@ -84,41 +89,100 @@ fn has_unordered_marks<U: Units, N: Forming>(normalizer: &N, units: U) -> bool
     false
 }
 
-/// Returns a place before which the units stay as they are: the end of what is kept, if marks after it are seen to be
-/// out of order, so that they are put in order once only; else the cut. Nothing if the units are well-formed and
-/// normalized.
-fn place_of_change<U: Expected, N: Forming>(
+/// Whether a character becomes others by itself. If so, no text that has it is normalized.
+fn changes_alone<N: Forming>(normalizer: &N, character: char) -> bool
+    ensures { let m = N.made_form normalizer.now in
+        IsTrue result → ¬ IsNormalized m.reading m.form (character ∷ []) }
+{
+    match normalizer.form_of_one(character) {
+        Some(form) => form.get(0) != Some(character),
+        None => false,
+    }
+}
+
+/// Whether the first character is seen to change: in the segment that becomes one character, or else by itself. If so,
+/// the units aren't normalized.
+fn changes_first<U: Units, N: Forming>(
     normalizer: &N,
     units: U,
-) -> Result<Option<usize>, NormalizeError>
-    ensures place { let m = N.made_form normalizer.now in
-        IfOk result (QualifiesUnlessNormalized U.encoding m.reading m.form (U.units units)) }
+    composite: Option<Composite>,
+) -> bool
+    requires { let m = N.made_form normalizer.now in IfSome composite
+        (IsComposite (N.beginning normalizer.now) U.encoding m.reading m.form (U.units units)) }
+    ensures { let m = N.made_form normalizer.now in
+        IsTrue result → ¬ IsInputNormalized U.encoding m.reading m.form (U.units units) }
+{
+    let Some(step) = units.first_step() else {
+        return false;
+    };
+    match composite {
+        Some(composite) => composite.character != step.character,
+        None => changes_alone(normalizer, step.character),
+    }
+}
+
+/// A change of units: a place before which they stay as they are, and the segment after it, if that is seen to become
+/// one character.
+#[derive(Clone, Copy)]
+pub(crate) struct Change {
+    pub(crate) place: usize,
+    pub(crate) composite: Option<Composite>,
+}
+
+/// Returns the first change of the units: at the end of what is kept, if what follows is seen to change, so that it is
+/// read once only; else at the cut. Nothing if the units are well-formed and normalized.
+fn change_of<U: Expected, N: Forming>(
+    normalizer: &N,
+    units: U,
+) -> Result<Option<Change>, NormalizeError>
+    ensures change { let m = N.made_form normalizer.now in IfOk result (ChangesUnlessNormalized
+        (N.beginning normalizer.now) U.encoding m.reading m.form (U.units units)) }
     ensures room { HasShortUnits (N.made_form normalizer.now) U.encoding (U.units units) → IsOk result }
     ensures refused { IsOkUnless result NormalizeError.Memory }
 {
-    let kept = kept_end(normalizer, units).end;
-    if has_unordered_marks(normalizer, units.after(kept)) {
-        return Ok(Some(kept));
+    let kept = kept_end(normalizer, units);
+    let rest = units.after(kept.end);
+    if changes_first(normalizer, rest, kept.composite) {
+        return Ok(Some(Change {
+            place: kept.end,
+            composite: kept.composite,
+        }));
     }
-    cut_after(normalizer, units, kept)
+    if has_unordered_marks(normalizer, rest) {
+        return Ok(Some(Change {
+            place: kept.end,
+            composite: None,
+        }));
+    }
+    let Some(place) = cut_after(normalizer, units, kept.end)? else {
+        return Ok(None);
+    };
+    Ok(Some(Change {
+        place,
+        composite: None,
+    }))
 }
 
-/// Writes the form of units in two parts: what comes before the place as it is, and the form of the rest. Room for as
-/// many units is made first.
-fn write_from_place<U: Units, N: Forming, O: Growing<U>>(
+/// Writes the form of units in two parts: what comes before the change as it is, and the form of the rest. Room for as
+/// many units and a few more is made first, so that the marks that come apart in a short text need no second
+/// allocation.
+fn write_from_change<U: Units, N: Forming, O: Growing<U>>(
     normalizer: &N,
     units: U,
-    place: usize,
+    change: Change,
     output: &mut O,
 ) -> Result<(), NormalizeError>
-    requires { QualifiesForInputCut U.encoding (N.made_form normalizer.now).reading (N.made_form normalizer.now).form
-        (U.units units) place }
+    requires place { let m = N.made_form normalizer.now in
+        QualifiesForInputCut U.encoding m.reading m.form (U.units units) change.place }
+    requires composite { let m = N.made_form normalizer.now in IfSome change.composite (IsComposite
+        (N.beginning normalizer.now) U.encoding m.reading m.form (drop change.place (U.units units))) }
     ensures { let m = N.made_form normalizer.now in OnOk result (O.text_taken output.new ≡
         O.text_taken output.old ++ encoded_form U.encoding m.reading m.form (U.units units)) }
 {
-    output.make_room(units.len())?;
-    output.write_piece(units.before(place))?;
-    write_changed(normalizer, units.after(place), None, output)
+    output.make_room(units.len().saturating_add(SPARE_UNITS))?;
+    output.write_piece(units.before(change.place))?;
+    let rest = units.after(change.place);
+    write_changed(normalizer, rest, change.composite, output)
 }
 
 /// Writes the form of the units, unless they are well-formed and normalized. A failed write is reported as `Memory`.
@@ -133,10 +197,10 @@ fn write_unless_own<U: Expected, N: Forming, O: Growing<U>>(
         IsInputNormalized U.encoding m.reading m.form (U.units units) → IsOk result }
     ensures refused { IsOkUnless result NormalizeError.Memory }
 {
-    let Some(place) = place_of_change(normalizer, units)? else {
+    let Some(change) = change_of(normalizer, units)? else {
         return Ok(true);
     };
-    match write_from_place(normalizer, units, place, output) {
+    match write_from_change(normalizer, units, change, output) {
         Ok(()) => Ok(false),
         Err(_) => Err(NormalizeError::Memory),
     }

@@ -1,7 +1,6 @@
 -- Places that qualify for the cut, one counted from another.
 use Rattle.std.proofs.Common.{◌≡◌, ℕ, ◌+◌, ◌-◌, List, [], ◌++◌, length, take, drop, sym, ap, subst, ◌∙◌, append_assoc, arith, inl, inr, drop_of_length-le, length-drop, take-append-drop}
-use Rattle.std.specs.Prelude.{Bool, Result, Ok, Err, Option, Some, None, IfOk}
-use Rattle.icu_normalizer.specs.inner.Offences.{IsCutUnlessNormalized, QualifiesUnlessNormalized}
+use Rattle.std.specs.Prelude.{Bool}
 use Rattle.std.proofs.Math.Nat.{eq-zero-or-pos}
 use Rattle.std.proofs.Math.Seq.{take-add}
 use Rattle.std.proofs.lemmas.Bool.{cases_lt}
@@ -36,12 +35,6 @@ module _ (e : Encoding) (d : Reading) (form : Form) (units : List ℕ) where
           keeps = ap (λ l. l ++ normal_form d form (decoded_in e (drop end units))) (sym part.1.own) ∙ sym (form-parts part.0);
         }
   ]
-
-  -- a cut qualifies for itself
-  pub qualifies-from_cut : {E : Type 0} (r : Result (Option ℕ) E) → IfOk r (IsCutUnlessNormalized e d form units) → IfOk r (QualifiesUnlessNormalized e d form units)
-  qualifies-from_cut (Ok (Some place)) cut = (cut.0, cut.1.qualifies)
-  qualifies-from_cut (Ok None) own = own
-  qualifies-from_cut (Err fault) h = tt
 
   module _ (n : ℕ) (front : QualifiesForInputCut e d form units n) where
     -- a place that qualifies after one that does
