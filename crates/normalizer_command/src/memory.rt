@@ -77,9 +77,9 @@ pub struct Outcome {
     pub status: u8,
 }
 
-/// Does a command with each file of these names in turn, and lists what is asked for, by the data of a path: of a file of
-/// prepared data or, if no file has that name, of a directory of Unicode's files. All files, those of the data too, are in
-/// memory, under their names; of two of one name the first counts.
+/// Does a command with each file of these names in turn, and lists what is asked for, using the data of a path: of a file
+/// of prepared data or, if no file has that name, of a directory of Unicode's files. All files, those of the data too,
+/// are in memory, under their names; of two of one name the first counts.
 ///
 /// # Errors
 /// If an allocation failed.

@@ -48,7 +48,7 @@ pub(crate) fn bytes_if_file<I: Inputs>(
     }
 }
 
-/// What works for a command by data.
+/// What works for a command, using data.
 pub(crate) fn worker_by(read: &PreparedData, command: Command) -> Result<Worker, Fault>
     ensures does { IfOk result (λ worker. Does worker (work_of (prepared_in read.now) command)) }
     ensures suits { IfOk result (λ _. ¬ LacksMapper command (prepared_in read.now)) }
@@ -71,17 +71,18 @@ pub(crate) fn worker_by(read: &PreparedData, command: Command) -> Result<Worker,
     }
 }
 
-/// The normalizer to a form by data, and so by the records that build them.
+/// The normalizer to a form, using data, and so by the records that build them.
 fn normalizer_by(read: &PreparedData, form: NormalForm) -> Result<AnyNormalizer, DataError>
     ensures makes { IfOk result (λ n. Makes n (making_of (prepared_in read.now) form)) }
     ensures recorded { (records : List RecordValue) (uts46 : List Uts46RecordValue) →
         Builds records uts46 (prepared_in read.now) → IfOk result (λ n. Makes n (making_by records form)) }
-    ensures refused { IfErr result (λ e. (e ≡ DataError.Memory) ⊎ RefusesForm form (held_by (prepared_in read.now)) e) }
+    ensures refused { IfErr result (λ e. (e ≡ DataError.Memory)
+        ⊎ RefusesForm form (held_by (prepared_in read.now)) e) }
 {
     read.normalizer(form)
 }
 
-/// The mapper by data, and so by the records that build them.
+/// The mapper using data, and so by the records that build them.
 fn mapper_by(read: &PreparedData) -> Result<Uts46Mapper, DataError>
     ensures maps { IfOk result (λ m. Maps (mapper_data_of m) (mapping_of (mapper_data_in (prepared_in read.now)))) }
     ensures recorded { (records : List RecordValue) (uts46 : List Uts46RecordValue) →

@@ -32,7 +32,7 @@ use normalizer_replies::{Command, Worker, worker_for};
 use normalizer_ucd::UcdFile;
 use std::alloc::Global;
 
-/// Does a command with each file in turn, by the data of a path: that of a file of prepared data or, if it can't be
+/// Does a command with each file in turn, using the data of a path: of a file of prepared data or, if it can't be
 /// opened as a file, of a directory of Unicode's files. Returns the exit status: 0; 1 if a file isn't in the form, has a
 /// line that isn't valid, or isn't well-formed; 2 if one failed. If the command needs data and they fail, that is
 /// reported, and nothing is written.
@@ -63,7 +63,7 @@ pub fn run<I: Inputs, W: Target, R: Reports>(
     }
 }
 
-/// Does a command with each file in turn, by the data of a path.
+/// Does a command with each file in turn, using the data of a path.
 fn run_with_data<I: Inputs, W: Target, R: Reports>(
     alloc: Global,
     command: Command,
@@ -91,7 +91,7 @@ fn run_with_data<I: Inputs, W: Target, R: Reports>(
     }
 }
 
-/// Does a command with each file in turn, by the bytes of the file of prepared data at a path.
+/// Does a command with each file in turn, using the bytes of the file of prepared data at a path.
 fn run_with_file<I: Inputs, W: Target, R: Reports>(
     alloc: Global,
     command: Command,

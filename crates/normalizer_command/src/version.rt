@@ -1,5 +1,18 @@
 //! The versions of the program and of its data.
-ghost use Rattle.std.specs.Prelude.{◌≡◌, ◌≢◌, ◌⊎◌, ℕ, List, None, ⊤, IfErr, IfOk, IsErrOf, OnOk, string_bytes};
+ghost use Rattle.std.specs.Prelude.{
+  ◌≡◌,
+  ◌≢◌,
+  ◌⊎◌,
+  ℕ,
+  List,
+  None,
+  ⊤,
+  IfErr,
+  IfOk,
+  IsErrOf,
+  OnOk,
+  string_bytes,
+};
 ghost use Rattle.std.specs.declared.io.ErrorKind.{ErrorKind};
 ghost use Rattle.std.specs.Io.KnownBytes.{Appends};
 ghost use Rattle.normalizer_io.specs.Transfer.{AppendsFront};
