@@ -355,23 +355,31 @@ module _ {W : Type 0} (taken : W → Option (List ℕ)) (items : W → List ℕ)
 
 -- ---- by the file of data that records build
 
+some-bytes : (a b : List ℕ) → Some a ≡ Some b → a ≡ b
+some-bytes a b e = cc
+
 module _ (files : List NamedBytes) (l : Listing) (path prepared : List ℕ) (names : List (List ℕ)) (p : Packed) (records : List RecordValue) (uts46 : List Uts46RecordValue) (builds : Builds records uts46 p)
     (same : (q : Packed) → IsFileOf prepared q → q ≡ p) where
   by-data-of-records : (command : Command) (e : Effect) → RunsByDataInMemory files command l prepared names e → AreHandled files l (work_by records uts46 command) names e
   by-data-of-records command e r = r.recorded records uts46 (subst (λ (q : Packed). Builds records uts46 q) (sym (same r.packed r.file)) builds)
 
   module _ (command : Command) (memory_only : (fault : Fault) → IsFaultOfPrepared prepared command fault → fault ≡ Memory) (e : Effect) where
+    abbrev ByData : Type 0
+    ByData = RunsByDataInMemory files command l prepared names e ⊎ LacksPreparedInMemory command path prepared e
+
+    at-file : (found : Option (List ℕ)) → found ≡ Some prepared
+        → MatchOption found (RunsInMemory files command l path names e ⊎ LacksDataInMemory files command path e) (λ prepared. RunsByDataInMemory files command l prepared names e ⊎ LacksPreparedInMemory command path prepared e)
+        → ByData
+    at-file None there effect = cc
+    at-file (Some bytes) there effect =
+        let same : bytes ≡ prepared = some-bytes bytes prepared there in
+        subst (λ x. RunsByDataInMemory files command l x names e ⊎ LacksPreparedInMemory command path x e) same effect
+
     of-data-of-records : bytes_in files path ≡ Some prepared → IsEffectOfData files command l path names e → AreHandled files l (work_by records uts46 command) names e
-    of-data-of-records there effect = elim (at effect) [
+    of-data-of-records there effect = elim (at-file (bytes_in files path) there effect) [
       | inl r ↦ by-data-of-records command e r
       | inr lacks ↦ absurd (lacks.of_data (memory_only lacks.fault lacks.why))
     ]
-      where
-        abbrev Either : Option (List ℕ) → Type 0
-        Either x = MatchOption x (RunsInMemory files command l path names e ⊎ LacksDataInMemory files command path e) (λ prepared. RunsByDataInMemory files command l prepared names e ⊎ LacksPreparedInMemory command path prepared e)
-
-        at : IsEffectOfData files command l path names e → RunsByDataInMemory files command l prepared names e ⊎ LacksPreparedInMemory command path prepared e
-        at effect = let h : Either (Some prepared) = subst Either there effect in h
 
   pub effect-of-records : (command : Command) (memory_only : (fault : Fault) → IsFaultOfPrepared prepared command fault → fault ≡ Memory) (e : Effect)
       → bytes_in files path ≡ Some prepared → IsEffectOf files command l path names e → AreHandled files l (work_by records uts46 command) names e

@@ -1,8 +1,11 @@
-use Rattle.std.proofs.Common.{refl}
+use Rattle.std.proofs.Common.{Ok, refl}
+use Rattle.icu_normalizer.specs.DataError.{DataError}
+use Rattle.icu_normalizer.specs.HeldForms.{RefusesMapper}
 use Rattle.icu_normalizer.specs.DataMarkerInfo.TheVariants.{NormalizerUts46DataV1}
 use Rattle.icu_normalizer.proofs.PackedForms.{packed-unrefused}
 use Rattle.normalizer_prepared.specs.Prepared.{prepared_bytes}
 use Rattle.normalizer_command.specs.InMemory.{files_of}
+use Rattle.normalizer_command.specs.PreparedFiles.{mapper_data_in}
 use Rattle.normalizer_command.proofs.InMemoryLemmas.{effect-of-records-ok}
 use Rattle.normalizer_command.proofs.PreparedLemmas.{memory-only, same-file}
 use Rattle.normalizer_command.proofs.memory.run_in_memory.Goals as goal
@@ -13,7 +16,7 @@ returns-clause-records c = λ records uts46 p builds fits there suits.
     let never = c.data_that_meet_conditions_are_accepted.ensures.refused in
     let forms = packed-unrefused p never (accepted.nfd records uts46 p builds) (accepted.nfc records uts46 p builds)
     (accepted.nfkd records uts46 p builds) (accepted.nfkc records uts46 p builds) in
-    let mapper = λ e refuses. never _ _ NormalizerUts46DataV1 e (accepted.mapper records uts46 p builds) refuses in
+    let mapper : (e : DataError) → ¬ RefusesMapper (Ok (mapper_data_in p)) e = λ e refuses. never _ _ NormalizerUts46DataV1 e (accepted.mapper records uts46 p builds) refuses in
     effect-of-records-ok (files_of c.args.files.now) c.args.listing c.args.path.now (prepared_bytes p) _ p records uts46 builds
     (same-file p (prepared_bytes p) (fits, refl) forms mapper) c.args.command
     (memory-only p (prepared_bytes p) (fits, refl) forms mapper c.args.command suits) there c.run_over.result c.run_over.ensures
