@@ -336,7 +336,7 @@ module _ {W : Type 0} (taken : W → Option (List ℕ)) (items : W → List ℕ)
   ]
 
   opened : (command : Command) (l : Listing) (path : List ℕ) (names : List (List ℕ)) (s t : State W) → RunsWithFile d command l path names s t → IsThere files path
-  opened command l path names s t run = elim run [ | inl (prepared, at, r) ↦ at.0 | inr no_data ↦ no_data.why.0 ]
+  opened command l path names s t run = elim run [ inl (prepared, at, r) ↦ at.0 | inr no_data ↦ no_data.why.0 ]
 
   effect-of-data : (command : Command) (l : Listing) (path : List ℕ) (names : List (List ℕ)) (s t : State W) (after : List Report) → s.told ≡ Some [] → items s.writer ≡ [] → s.status ≡ 0 → t.told ≡ Some after
       → All IsOfData after → RunsWithData d command l path names s t → IsEffectOfData files command l path names (record { output = items t.writer; reports = after; status = t.status })

@@ -42,7 +42,9 @@ use crate::fault::Fault;
 use crate::listing::Listing;
 use crate::message::Message;
 use crate::run::run;
-use icu_normalizer::record_laws::{data_that_meet_conditions_are_accepted, what_is_built_is_accepted};
+use icu_normalizer::record_laws::{
+    data_that_meet_conditions_are_accepted, what_is_built_is_accepted,
+};
 use normalizer_io::{Input, Output};
 use normalizer_replies::Command;
 use std::alloc::{AllocError, Global};
