@@ -6,7 +6,7 @@ use Rattle.std.proofs.Math.Seq.{drop-cons}
 use Rattle.std.proofs.Math.ListN.{drop_of_length-le}
 use Rattle.normalizer_replies.specs.declared.reply.Answer.{Answer}
 use Rattle.normalizer_command.specs.declared.fault.Fault.{Fault}
-use Rattle.normalizer_command.specs.declared.fault.Fault.TheVariants.{Open, Read, Write, Memory, Line, Records, IllFormed, Replaced}
+use Rattle.normalizer_command.specs.declared.fault.Fault.TheVariants.{Open, Read, Write, Memory, Line, Records, Prepared, IllFormed, Replaced}
 use Rattle.normalizer_command.specs.FileFaults.{IsFileFault}
 use Rattle.normalizer_command.specs.Devices.{Devices}
 use Rattle.normalizer_command.specs.declared.listing.Listing.{Listing}
@@ -51,6 +51,7 @@ fault_of_reply Refused Written AllRead Unrefused (Err Write) read why = why
 fault_of_reply Refused Written AllRead Unrefused (Err Memory) read why = (read, why)
 fault_of_reply Refused Written AllRead Unrefused (Err (Line fault)) read why = why
 fault_of_reply Refused Written AllRead Unrefused (Err (Records error)) read why = why
+fault_of_reply Refused Written AllRead Unrefused (Err (Prepared fault)) read why = why
 fault_of_reply Refused Written AllRead Unrefused (Err (IllFormed scheme at)) read why = why
 fault_of_reply Refused Written AllRead Unrefused (Err (Replaced count)) read why = why
 
@@ -63,6 +64,7 @@ other_reasons Refused Refused' Written Written' Unrefused Unrefused' Cannot f g 
 other_reasons Refused Refused' Written Written' Unrefused Unrefused' Cannot f g h Memory why = h why
 other_reasons Refused Refused' Written Written' Unrefused Unrefused' Cannot f g h (Line fault) why = why
 other_reasons Refused Refused' Written Written' Unrefused Unrefused' Cannot f g h (Records fault) why = why
+other_reasons Refused Refused' Written Written' Unrefused Unrefused' Cannot f g h (Prepared fault) why = why
 other_reasons Refused Refused' Written Written' Unrefused Unrefused' Cannot f g h (IllFormed scheme at) why = why
 other_reasons Refused Refused' Written Written' Unrefused Unrefused' Cannot f g h (Replaced count) why = why
 

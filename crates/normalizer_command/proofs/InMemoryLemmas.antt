@@ -1,5 +1,5 @@
 -- A run over files in memory, by what it does over devices.
-use Rattle.std.proofs.Common.{◌≡◌, ◌≢◌, ◌⊎◌, inl, inr, ℕ, ◌+◌, ◌<◌, ◌≤◌, Bool, true, false, List, [], ◌∷◌, ◌++◌, Option, Some, None, Result, Ok, Err, IfSome, MatchOption, refl, sym, ap, subst, ◌∙◌, arith, append_assoc, append-nil, length}
+use Rattle.std.proofs.Common.{◌≡◌, ◌≢◌, ◌⊎◌, inl, inr, ℕ, ◌+◌, ◌<◌, ◌≤◌, Bool, true, false, List, [], ◌∷◌, ◌++◌, Option, Some, None, Result, Ok, Err, IfOk, IfSome, MatchOption, refl, sym, ap, subst, ◌∙◌, arith, append_assoc, append-nil, length}
 use Rattle.std.specs.Prelude.{All, IsErrOf, IsSomeAnd, nat_lt, if◌then◌else◌, ⊤}
 use Rattle.std.specs.Option.{option_map, option_to_list}
 use Rattle.std.specs.Io.KnownBytes.{Appends}
@@ -8,6 +8,9 @@ use Rattle.std.proofs.lemmas.Bool.{ltb-false, ltb-true, true≢false}
 use Rattle.std.proofs.lemmas.List.Elements.{All-drop, All-head, All-take}
 use Rattle.std.specs.declared.io.ErrorKind.{ErrorKind}
 use Rattle.std.specs.declared.io.ErrorKind.TheVariants.{NotFound}
+use Rattle.icu_normalizer.specs.Building.{Builds}
+use Rattle.icu_normalizer.specs.Packed.{Packed}
+use Rattle.icu_normalizer.specs.RecordValue.{RecordValue, Uts46RecordValue}
 use Rattle.normalizer_ucd.specs.declared.error.UcdFile.{UcdFile}
 use Rattle.normalizer_replies.specs.declared.reply.Answer.{Answer}
 use Rattle.normalizer_replies.specs.declared.worker.Command.{Command}
@@ -18,13 +21,16 @@ use Rattle.normalizer_command.specs.Listings.{listed}
 use Rattle.normalizer_command.specs.declared.listing.Listing.{Listing}
 use Rattle.normalizer_command.specs.Devices.{Devices, devices}
 use Rattle.normalizer_command.specs.FileReports.{Report, Tells}
-use Rattle.normalizer_command.specs.InMemory.{bytes_in, reports_of, AreHandled, Effect, IsEffectOf, IsFaultInMemory, IsHandled, IsThere, LacksDataInMemory, NamedBytes, RunsInMemory}
+use Rattle.normalizer_command.specs.FileFaults.{IsFileFault}
+use Rattle.normalizer_command.specs.InMemory.{bytes_in, effect_of, reports_of, AreHandled, Effect, IsEffectOf, IsEffectOfData, IsFaultInMemory, IsHandled, IsThere, LacksDataInMemory, LacksPreparedInMemory, NamedBytes, RunsByDataInMemory, RunsInMemory}
 use Rattle.normalizer_command.specs.Outcomes.{fault_told, greater, status_of, AreDone, IsDone, State, state}
-use Rattle.normalizer_command.specs.Runs.{IsRun, LacksData, RunsByFiles}
+use Rattle.normalizer_command.specs.PreparedFiles.{work_of, IsFaultOfPrepared, IsFileAt, IsFileOf}
+use Rattle.normalizer_command.specs.Runs.{IsRun, LacksData, LacksPrepared, RunsByData, RunsByFiles, RunsWithData, RunsWithDirectory, RunsWithFile}
 use Rattle.normalizer_command.specs.UnicodeFiles.{path_of, IsDataFault, IsReadFault}
 use Rattle.normalizer_command.specs.inner.Kept.{is_refusal, IsOfData}
+use Rattle.normalizer_command.specs.declared.memory.Outcome.{Outcome}
 use Rattle.normalizer_command.specs.declared.fault.Fault.{Fault}
-use Rattle.normalizer_command.specs.declared.fault.Fault.TheVariants.{Open, Read, Write, Memory, Line, Records, IllFormed, Replaced}
+use Rattle.normalizer_command.specs.declared.fault.Fault.TheVariants.{Open, Read, Write, Memory, Line, Records, Prepared, IllFormed, Replaced}
 
 -- ---- the greatest of statuses
 
@@ -113,6 +119,7 @@ module _ {W : Type 0} (taken : W → Option (List ℕ)) (items : W → List ℕ)
     one name s next (Err Memory) after done now of_data = one-refused name s next Memory after (told-of s.told next.told name (Some Memory) after now done.told) of_data refl
     one name s next (Err (Line fault)) after done now of_data = absurd done.why
     one name s next (Err (Records error)) after done now of_data = absurd done.why
+    one name s next (Err (Prepared fault)) after done now of_data = absurd done.why
     one name s next (Err (IllFormed scheme at)) after done now of_data = absurd done.why
     one name s next (Err (Replaced count)) after done now of_data = absurd done.why
 
@@ -178,6 +185,7 @@ module _ {W : Type 0} (taken : W → Option (List ℕ)) (items : W → List ℕ)
     is-write (Err Memory) = inr (λ refused. cc)
     is-write (Err (Line fault)) = inr (λ refused. cc)
     is-write (Err (Records error)) = inr (λ refused. cc)
+    is-write (Err (Prepared fault)) = inr (λ refused. cc)
     is-write (Err (IllFormed scheme at)) = inr (λ refused. cc)
     is-write (Err (Replaced count)) = inr (λ refused. cc)
 
@@ -244,6 +252,7 @@ module _ {W : Type 0} (taken : W → Option (List ℕ)) (items : W → List ℕ)
   read-fault directory command file Memory of_data why = cc
   read-fault directory command file (Line fault) of_data why = absurd why.1
   read-fault directory command file (Records error) of_data why = absurd why.1
+  read-fault directory command file (Prepared f) of_data why = absurd why.1
   read-fault directory command file (IllFormed scheme at) of_data why = absurd why.1
   read-fault directory command file (Replaced count) of_data why = absurd why.1
 
@@ -263,15 +272,122 @@ module _ {W : Type 0} (taken : W → Option (List ℕ)) (items : W → List ℕ)
         effect = effect-same (items t.writer) [] after (report ∷ []) t.status 2 output parts l.status;
       }
 
-  effect-of-data : (command : Command) (l : Listing) (directory : List ℕ) (names : List (List ℕ)) (s t : State W) (after : List Report) → s.told ≡ Some [] → items s.writer ≡ [] → s.status ≡ 0 → t.told ≡ Some after
-      → All IsOfData after → RunsByFiles d command l directory names s t ⊎ LacksData d command directory s t → RunsInMemory files command l directory names (record { output = items t.writer; reports = after; status = t.status }) ⊎ LacksDataInMemory files command directory (record { output = items t.writer; reports = after; status = t.status })
-  effect-of-data command l directory names s t after none empty zero now of_data run = elim run [
-    | inl r ↦ inl (runs command l directory names s t after none empty zero now of_data r)
-    | inr no_data ↦ inr (lacks command directory s t after none empty now of_data no_data)
+  -- ---- by a file of prepared data
+
+  by-data : (command : Command) (l : Listing) (prepared : List ℕ) (names : List (List ℕ)) (s t : State W) (after : List Report) → s.told ≡ Some [] → items s.writer ≡ [] → s.status ≡ 0 → t.told ≡ Some after
+      → All IsOfData after → RunsByData d command l prepared names s t → RunsByDataInMemory files command l prepared names (record { output = items t.writer; reports = after; status = t.status })
+  by-data command l prepared names s t after none empty zero now of_data r = record {
+    packed = r.packed;
+    file = r.file;
+    suits = r.suits;
+    handled = whole l (work_of r.packed command) names s t after none empty zero now of_data r.done;
+    recorded = λ records uts46 builds. whole l (work_by records uts46 command) names s t after none empty zero now of_data (r.recorded records uts46 builds);
+  }
+
+  -- the bytes of a file that is there
+  bytes-there : (path all bytes : List ℕ) → bytes_in files path ≡ Some all → IsFileAt d path bytes → bytes ≡ all
+  bytes-there path all bytes there at = let h : IfSome (Some all) (λ all. bytes ≡ all) = subst (λ x. IfSome x (λ all. bytes ≡ all)) there at.1 in h
+
+  -- what is in memory is read
+  unread : {A : Type 0} (fault : Fault) → is_refusal fault ≡ false → IsFileFault (λ _. ⊥) ⊤ ⊥ ⊤ fault → A
+  unread (Open kind) of_data why = absurd why
+  unread Read of_data why = cc
+  unread Write of_data why = cc
+  unread Memory of_data why = cc
+  unread (Line fault) of_data why = absurd why
+  unread (Records error) of_data why = absurd why
+  unread (Prepared f) of_data why = absurd why
+  unread (IllFormed scheme at) of_data why = absurd why
+  unread (Replaced count) of_data why = absurd why
+
+  lacks-prepared : (command : Command) (path all : List ℕ) (s t : State W) (after : List Report) → bytes_in files path ≡ Some all → s.told ≡ Some [] → items s.writer ≡ [] → t.told ≡ Some after → All IsOfData after
+      → LacksPrepared d command path s t → LacksPreparedInMemory command path all (record { output = items t.writer; reports = after; status = t.status })
+  lacks-prepared command path all s t after there none empty now of_data l =
+      let report : Report = (path, l.fault) in
+      let told = told-before s.told path l.fault after (subst (λ x. Tells s.told x report) now l.told) in
+      let parts : after ≡ report ∷ [] = told.parts ∙ ap (λ x. x ++ report ∷ []) (some-same told.told [] (sym told.was ∙ none)) in
+      let fine : is_refusal l.fault ≡ false = last-of-data [] report (subst (All IsOfData) parts of_data) in
+      let output : items t.writer ≡ [] = ap items l.unwritten ∙ empty in
+      record {
+        fault = l.fault;
+        why = elim l.why.1 [
+          | inl refused ↦ unread l.fault fine refused
+          | inr (prepared, at, why) ↦ subst (λ x. IsFaultOfPrepared x command l.fault) (bytes-there path all prepared there at) why
+        ];
+        of_data = λ memory. true≢false (sym (ap is_refusal memory) ∙ fine);
+        effect = effect-same (items t.writer) [] after (report ∷ []) t.status 2 output parts l.status;
+      }
+
+  with-file : (command : Command) (l : Listing) (path all : List ℕ) (names : List (List ℕ)) (s t : State W) (after : List Report) → bytes_in files path ≡ Some all → s.told ≡ Some [] → items s.writer ≡ [] → s.status ≡ 0 → t.told ≡ Some after
+      → All IsOfData after → RunsWithFile d command l path names s t
+      → RunsByDataInMemory files command l all names (record { output = items t.writer; reports = after; status = t.status }) ⊎ LacksPreparedInMemory command path all (record { output = items t.writer; reports = after; status = t.status })
+  with-file command l path all names s t after there none empty zero now of_data run = elim run [
+    | inl (prepared, at, r) ↦
+        inl (by-data command l all names s t after none empty zero now of_data
+        (subst (λ x. RunsByData d command l x names s t) (bytes-there path all prepared there at) r))
+    | inr no_data ↦ inr (lacks-prepared command path all s t after there none empty now of_data no_data)
   ]
 
-  pub effect-of-run : (command : Command) (l : Listing) (directory : List ℕ) (names : List (List ℕ)) (s t : State W) (after : List Report) → s.told ≡ Some [] → items s.writer ≡ [] → s.status ≡ 0 → t.told ≡ Some after
-      → All IsOfData after → IsRun d command l directory names s t → IsEffectOf files command l directory names (record { output = items t.writer; reports = after; status = t.status })
-  effect-of-run (command.OfForm task scheme mode form) l directory names s t after none empty zero now of_data run = effect-of-data (command.OfForm task scheme mode form) l directory names s t after none empty zero now of_data run
-  effect-of-run (command.OfMapper task scheme mode) l directory names s t after none empty zero now of_data run = effect-of-data (command.OfMapper task scheme mode) l directory names s t after none empty zero now of_data run
-  effect-of-run (command.WellFormed scheme) l directory names s t after none empty zero now of_data run = whole l (WellFormed scheme) names s t after none empty zero now of_data run
+  with-directory : (command : Command) (l : Listing) (path : List ℕ) (names : List (List ℕ)) (s t : State W) (after : List Report) → s.told ≡ Some [] → items s.writer ≡ [] → s.status ≡ 0 → t.told ≡ Some after
+      → All IsOfData after → RunsWithDirectory d command l path names s t → RunsInMemory files command l path names (record { output = items t.writer; reports = after; status = t.status }) ⊎ LacksDataInMemory files command path (record { output = items t.writer; reports = after; status = t.status })
+  with-directory command l path names s t after none empty zero now of_data run = elim run [
+    | inl r ↦ inl (runs command l path names s t after none empty zero now of_data r)
+    | inr no_data ↦ inr (lacks command path s t after none empty now of_data no_data)
+  ]
+
+  opened : (command : Command) (l : Listing) (path : List ℕ) (names : List (List ℕ)) (s t : State W) → RunsWithFile d command l path names s t → IsThere files path
+  opened command l path names s t run = elim run [ inl (prepared, at, r) ↦ at.0 | inr no_data ↦ no_data.why.0 ]
+
+  effect-of-data : (command : Command) (l : Listing) (path : List ℕ) (names : List (List ℕ)) (s t : State W) (after : List Report) → s.told ≡ Some [] → items s.writer ≡ [] → s.status ≡ 0 → t.told ≡ Some after
+      → All IsOfData after → RunsWithData d command l path names s t → IsEffectOfData files command l path names (record { output = items t.writer; reports = after; status = t.status })
+  effect-of-data command l path names s t after none empty zero now of_data run = elim run [
+    | inl file ↦
+        let there = opened command l path names s t file in
+        rw there.1 (with-file command l path there.0 names s t after there.1 none empty zero now of_data file)
+    | inr (missing, rest) ↦ rw missing.1.0 (with-directory command l path names s t after none empty zero now of_data rest)
+  ]
+
+  pub effect-of-run : (command : Command) (l : Listing) (path : List ℕ) (names : List (List ℕ)) (s t : State W) (after : List Report) → s.told ≡ Some [] → items s.writer ≡ [] → s.status ≡ 0 → t.told ≡ Some after
+      → All IsOfData after → IsRun d command l path names s t → IsEffectOf files command l path names (record { output = items t.writer; reports = after; status = t.status })
+  effect-of-run (command.OfForm task scheme mode form) l path names s t after none empty zero now of_data run = effect-of-data (command.OfForm task scheme mode form) l path names s t after none empty zero now of_data run
+  effect-of-run (command.OfMapper task scheme mode) l path names s t after none empty zero now of_data run = effect-of-data (command.OfMapper task scheme mode) l path names s t after none empty zero now of_data run
+  effect-of-run (command.WellFormed scheme) l path names s t after none empty zero now of_data run = whole l (WellFormed scheme) names s t after none empty zero now of_data run
+
+-- ---- by the file of data that records build
+
+some-bytes : (a b : List ℕ) → Some a ≡ Some b → a ≡ b
+some-bytes a b e = cc
+
+module _ (files : List NamedBytes) (l : Listing) (path prepared : List ℕ) (names : List (List ℕ)) (p : Packed) (records : List RecordValue) (uts46 : List Uts46RecordValue) (builds : Builds records uts46 p)
+    (same : (q : Packed) → IsFileOf prepared q → q ≡ p) where
+  by-data-of-records : (command : Command) (e : Effect) → RunsByDataInMemory files command l prepared names e → AreHandled files l (work_by records uts46 command) names e
+  by-data-of-records command e r = r.recorded records uts46 (subst (λ (q : Packed). Builds records uts46 q) (sym (same r.packed r.file)) builds)
+
+  module _ (command : Command) (memory_only : (fault : Fault) → IsFaultOfPrepared prepared command fault → fault ≡ Memory) (e : Effect) where
+    abbrev ByData : Type 0
+    ByData = RunsByDataInMemory files command l prepared names e ⊎ LacksPreparedInMemory command path prepared e
+
+    at-file : (found : Option (List ℕ)) → found ≡ Some prepared
+        → MatchOption found (RunsInMemory files command l path names e ⊎ LacksDataInMemory files command path e) (λ prepared. RunsByDataInMemory files command l prepared names e ⊎ LacksPreparedInMemory command path prepared e)
+        → ByData
+    at-file None there effect = cc
+    at-file (Some bytes) there effect =
+        let same : bytes ≡ prepared = some-bytes bytes prepared there in
+        subst (λ x. RunsByDataInMemory files command l x names e ⊎ LacksPreparedInMemory command path x e) same effect
+
+    of-data-of-records : bytes_in files path ≡ Some prepared → IsEffectOfData files command l path names e → AreHandled files l (work_by records uts46 command) names e
+    of-data-of-records there effect = elim (at-file (bytes_in files path) there effect) [
+      | inl r ↦ by-data-of-records command e r
+      | inr lacks ↦ absurd (lacks.of_data (memory_only lacks.fault lacks.why))
+    ]
+
+  pub effect-of-records : (command : Command) (memory_only : (fault : Fault) → IsFaultOfPrepared prepared command fault → fault ≡ Memory) (e : Effect)
+      → bytes_in files path ≡ Some prepared → IsEffectOf files command l path names e → AreHandled files l (work_by records uts46 command) names e
+  effect-of-records (command.OfForm task scheme mode form) memory_only e there effect = of-data-of-records (command.OfForm task scheme mode form) memory_only e there effect
+  effect-of-records (command.OfMapper task scheme mode) memory_only e there effect = of-data-of-records (command.OfMapper task scheme mode) memory_only e there effect
+  effect-of-records (command.WellFormed scheme) memory_only e there effect = effect
+
+  pub effect-of-records-ok : {E : Type 0} (command : Command) (memory_only : (fault : Fault) → IsFaultOfPrepared prepared command fault → fault ≡ Memory) → bytes_in files path ≡ Some prepared
+      → (r : Result Outcome E) → IfOk r (λ o. IsEffectOf files command l path names (effect_of o)) → IfOk r (λ o. AreHandled files l (work_by records uts46 command) names (effect_of o))
+  effect-of-records-ok command memory_only there (Ok o) effect = effect-of-records command memory_only (effect_of o) there effect
+  effect-of-records-ok command memory_only there (Err e) effect = tt

@@ -6,3 +6,4 @@ pub mod NamedFiles
 pub mod KeptLemmas
 pub mod ListingLemmas
 pub mod CodePointLemmas
+pub mod PreparedLemmas

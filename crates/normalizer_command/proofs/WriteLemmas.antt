@@ -40,6 +40,7 @@ of_comparison fault.Write Unwritten CutOff cut un = cut refl
 of_comparison fault.Memory Unwritten CutOff cut un = un (λ e. cc)
 of_comparison (fault.Line l) Unwritten CutOff cut un = un (λ e. cc)
 of_comparison (fault.Records e) Unwritten CutOff cut un = un (λ e. cc)
+of_comparison (fault.Prepared e) Unwritten CutOff cut un = un (λ e. cc)
 of_comparison (fault.IllFormed e at) Unwritten CutOff cut un = un (λ e. cc)
 of_comparison (fault.Replaced count) Unwritten CutOff cut un = un (λ e. cc)
 

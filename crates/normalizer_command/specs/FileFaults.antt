@@ -8,7 +8,7 @@ use Rattle.normalizer_io.specs.declared.outcome.TransferError.TheVariants as tra
 use Rattle.normalizer_ucd.specs.declared.error.UcdError.{UcdError}
 use Rattle.normalizer_ucd.specs.declared.error.UcdError.TheVariants as ucd
 use Rattle.normalizer_command.specs.declared.fault.Fault.{Fault}
-use Rattle.normalizer_command.specs.declared.fault.Fault.TheVariants.{Open, Read, Write, Memory, Line, Records, IllFormed, Replaced}
+use Rattle.normalizer_command.specs.declared.fault.Fault.TheVariants.{Open, Read, Write, Memory, Line, Records, Prepared, IllFormed, Replaced}
 
 abbrev pub fault_of_transfer : TransferError → Fault
 fault_of_transfer transfer.Read = Read
@@ -29,6 +29,7 @@ IsFileFault cannot_open read_refused write_refused no_other Write = write_refuse
 IsFileFault cannot_open read_refused write_refused no_other Memory = no_other
 IsFileFault cannot_open read_refused write_refused no_other (Line fault) = ⊥
 IsFileFault cannot_open read_refused write_refused no_other (Records f) = ⊥
+IsFileFault cannot_open read_refused write_refused no_other (Prepared f) = ⊥
 IsFileFault cannot_open read_refused write_refused no_other (IllFormed scheme at) = ⊥
 IsFileFault cannot_open read_refused write_refused no_other (Replaced count) = ⊥
 

@@ -1,7 +1,9 @@
 -- The program over files in memory: what it writes and reports, and its exit status. No device is named.
-use Rattle.std.specs.Prelude.{◌≡◌, ◌≢◌, ◌⊎◌, ℕ, List, [], ◌∷◌, ◌++◌, Option, Some, None, Result, Ok, Err, bytes_eq, if◌then◌else◌, map, string_bytes}
+use Rattle.std.specs.Prelude.{◌≡◌, ◌≢◌, ◌⊎◌, ℕ, List, [], ◌∷◌, ◌++◌, Option, Some, None, Result, Ok, Err, MatchOption, bytes_eq, if◌then◌else◌, map, string_bytes}
 use Rattle.std.specs.Option.{option_map, option_to_list}
 use Rattle.std.specs.declared.io.ErrorKind.TheVariants.{NotFound}
+use Rattle.icu_normalizer.specs.Building.{Builds}
+use Rattle.icu_normalizer.specs.Packed.{Packed}
 use Rattle.icu_normalizer.specs.RecordValue.{RecordValue, Uts46RecordValue}
 use Rattle.normalizer_ucd.specs.declared.error.UcdFile.{UcdFile}
 use Rattle.normalizer_replies.specs.declared.reply.Answer.{Answer}
@@ -13,6 +15,7 @@ use Rattle.normalizer_command.specs.Listings.{listed}
 use Rattle.normalizer_command.specs.declared.listing.Listing.{Listing}
 use Rattle.normalizer_command.specs.FileReports.{Report}
 use Rattle.normalizer_command.specs.Outcomes.{fault_told, greater, status_of}
+use Rattle.normalizer_command.specs.PreparedFiles.{work_of, IsFaultOfPrepared, IsFileOf, LacksMapper}
 use Rattle.normalizer_command.specs.UnicodeFiles.{AreFiles, AreRecorded, IsFaultOf, NeedsFile, path_of}
 use Rattle.normalizer_command.specs.declared.fault.Fault.{Fault}
 use Rattle.normalizer_command.specs.declared.fault.Fault.TheVariants.{Memory, Open}
@@ -97,8 +100,31 @@ pub record LacksDataInMemory (files : List NamedBytes) (command : Command) (dire
   pub of_data : fault ≢ Memory
   pub effect : e ≡ record { output = []; reports = (path_of directory file, fault) ∷ []; status = 2 }
 
--- what the program makes of files, by those of Unicode in a directory
-abbrev pub IsEffectOf : List NamedBytes → Command → Listing → (directory : List ℕ) → (names : List (List ℕ)) → Effect → Type 0
-IsEffectOf files (command.WellFormed scheme) l directory names e = AreHandled files l (WellFormed scheme) names e
-IsEffectOf files command l directory names e =
-    RunsInMemory files command l directory names e ⊎ LacksDataInMemory files command directory e
+-- the command is done with each file by the data whose file these bytes are, and so by the records that build them
+pub record RunsByDataInMemory (files : List NamedBytes) (command : Command) (l : Listing) (prepared : List ℕ) (names : List (List ℕ)) (e : Effect)
+    : Type 0 where
+  pub packed : Packed
+  pub file : IsFileOf prepared packed
+  pub suits : ¬ LacksMapper command packed
+  pub handled : AreHandled files l (work_of packed command) names e
+  pub recorded : (records : List RecordValue) (uts46 : List Uts46RecordValue) → Builds records uts46 packed
+      → AreHandled files l (work_by records uts46 command) names e
+
+-- it isn't, which one report of the file says
+pub record LacksPreparedInMemory (command : Command) (path prepared : List ℕ) (e : Effect) : Type 0 where
+  pub fault : Fault
+  pub why : IsFaultOfPrepared prepared command fault
+  pub of_data : fault ≢ Memory
+  pub effect : e ≡ record { output = []; reports = (path, fault) ∷ []; status = 2 }
+
+-- what the program makes of files by data: by a file of prepared data, if there is one of this name, and else by
+-- Unicode's files in the directory of this name
+abbrev pub IsEffectOfData : List NamedBytes → Command → Listing → (path : List ℕ) → (names : List (List ℕ)) → Effect → Type 0
+IsEffectOfData files command l path names e = MatchOption (bytes_in files path)
+    (RunsInMemory files command l path names e ⊎ LacksDataInMemory files command path e)
+    (λ prepared. RunsByDataInMemory files command l prepared names e ⊎ LacksPreparedInMemory command path prepared e)
+
+-- what it makes of files: ill-formed sequences are listed without data
+abbrev pub IsEffectOf : List NamedBytes → Command → Listing → (path : List ℕ) → (names : List (List ℕ)) → Effect → Type 0
+IsEffectOf files (command.WellFormed scheme) l path names e = AreHandled files l (WellFormed scheme) names e
+IsEffectOf files command l path names e = IsEffectOfData files command l path names e

@@ -3,6 +3,7 @@ pub mod Devices
 pub mod FileFaults
 pub mod Outcomes
 pub mod FileReports
+pub mod PreparedFiles
 pub mod Runs
 pub mod Versions
 pub mod Arguments

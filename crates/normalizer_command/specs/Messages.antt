@@ -6,6 +6,8 @@ use Rattle.icu_normalizer.specs.DataMarkerInfo.{DataMarkerInfo}
 use Rattle.icu_normalizer.specs.DataMarkerInfo.TheVariants as markers
 use Rattle.icu_normalizer.specs.RecordAtFault.{RecordAtFault}
 use Rattle.icu_normalizer.specs.RecordAtFault.TheVariants.{OfCharacter, OfMapper}
+use Rattle.normalizer_prepared.specs.declared.fault.Fault.{Fault as FileFault}
+use Rattle.normalizer_prepared.specs.declared.fault.Fault.TheVariants as file_fault
 use Rattle.normalizer_ucd.specs.Messages.{text_of_problem}
 use Rattle.normalizer_ucd.specs.declared.error.Place.{Place}
 use Rattle.normalizer_replies.specs.Mismatches.{code_point_digits}
@@ -14,7 +16,9 @@ use Rattle.std.specs.declared.io.ErrorKind.TheVariants.{Deadlock, InvalidData, N
 use Rattle.normalizer_streams.specs.declared.scheme.EncodingScheme.TheVariants.{Utf8, Utf16}
 use Rattle.normalizer_command.specs.FileReports.{Report}
 use Rattle.normalizer_command.specs.declared.fault.Fault.{Fault}
-use Rattle.normalizer_command.specs.declared.fault.Fault.TheVariants.{Open, Read, Write, Memory, Line, Records, IllFormed, Replaced}
+use Rattle.normalizer_command.specs.declared.fault.Fault.TheVariants.{Open, Read, Write, Memory, Line, Records, Prepared, IllFormed, Replaced}
+use Rattle.normalizer_command.specs.declared.fault.PreparedFault.{PreparedFault}
+use Rattle.normalizer_command.specs.declared.fault.PreparedFault.TheVariants.{Wrong, Unfit, NoMapper}
 use Rattle.normalizer_command.specs.declared.message.Message.{Message}
 
 -- a name in a directory
@@ -64,6 +68,25 @@ text_of_record place None = []
 abbrev pub text_of_records : RecordsFault → List ℕ
 text_of_records f = text_of_record f.place f.at_fault ++ text_of_error f.error
 
+-- what is wrong with a file of prepared data
+abbrev pub words_of : FileFault → List ℕ
+words_of file_fault.Magic = codes "it isn't a file of prepared data"
+words_of file_fault.Version = codes "the format is of another version"
+words_of file_fault.Length = codes "the file has another length"
+words_of file_fault.Sum = codes "a sum of the bytes is another"
+words_of file_fault.Short = codes "the file is cut off"
+words_of file_fault.Count = codes "a count is longer than it needs to be"
+words_of file_fault.Runs = codes "the runs of a table aren't those of all code points"
+words_of file_fault.Scalar = codes "a number isn't that of a character"
+words_of file_fault.Trailing = codes "there are more bytes"
+
+-- why it can't be used: WHAT at byte 12
+abbrev pub text_of_prepared : PreparedFault → List ℕ
+text_of_prepared (Wrong fault offset) = words_of fault ++ (codes " at byte " ++ decimal offset)
+text_of_prepared (Unfit marker condition) =
+    codes "the data of " ++ (name_of_marker marker ++ (codes " break condition " ++ decimal condition))
+text_of_prepared NoMapper = codes "it has no data for the mapper"
+
 -- why, in words that are known; those of other kinds of errors are of the types of these
 abbrev pub text_of_fault : Fault → Option (List ℕ)
 text_of_fault (Open NotFound) = Some (codes "no such file or directory")
@@ -76,6 +99,7 @@ text_of_fault Memory = Some (codes "out of memory")
 text_of_fault (Line fault) =
     Some (codes "line " ++ (decimal fault.place.line ++ (codes ": " ++ text_of_problem fault.problem)))
 text_of_fault (Records f) = Some (text_of_records f)
+text_of_fault (Prepared f) = Some (text_of_prepared f)
 text_of_fault (IllFormed Utf8 at) = Some (codes "ill-formed UTF-8")
 text_of_fault (IllFormed (Utf16 order) at) = Some (codes "ill-formed UTF-16")
 text_of_fault (Replaced count) = Some (codes "ill-formed sequences replaced by U+FFFD: " ++ decimal count)

@@ -4,11 +4,11 @@ use Rattle.std.specs.declared.io.ErrorKind.{ErrorKind}
 use Rattle.std.specs.declared.io.ErrorKind.TheVariants.{NotFound}
 use Rattle.icu_normalizer.specs.Packed.{Packed}
 use Rattle.icu_normalizer.specs.RecordValue.{RecordValue, Uts46RecordValue}
-use Rattle.normalizer_prepared.specs.Prepared.{prepared_bytes}
 use Rattle.normalizer_ucd.specs.declared.error.UcdFile.{UcdFile}
 use Rattle.normalizer_ucd.specs.declared.error.UcdFile.TheVariants.{UnicodeData, CompositionExclusions, IdnaMappingTable}
 use Rattle.normalizer_command.specs.FileFaults.{IsFileFault}
 use Rattle.normalizer_command.specs.FileReports.{Report, Tells}
+use Rattle.normalizer_command.specs.PreparedFiles.{IsFileOf}
 use Rattle.normalizer_command.specs.UnicodeFiles.{path_of, AreBuiltOf, IsFaultOf, IsFile}
 use Rattle.normalizer_command.specs.declared.fault.Fault.{Fault}
 
@@ -33,7 +33,7 @@ module _ (bytes_of : List ℕ → Option (List ℕ)) (can_open : List ℕ → Ty
     pub uts46 : List Uts46RecordValue
     pub data_built : Packed
     pub built : AreBuiltOf unicode_data exclusions table records uts46 data_built
-    pub prepared : file ≡ prepared_bytes data_built
+    pub prepared : IsFileOf file data_built
 
   module _ (read_refused : List ℕ → Type 0) where
     -- why there is none: this file of the directory can't be read, or the bytes of the files make no data

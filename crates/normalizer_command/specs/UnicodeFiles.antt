@@ -19,7 +19,7 @@ use Rattle.normalizer_command.specs.Devices.{Devices}
 use Rattle.normalizer_command.specs.FileFaults.{IsFileFault}
 use Rattle.normalizer_command.specs.declared.fault.Fault.{Fault}
 use Rattle.normalizer_command.specs.declared.fault.RecordsFault.{RecordsFault}
-use Rattle.normalizer_command.specs.declared.fault.Fault.TheVariants.{Open, Read, Write, Memory, Line, Records, IllFormed, Replaced}
+use Rattle.normalizer_command.specs.declared.fault.Fault.TheVariants.{Open, Read, Write, Memory, Line, Records, Prepared, IllFormed, Replaced}
 use Rattle.normalizer_replies.specs.declared.worker.Command.{Command}
 use Rattle.normalizer_replies.specs.declared.worker.Command.TheVariants.{OfForm, OfMapper, WellFormed}
 
@@ -102,6 +102,7 @@ IsFaultOf unicode_data exclusions table file Memory = ⊤
 IsFaultOf unicode_data exclusions table file (Open kind) = ⊥
 IsFaultOf unicode_data exclusions table file Read = ⊥
 IsFaultOf unicode_data exclusions table file Write = ⊥
+IsFaultOf unicode_data exclusions table file (Prepared f) = ⊥
 IsFaultOf unicode_data exclusions table file (IllFormed scheme at) = ⊥
 IsFaultOf unicode_data exclusions table file (Replaced count) = ⊥
 

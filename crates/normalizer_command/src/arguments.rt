@@ -94,12 +94,13 @@ End a file at its first ill-formed sequence, which\n\
 fails. Else forms and mapped lines have U+FFFD for\n\
 each, and a report says how many a file had";
 
-/// The directory of the data.
-const DIRECTORY_HELP: &str = "\
+/// The data.
+const DATA_HELP: &str = "\
 The directory of UnicodeData.txt and\n\
 CompositionExclusions.txt and, for map and\n\
-validate, IdnaMappingTable.txt. If none is named,\n\
-the one that the variable UNINORM_DATA names; else\n\
+validate, IdnaMappingTable.txt; or a file that\n\
+prepare wrote. If none is named, the one that the\n\
+variable UNINORM_DATA names; else\n\
 data/unicode beside the program, or\n\
 ../share/uninorm from there, whichever is first to\n\
 have a UnicodeData.txt";
@@ -113,7 +114,7 @@ where FORM [FILE]...         print the first mismatch of each file\n  \
 map [FILE]...                write the lines, each mapped by UTS #46\n  \
 validate [FILE]...           print the numbers of lines that aren't valid\n  \
 well-formed [FILE]...        print the places of ill-formed sequences\n  \
-prepare FILE                 write the data as one file, for the library for C\n\
+prepare FILE                 write the data as one file, for --data and for C\n\
 \n\
 FORM is nfc, nfd, nfkc or nfkd. Forms and encodings may be named in any case.\n\
 \n\
@@ -168,7 +169,7 @@ const NO_ENCODING: &str = "the encoding is none of utf-8, utf-16le and utf-16be"
 pub enum Request<'a> {
     /// A task over files.
     Files(FileRequest<'a>),
-    /// The versions of the program and of the data in the directory, if one is named.
+    /// The versions of the program and of the data of the directory or file, if one is named.
     Version(Option<&'a str>),
     /// Prepared data.
     Prepare(PrepareRequest<'a>),
@@ -181,7 +182,7 @@ pub enum Request<'a> {
 pub struct FileRequest<'a> {
     /// What to do with each file.
     pub command: FileCommand,
-    /// The directory of Unicode's files, if one is named.
+    /// The directory of Unicode's files or the file of prepared data, if one is named.
     pub directory: Option<&'a str>,
     /// The names of the files; `-` is standard input.
     pub names: Vec<&'a str>,
@@ -582,8 +583,8 @@ fn directory<'a>(alloc: Global) -> Arg<'a>
 {
     Arg::new(alloc, "data")
         .long("data")
-        .value_name("DIR")
-        .help(DIRECTORY_HELP)
+        .value_name("PATH")
+        .help(DATA_HELP)
 }
 
 fn encoding<'a>(alloc: Global) -> Arg<'a>

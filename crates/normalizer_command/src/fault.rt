@@ -5,12 +5,16 @@ ghost use Rattle.normalizer_command.specs.Messages.{
   name_of_marker,
   text_of_error,
   text_of_fault,
+  text_of_prepared,
   text_of_records,
+  words_of,
 };
 ghost use Rattle.normalizer_command.specs.FileFaults.{fault_of_file, fault_of_transfer};
+ghost use Rattle.normalizer_command.specs.PreparedFiles.{fault_of_data, fault_of_prepared};
 
-use icu_normalizer::{BuildError, DataMarkerInfo, NormalizeError, RecordAtFault};
+use icu_normalizer::{BuildError, DataError, DataMarkerInfo, NormalizeError, RecordAtFault};
 use normalizer_io::TransferError;
+use normalizer_prepared::{Fault as FileFault, PreparedError};
 use normalizer_streams::{EncodingScheme, Position};
 use normalizer_ucd::{LineFault, Place, UcdError};
 use std::alloc::{AllocError, AllocFailed};
@@ -32,6 +36,8 @@ pub enum Fault {
     Line(LineFault),
     /// The records of the data files can't be built.
     Records(RecordsFault),
+    /// A file of prepared data can't be used.
+    Prepared(PreparedFault),
     /// An ill-formed sequence of this encoding scheme begins at this position, and was fatal.
     IllFormed(EncodingScheme, Position),
     /// So many ill-formed sequences were written as U+FFFD.
@@ -65,6 +71,52 @@ impl fmt::Display for RecordsFault {
             }
             (_, None) => write!(f, "{error}"),
         }
+    }
+}
+
+/// Why a file of prepared data can't be used.
+#[derive(Clone, Copy, PartialEq, Eq)]
+pub enum PreparedFault {
+    /// It has this fault, at the byte of this offset.
+    Wrong(FileFault, usize),
+    /// Its data of this kind break the written condition of this number.
+    Unfit(DataMarkerInfo, u8),
+    /// Its data for the mapper are those of the canonical mappings: it was prepared without a mapping table.
+    NoMapper,
+}
+
+impl fmt::Display for PreparedFault {
+    ghost output = { λ fault. Some (text_of_prepared fault) };
+
+    fn fmt<W: fmt::Write>(&self, f: &mut fmt::Formatter<W>) -> fmt::Result {
+        match *self {
+            PreparedFault::Wrong(fault, offset) => {
+                let words = words_of(fault);
+                write!(f, "{words} at byte {offset}")
+            }
+            PreparedFault::Unfit(marker, condition) => {
+                let name = name_of(marker);
+                write!(f, "the data of {name} break condition {condition}")
+            }
+            PreparedFault::NoMapper => f.write_str("it has no data for the mapper"),
+        }
+    }
+}
+
+/// What is wrong with a file of prepared data.
+fn words_of(fault: FileFault) -> &'static str
+    ensures { result.now ≡ words_of fault }
+{
+    match fault {
+        FileFault::Magic => "it isn't a file of prepared data",
+        FileFault::Version => "the format is of another version",
+        FileFault::Length => "the file has another length",
+        FileFault::Sum => "a sum of the bytes is another",
+        FileFault::Short => "the file is cut off",
+        FileFault::Count => "a count is longer than it needs to be",
+        FileFault::Runs => "the runs of a table aren't those of all code points",
+        FileFault::Scalar => "a number isn't that of a character",
+        FileFault::Trailing => "there are more bytes",
     }
 }
 
@@ -154,6 +206,7 @@ impl fmt::Display for Fault {
             Fault::Memory => f.write_str("out of memory"),
             Fault::Line(fault) => write!(f, "line {}: {}", fault.place.line, fault.problem),
             Fault::Records(fault) => write!(f, "{fault}"),
+            Fault::Prepared(fault) => write!(f, "{fault}"),
             Fault::IllFormed(EncodingScheme::Utf8, _) => f.write_str("ill-formed UTF-8"),
             Fault::IllFormed(EncodingScheme::Utf16(_), _) => f.write_str("ill-formed UTF-16"),
             Fault::Replaced(count) => write!(f, "ill-formed sequences replaced by U+FFFD: {count}"),
@@ -221,6 +274,35 @@ impl From<UcdError> for Fault {
         match error {
             UcdError::Line(fault) => Fault::Line(fault),
             UcdError::Memory => Fault::Memory,
+        }
+    }
+}
+
+impl From<PreparedError> for Fault {
+    ghost from_gives = { λ error fault. fault ≡ fault_of_prepared error };
+
+    fn from(error: PreparedError) -> Fault {
+        match error {
+            PreparedError::Wrong { fault, offset } => {
+                Fault::Prepared(PreparedFault::Wrong(fault, offset))
+            }
+            PreparedError::Memory => Fault::Memory,
+        }
+    }
+}
+
+impl From<DataError> for Fault {
+    ghost from_gives = { λ error fault. fault ≡ fault_of_data error };
+
+    fn from(error: DataError) -> Fault {
+        match error {
+            DataError::Invalid { marker, condition } => {
+                Fault::Prepared(PreparedFault::Unfit(marker, condition))
+            }
+            // The first condition limits the sizes.
+            DataError::FutureExtension(marker) => Fault::Prepared(PreparedFault::Unfit(marker, 1)),
+            DataError::Provider(marker) => Fault::Prepared(PreparedFault::Unfit(marker, 0)),
+            DataError::Memory => Fault::Memory,
         }
     }
 }

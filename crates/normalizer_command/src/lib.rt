@@ -10,6 +10,7 @@ pub mod listing;
 pub mod memory;
 pub mod message;
 pub mod prepare;
+mod prepared_files;
 pub mod run;
 mod unicode_files;
 mod unkept;

@@ -1,4 +1,4 @@
-//! The program over files in memory: from the bytes of Unicode's files to what it writes and reports.
+//! The program over files in memory: from the bytes of its data to what it writes and reports.
 ghost use Rattle.std.specs.Prelude.{
   ◌≡◌,
   ◌++◌,
@@ -15,12 +15,26 @@ ghost use Rattle.std.specs.Prelude.{
   None,
   Some,
   ⊤,
+  List,
   cond,
   bytes_eq,
 };
 ghost use Rattle.std.specs.declared.io.ErrorKind.TheVariants.{NotFound};
-ghost use Rattle.normalizer_command.specs.InMemory.{bytes_in, effect_of, files_of, IsEffectOf, IsThere};
+ghost use Rattle.icu_normalizer.specs.Building.{Builds};
+ghost use Rattle.icu_normalizer.specs.Packed.{Packed};
+ghost use Rattle.icu_normalizer.specs.RecordValue.{RecordValue, Uts46RecordValue};
+ghost use Rattle.normalizer_prepared.specs.Prepared.{prepared_bytes, Fits};
+ghost use Rattle.normalizer_replies.specs.Works.{work_by};
+ghost use Rattle.normalizer_command.specs.InMemory.{
+  bytes_in,
+  effect_of,
+  files_of,
+  AreHandled,
+  IsEffectOf,
+  IsThere,
+};
 ghost use Rattle.normalizer_command.specs.Messages.{name_in, report_of};
+ghost use Rattle.normalizer_command.specs.PreparedFiles.{LacksMapper};
 ghost use Rattle.normalizer_command.specs.inner.Kept.{is_refusal, kept_report, kept_reports, IsOfData};
 
 use crate::devices::{Inputs, Reports};
@@ -28,6 +42,9 @@ use crate::fault::Fault;
 use crate::listing::Listing;
 use crate::message::Message;
 use crate::run::run;
+use icu_normalizer::record_laws::{
+    data_that_meet_conditions_are_accepted, what_is_built_is_accepted,
+};
 use normalizer_io::{Input, Output};
 use normalizer_replies::Command;
 use std::alloc::{AllocError, Global};
@@ -62,8 +79,9 @@ pub struct Outcome {
     pub status: u8,
 }
 
-/// Does a command with each file of these names in turn, and lists what is asked for, using Unicode's files in a directory. All files, Unicode's
-/// too, are in memory, under their names; of two of one name the first counts.
+/// Does a command with each file of these names in turn, and lists what is asked for, using the data of a path: of a file
+/// of prepared data or, if no file has that name, of a directory of Unicode's files. All files, those of the data too,
+/// are in memory, under their names; of two of one name the first counts.
 ///
 /// # Errors
 /// If an allocation failed.
@@ -71,11 +89,34 @@ pub fn run_in_memory(
     alloc: Global,
     command: Command,
     listing: Listing,
-    directory: &str,
+    path: &str,
     names: &[&str],
     files: &[NamedFile<'_>],
 ) -> Result<Outcome, AllocError>
-    ensures { IfOk result (λ outcome. IsEffectOf (files_of files.now) command listing directory.now
+    ensures effect { IfOk result (λ outcome. IsEffectOf (files_of files.now) command listing path.now
+        (map (λ name. name.now) names.now) (effect_of outcome)) }
+
+    // With the file of data that records build, the command is done by what these records mean.
+    ensures records { (records : List RecordValue) (uts46 : List Uts46RecordValue) (p : Packed) →
+        Builds records uts46 p → Fits p → bytes_in (files_of files.now) path.now ≡ Some (prepared_bytes p) →
+        ¬ LacksMapper command p → IfOk result (λ outcome. AreHandled (files_of files.now) listing
+        (work_by records uts46 command) (map (λ name. name.now) names.now) (effect_of outcome)) }
+{
+    what_is_built_is_accepted();
+    data_that_meet_conditions_are_accepted();
+    run_over(alloc, command, listing, path, names, files)
+}
+
+/// What a run over files in memory wrote and reported.
+fn run_over(
+    alloc: Global,
+    command: Command,
+    listing: Listing,
+    path: &str,
+    names: &[&str],
+    files: &[NamedFile<'_>],
+) -> Result<Outcome, AllocError>
+    ensures { IfOk result (λ outcome. IsEffectOf (files_of files.now) command listing path.now
         (map (λ name. name.now) names.now) (effect_of outcome)) }
 {
     let mut output = Output(Vec::new(alloc));
@@ -85,7 +126,7 @@ pub fn run_in_memory(
         alloc,
         command,
         listing,
-        directory,
+        path,
         names,
         &inputs,
         &mut output,

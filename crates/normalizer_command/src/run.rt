@@ -7,7 +7,15 @@ ghost use Rattle.normalizer_command.specs.UnicodeFiles.{IsDataFault, path_of};
 ghost use Rattle.normalizer_command.specs.Devices.{devices};
 ghost use Rattle.normalizer_command.specs.Outcomes.{AreDone, state};
 ghost use Rattle.normalizer_command.specs.FileReports.{Tells};
-ghost use Rattle.normalizer_command.specs.Runs.{IsRun, RunsByFiles, RunsWithData};
+ghost use Rattle.normalizer_command.specs.PreparedFiles.{IsFaultOfPrepared, IsFileAt};
+ghost use Rattle.normalizer_command.specs.Runs.{
+  IsRun,
+  RunsByData,
+  RunsByFiles,
+  RunsWithData,
+  RunsWithDirectory,
+  RunsWithFile,
+};
 ghost use Rattle.normalizer_replies.specs.Works.{work_by};
 
 use crate::devices::{Inputs, Reports};
@@ -15,21 +23,24 @@ use crate::fault::Fault;
 use crate::files::over_files;
 use crate::listing::Listing;
 use crate::message::Message;
+use crate::prepared_files::{bytes_if_file, worker_by};
 use crate::unicode_files::{DataFault, built, name_of, read_files};
 use icu_normalizer::{Built, NormalizeError};
 use normalizer_io::Target;
+use normalizer_prepared::PreparedData;
 use normalizer_replies::{Command, Worker, worker_for};
 use normalizer_ucd::UcdFile;
 use std::alloc::Global;
 
-/// Does a command with each file in turn, using Unicode's files in a directory, and returns the exit status: 0; 1 if a
-/// file isn't in the form, has a line that isn't valid, or isn't well-formed; 2 if one failed. If the command needs
-/// Unicode's files and they fail, that is reported, and nothing is written.
+/// Does a command with each file in turn, using the data of a path: of a file of prepared data or, if it can't be
+/// opened as a file, of a directory of Unicode's files. Returns the exit status: 0; 1 if a file isn't in the form, has a
+/// line that isn't valid, or isn't well-formed; 2 if one failed. If the command needs data and they fail, that is
+/// reported, and nothing is written.
 pub fn run<I: Inputs, W: Target, R: Reports>(
     alloc: Global,
     command: Command,
     listing: Listing,
-    directory: &str,
+    path: &str,
     names: &[&str],
     inputs: &I,
     writer: &mut W,
@@ -38,7 +49,7 @@ pub fn run<I: Inputs, W: Target, R: Reports>(
     ensures { IsRun
         (devices (I.bytes_of inputs.now) (I.can_open inputs.now) (I.cannot_open inputs.now) (I.unrefused inputs.now)
         (I.read_refused inputs.now) W.bytes_taken W.refusal)
-        command listing directory.now (map (λ name. name.now) names.now)
+        command listing path.now (map (λ name. name.now) names.now)
         (state writer.old (R.reports reports.old) 0) (state writer.new (R.reports reports.new) result) }
 {
     match command {
@@ -47,13 +58,109 @@ pub fn run<I: Inputs, W: Target, R: Reports>(
             over_files(alloc, &worker, listing, inputs, names, writer, reports)
         }
         Command::OfForm(..) | Command::OfMapper(..) => run_with_data(
-            alloc, command, listing, directory, names, inputs, writer, reports,
+            alloc, command, listing, path, names, inputs, writer, reports,
         ),
     }
 }
 
-/// Does a command with each file in turn, using Unicode's files in a directory.
+/// Does a command with each file in turn, using the data of a path.
 fn run_with_data<I: Inputs, W: Target, R: Reports>(
+    alloc: Global,
+    command: Command,
+    listing: Listing,
+    path: &str,
+    names: &[&str],
+    inputs: &I,
+    writer: &mut W,
+    reports: &mut R,
+) -> u8
+    ensures { RunsWithData
+        (devices (I.bytes_of inputs.now) (I.can_open inputs.now) (I.cannot_open inputs.now) (I.unrefused inputs.now)
+        (I.read_refused inputs.now) W.bytes_taken W.refusal)
+        command listing path.now (map (λ name. name.now) names.now)
+        (state writer.old (R.reports reports.old) 0) (state writer.new (R.reports reports.new) result) }
+{
+    match bytes_if_file(alloc, inputs, path) {
+        Ok(Some(prepared)) => run_with_file(
+            alloc, command, listing, path, &prepared, names, inputs, writer, reports,
+        ),
+        Ok(None) => run_with_directory(
+            alloc, command, listing, path, names, inputs, writer, reports,
+        ),
+        Err(fault) => refused(path, fault, reports),
+    }
+}
+
+/// Does a command with each file in turn, using the bytes of the file of prepared data at a path.
+fn run_with_file<I: Inputs, W: Target, R: Reports>(
+    alloc: Global,
+    command: Command,
+    listing: Listing,
+    path: &str,
+    prepared: &[u8],
+    names: &[&str],
+    inputs: &I,
+    writer: &mut W,
+    reports: &mut R,
+) -> u8
+    requires { IsFileAt
+        (devices (I.bytes_of inputs.now) (I.can_open inputs.now) (I.cannot_open inputs.now) (I.unrefused inputs.now)
+        (I.read_refused inputs.now) W.bytes_taken W.refusal)
+        path.now prepared.now }
+    ensures { RunsWithFile
+        (devices (I.bytes_of inputs.now) (I.can_open inputs.now) (I.cannot_open inputs.now) (I.unrefused inputs.now)
+        (I.read_refused inputs.now) W.bytes_taken W.refusal)
+        command listing path.now (map (λ name. name.now) names.now)
+        (state writer.old (R.reports reports.old) 0) (state writer.new (R.reports reports.new) result) }
+{
+    match run_by_data(
+        alloc, command, listing, prepared, names, inputs, writer, reports,
+    ) {
+        Ok(status) => status,
+        Err(fault) => refused(path, fault, reports),
+    }
+}
+
+/// Reports why a file of prepared data can't be used, and returns the exit status.
+fn refused<R: Reports>(path: &str, fault: Fault, reports: &mut R) -> u8
+    ensures told { Tells (R.reports reports.old) (R.reports reports.new) (path.now, fault) }
+    ensures status { result ≡ 2 }
+{
+    reports.report(Message {
+        directory: None,
+        name: path,
+        fault,
+    });
+    2
+}
+
+/// The exit status, or why the bytes of a file of prepared data can't be used: then nothing is written or reported.
+fn run_by_data<I: Inputs, W: Target, R: Reports>(
+    alloc: Global,
+    command: Command,
+    listing: Listing,
+    prepared: &[u8],
+    names: &[&str],
+    inputs: &I,
+    writer: &mut W,
+    reports: &mut R,
+) -> Result<u8, Fault>
+    ensures done { IfOk result (λ status. RunsByData
+        (devices (I.bytes_of inputs.now) (I.can_open inputs.now) (I.cannot_open inputs.now) (I.unrefused inputs.now)
+        (I.read_refused inputs.now) W.bytes_taken W.refusal)
+        command listing prepared.now (map (λ name. name.now) names.now)
+        (state writer.old (R.reports reports.old) 0) (state writer.new (R.reports reports.new) status)) }
+    ensures fault { IfErr result (IsFaultOfPrepared prepared.now command) }
+    ensures unwritten { OnErr result (writer.new ≡ writer.old) }
+    ensures untold { OnErr result (reports.new ≡ reports.old) }
+{
+    let read = PreparedData::read(alloc, prepared)?;
+    let worker = worker_by(&read, command)?;
+    Ok(over_files(alloc, &worker, listing, inputs, names, writer, reports))
+}
+
+/// Does a command with each file in turn, using Unicode's files in a directory.
+fn run_with_directory<I: Inputs, W: Target, R: Reports>(
     alloc: Global,
     command: Command,
     listing: Listing,
@@ -63,7 +170,7 @@ fn run_with_data<I: Inputs, W: Target, R: Reports>(
     writer: &mut W,
     reports: &mut R,
 ) -> u8
-    ensures { RunsWithData
+    ensures { RunsWithDirectory
         (devices (I.bytes_of inputs.now) (I.can_open inputs.now) (I.cannot_open inputs.now) (I.unrefused inputs.now)
         (I.read_refused inputs.now) W.bytes_taken W.refusal)
         command listing directory.now (map (λ name. name.now) names.now)

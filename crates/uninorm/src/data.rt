@@ -6,7 +6,7 @@ use std::env::{self, VarError};
 use std::io::ErrorKind;
 use std::{fmt, fs};
 
-/// The variable that names the directory of the data.
+/// The variable that names the data.
 const VARIABLE: &str = "UNINORM_DATA";
 
 /// Why there isn't a directory of data.
@@ -50,7 +50,7 @@ impl fmt::Display for NoData {
 /// What a user may do about it.
 const HINT: &str = "name its directory by --data or UNINORM_DATA";
 
-/// Returns the directory of the data, by the one that `--data` names, the environment and the program's own file.
+/// Returns the directory or the file of the data, by what `--data` names, the environment and the program's own file.
 ///
 /// # Errors
 /// Why there is none.
@@ -70,7 +70,7 @@ pub(crate) fn directory(rt: &HostRuntime, named: Option<&str>) -> Result<String,
     }
 }
 
-/// The directory of the data, if one is named or one of the program's own has data.
+/// The directory or the file of the data, if one is named or one of the program's own directories has data.
 fn chosen(
     rt: &HostRuntime,
     named: Option<&str>,

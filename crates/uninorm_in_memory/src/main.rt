@@ -1,5 +1,5 @@
-//! `uninorm` over memory: reads the files that the words name, and Unicode's, then runs the program over their bytes, and
-//! writes what comes of it. So the rows of runs are compared with the theorem's own function too.
+//! `uninorm` over memory: reads the files that the words name, and those of the data, then runs the program over their
+//! bytes, and writes what comes of it. So the rows of runs are compared with the theorem's own function too.
 #![tactic(auto)]
 
 use normalizer_command::arguments::{FileRequest, Request, parsed};
@@ -9,7 +9,7 @@ use std::io::{ErrorKind, Read, Write};
 use std::process::ExitCode;
 use std::{env, fs, io};
 
-/// The variable that names the directory of the data.
+/// The variable that names the data.
 const VARIABLE: &str = "UNINORM_DATA";
 
 /// The name of standard input.
@@ -55,11 +55,11 @@ fn status(rt: &HostRuntime) -> io::Result<u8> {
 }
 
 fn over_memory(rt: &HostRuntime, request: &FileRequest<'_>) -> io::Result<u8> {
-    let directory = match request.directory {
-        Some(directory) => String::from_str(rt.alloc(), directory)?,
+    let path = match request.directory {
+        Some(path) => String::from_str(rt.alloc(), path)?,
         None => variable(rt)?,
     };
-    let files = read_files(rt, directory.as_str(), &request.names)?;
+    let files = read_files(rt, path.as_str(), &request.names)?;
     let mut named = Vec::new(rt.alloc());
     for file in &files {
         let (name, bytes) = (file.name.as_str(), file.bytes.as_slice());
@@ -69,7 +69,7 @@ fn over_memory(rt: &HostRuntime, request: &FileRequest<'_>) -> io::Result<u8> {
         rt.alloc(),
         request.command,
         request.listing,
-        directory.as_str(),
+        path.as_str(),
         &request.names,
         &named,
     )?;
@@ -83,15 +83,12 @@ fn variable(rt: &HostRuntime) -> io::Result<String> {
     }
 }
 
-/// Those of the files that can be read.
-fn read_files(rt: &HostRuntime, directory: &str, names: &[&str]) -> io::Result<Vec<ReadFile>> {
+/// Those of the files that can be read: the data, as one file or in a directory, and the texts.
+fn read_files(rt: &HostRuntime, path: &str, names: &[&str]) -> io::Result<Vec<ReadFile>> {
     let mut files = Vec::new(rt.alloc());
+    push_file(rt, String::from_str(rt.alloc(), path)?, &mut files)?;
     for name in DATA {
-        push_file(
-            rt,
-            format!(in rt.alloc(); "{directory}/{name}")?,
-            &mut files,
-        )?;
+        push_file(rt, format!(in rt.alloc(); "{path}/{name}")?, &mut files)?;
     }
     for name in names {
         push_file(rt, String::from_str(rt.alloc(), name)?, &mut files)?;

@@ -1,0 +1,121 @@
+-- What works by prepared data, and why nothing does.
+use Rattle.std.proofs.Common.{◌≡◌, ◌≢◌, ◌⊎◌, inl, inr, ℕ, List, Result, Ok, Err, IfOk, refl, sym, ap, subst, ◌∙◌}
+use Rattle.icu_normalizer.specs.AnyNormalizers.{made_by}
+use Rattle.icu_normalizer.specs.Building.{Builds}
+use Rattle.icu_normalizer.specs.ByRecords.{packed_form, IsRecordedForm, MapsByRecords}
+use Rattle.icu_normalizer.specs.DataError.{DataError}
+use Rattle.icu_normalizer.specs.DataError.TheVariants as data_error
+use Rattle.icu_normalizer.specs.ComposingAcceptance.{SuitsComposing}
+use Rattle.icu_normalizer.specs.Held.{AcceptsHeld}
+use Rattle.icu_normalizer.specs.HeldForms.{IsMadeOf, RefusesForm, RefusesMapper}
+use Rattle.icu_normalizer.specs.Mappers.{mapper_data_of}
+use Rattle.icu_normalizer.specs.declared.uts46.Uts46Mapper.{Uts46Mapper}
+use Rattle.icu_normalizer.specs.NormalForms.{normal_form}
+use Rattle.icu_normalizer.specs.NormalizeError.{NormalizeError}
+use Rattle.icu_normalizer.specs.Packed.{Packed}
+use Rattle.icu_normalizer.specs.RecordValue.{RecordValue, Uts46RecordValue}
+use Rattle.icu_normalizer.specs.Uts46.{MapperData}
+use Rattle.icu_normalizer.specs.declared.any_normalizer.AnyNormalizer.{AnyNormalizer}
+use Rattle.icu_normalizer.specs.declared.any_normalizer.NormalForm.{NormalForm}
+use Rattle.icu_normalizer.proofs.PackedForms.{packed_form-made, packed_form-recorded, packed-maps}
+use Rattle.normalizer_prepared.specs.Files.{file_at, IsFirstFault}
+use Rattle.normalizer_prepared.specs.declared.fault.PreparedError.{PreparedError}
+use Rattle.normalizer_prepared.specs.declared.fault.PreparedError.TheVariants as prepared_error
+use Rattle.normalizer_prepared.proofs.decoding.Fields.{ok_is}
+use Rattle.normalizer_prepared.proofs.decoding.FileLaws.{file_again}
+use Rattle.normalizer_replies.specs.Making.{making_by, mapping_by, mapping_of, Makes, Maps}
+use Rattle.normalizer_replies.specs.declared.worker.Command.{Command}
+use Rattle.normalizer_replies.specs.declared.worker.Command.TheVariants as command
+use Rattle.normalizer_replies.proofs.MakingLemmas.{makes-ok, maps-recorded}
+use Rattle.normalizer_command.specs.PreparedFiles.{fault_of_data, fault_of_prepared, held_by, making_of, mapper_data_in, IsFaultOfData, IsFaultOfPrepared, IsFileOf, LacksMapper, RefusesWork}
+use Rattle.normalizer_command.specs.declared.fault.Fault.{Fault}
+use Rattle.normalizer_command.specs.declared.fault.Fault.TheVariants.{Memory}
+
+module _ (p : Packed) where
+  -- a normalizer that makes the form by data
+  pub makes-packed : (n : AnyNormalizer) (form : NormalForm) → made_by n ≡ packed_form p form → Makes n (making_of p form)
+  makes-packed n form held = record {
+    kind = ap (λ m. m.form) held;
+    same = λ x. ap (λ m. normal_form m.reading m.form x) held;
+  }
+
+  -- a mapper over data
+  pub maps-packed : (h : MapperData) → h ≡ mapper_data_in p → Maps h (mapping_of (mapper_data_in p))
+  maps-packed h held = record {
+    same_map = λ x. ap (λ h. (mapping_of h).map x) held;
+    same_validate = λ x. ap (λ h. (mapping_of h).validate x) held;
+  }
+
+  module _ (records : List RecordValue) (uts46 : List Uts46RecordValue) (builds : Builds records uts46 p) where
+    -- it makes what the records mean
+    pub makes-built : (n : AnyNormalizer) (form : NormalForm) → made_by n ≡ packed_form p form → Makes n (making_by records form)
+    makes-built n form held =
+        let r : Result AnyNormalizer NormalizeError = Ok n in
+        makes-ok r records p form held
+        (subst (IsRecordedForm records form) (sym held) (packed_form-recorded records uts46 p builds.means form))
+
+    pub maps-built : (h : MapperData) → h ≡ mapper_data_in p → Maps h (mapping_by records uts46)
+    maps-built h held =
+        maps-recorded h records uts46
+        (subst (MapsByRecords records uts46) (sym held) (packed-maps records uts46 p builds.means))
+
+  -- ---- the same of what may have failed
+
+  pub makes-packed-ok : (r : Result AnyNormalizer DataError) (form : NormalForm) → IfOk r (λ n. IsMadeOf form (held_by p) (made_by n)) → IfOk r (λ n. Makes n (making_of p form))
+  makes-packed-ok (Ok n) form made = makes-packed n form (packed_form-made p form (made_by n) made)
+  makes-packed-ok (Err e) form made = tt
+
+  pub maps-packed-ok : (r : Result Uts46Mapper DataError) → IfOk r (λ m. AcceptsHeld SuitsComposing (Ok (mapper_data_in p)) (mapper_data_of m)) → IfOk r (λ m. Maps (mapper_data_of m) (mapping_of (mapper_data_in p)))
+  maps-packed-ok (Ok m) held = maps-packed (mapper_data_of m) held.0
+  maps-packed-ok (Err e) held = tt
+
+  pub makes-built-ok : (r : Result AnyNormalizer DataError) (form : NormalForm) → IfOk r (λ n. IsMadeOf form (held_by p) (made_by n))
+      → (records : List RecordValue) (uts46 : List Uts46RecordValue) → Builds records uts46 p → IfOk r (λ n. Makes n (making_by records form))
+  makes-built-ok (Ok n) form made records uts46 builds = makes-built records uts46 builds n form (packed_form-made p form (made_by n) made)
+  makes-built-ok (Err e) form made records uts46 builds = tt
+
+  pub maps-built-ok : (r : Result Uts46Mapper DataError) → IfOk r (λ m. AcceptsHeld SuitsComposing (Ok (mapper_data_in p)) (mapper_data_of m))
+      → (records : List RecordValue) (uts46 : List Uts46RecordValue) → Builds records uts46 p → IfOk r (λ m. Maps (mapper_data_of m) (mapping_by records uts46))
+  maps-built-ok (Ok m) held records uts46 builds = maps-built records uts46 builds (mapper_data_of m) held.0
+  maps-built-ok (Err e) held records uts46 builds = tt
+
+-- bytes are the file of one data
+same_data : (bytes : List ℕ) (p q : Packed) → IsFileOf bytes p → IsFileOf bytes q → p ≡ q
+same_data bytes p q hp hq =
+    ok_is p q (sym (ap file_at hp.1 ∙ file_again p hp.0) ∙ (ap file_at hq.1 ∙ file_again q hq.0))
+
+-- the file of data that no constructor refuses
+module _ (p : Packed) (bytes : List ℕ) (file : IsFileOf bytes p)
+    (forms_never : (form : NormalForm) (e : DataError) → ¬ RefusesForm form (held_by p) e)
+    (mapper_never : (e : DataError) → ¬ RefusesMapper (Ok (mapper_data_in p)) e) where
+  unrefused : (command : Command) (e : DataError) → ¬ RefusesWork command p e
+  unrefused (command.OfForm task scheme mode form) e h = forms_never form e h
+  unrefused (command.OfMapper task scheme mode) e h = mapper_never e h
+  unrefused (command.WellFormed scheme) e h = h
+
+  right : (e : PreparedError) → IsFirstFault bytes e → e ≡ prepared_error.Memory
+  right prepared_error.Memory h = refl
+  right (prepared_error.Wrong fault offset) h =
+      let read : file_at bytes ≡ Ok p = ap file_at file.1 ∙ file_again p file.0 in
+      let wrong : file_at bytes ≡ Err (fault, h.0) = h.1 in
+      absurd cc
+
+  of_data : (command : Command) → ¬ LacksMapper command p → (fault : Fault) → IsFaultOfData command p fault → fault ≡ Memory
+  of_data command suits fault h = elim h [
+    | inl (e, why, is) ↦ elim why [
+      | inl memory ↦ is ∙ ap fault_of_data memory
+      | inr refuses ↦ absurd (unrefused command e refuses)
+    ]
+    | inr (lacks, is) ↦ absurd (suits lacks)
+  ]
+
+  -- a command fails by it only if memory ran out
+  pub memory-only : (command : Command) → ¬ LacksMapper command p → (fault : Fault) → IsFaultOfPrepared bytes command fault → fault ≡ Memory
+  memory-only command suits fault h = elim h [
+    | inl (e, first, is) ↦ is ∙ ap fault_of_prepared (right e first)
+    | inr (q, is_file, why) ↦
+        of_data command suits fault (subst (λ (q : Packed). IsFaultOfData command q fault) (same_data bytes q p is_file file) why)
+  ]
+
+  pub same-file : (q : Packed) → IsFileOf bytes q → q ≡ p
+  same-file q is_file = same_data bytes q p is_file file
