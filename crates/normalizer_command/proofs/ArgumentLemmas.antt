@@ -16,11 +16,11 @@ use Rattle.icu_normalizer.specs.declared.any_normalizer.NormalForm.{NormalForm}
 use Rattle.normalizer_streams.specs.declared.ill_formed.ErrorMode.{ErrorMode}
 use Rattle.normalizer_streams.specs.declared.ill_formed.ErrorMode.TheVariants.{Fatal, Replacement}
 use Rattle.normalizer_streams.specs.declared.scheme.EncodingScheme.{EncodingScheme}
-use Rattle.normalizer_replies.specs.declared.mapping.MapperTask.{MapperTask}
-use Rattle.normalizer_replies.specs.declared.reply.Task.{Task}
-use Rattle.normalizer_replies.specs.declared.reply.Task.TheVariants.{Write, Check, Locate}
-use Rattle.normalizer_replies.specs.declared.worker.Command.{Command}
-use Rattle.normalizer_replies.specs.declared.worker.Command.TheVariants.{OfForm, OfMapper, WellFormed}
+use Rattle.normalizer_command.specs.declared.mapping.MapperTask.{MapperTask}
+use Rattle.normalizer_command.specs.declared.reply.Task.{Task}
+use Rattle.normalizer_command.specs.declared.reply.Task.TheVariants.{Write, Check, Locate}
+use Rattle.normalizer_command.specs.declared.worker.Command.{Command}
+use Rattle.normalizer_command.specs.declared.worker.Command.TheVariants.{OfForm, OfMapper, WellFormed}
 use Rattle.normalizer_command.specs.Arguments.{files_of, flag_of, is_prepare, is_well_formed, word_of, AreKnown, Asks, AsksFor, HasKnownWords, IsCommandWord, IsFlag, IsMode, IsScheme, NamesForm, NamesMapperTask, NamesTask, PreparesTo, Requests}
 use Rattle.normalizer_command.specs.declared.arguments.Request.{Request}
 use Rattle.normalizer_command.specs.declared.arguments.Request.TheVariants.{Files, Prepare, Unclear, Version}

@@ -4,14 +4,14 @@ use Rattle.std.specs.Prelude.{IsErrOf}
 use Rattle.std.specs.declared.io.ErrorKind.{ErrorKind}
 use Rattle.std.proofs.Math.Seq.{drop-cons}
 use Rattle.std.proofs.Math.ListN.{drop_of_length-le}
-use Rattle.normalizer_replies.specs.declared.reply.Answer.{Answer}
+use Rattle.normalizer_command.specs.declared.reply.Answer.{Answer}
 use Rattle.normalizer_command.specs.declared.fault.Fault.{Fault}
 use Rattle.normalizer_command.specs.declared.fault.Fault.TheVariants.{Open, Read, Write, Memory, Line, Records, Prepared, IllFormed, Replaced}
 use Rattle.normalizer_command.specs.FileFaults.{IsFileFault}
 use Rattle.normalizer_command.specs.Devices.{Devices}
 use Rattle.normalizer_command.specs.declared.listing.Listing.{Listing}
 use Rattle.normalizer_command.specs.Outcomes.{AreDone, IsDone, State}
-use Rattle.normalizer_replies.specs.Works.{Work}
+use Rattle.normalizer_command.specs.Works.{Work}
 
 abbrev pub texts : List (Bor (List ℕ)) → List (List ℕ)
 texts names = map (λ name. name.now) names

@@ -7,3 +7,8 @@ pub mod KeptLemmas
 pub mod ListingLemmas
 pub mod CodePointLemmas
 pub mod PreparedLemmas
+pub mod LineLaws
+pub mod LineLemmas
+pub mod MakingLemmas
+pub mod MapperLemmas
+pub mod MismatchLemmas

@@ -5,9 +5,9 @@ use Rattle.std.proofs.KnownBytes.{Appends-nil, Appends-trans}
 use Rattle.std.proofs.Math.Seq.{take-append_seam}
 use Rattle.std.specs.Io.KnownBytes.{Appends}
 use Rattle.normalizer_io.specs.Transfer.{AppendsFront}
-use Rattle.normalizer_replies.specs.declared.reply.Answer.{Answer}
-use Rattle.normalizer_replies.specs.Works.{Work}
-use Rattle.normalizer_replies.specs.Written.{IsCutOff, IsWritten}
+use Rattle.normalizer_command.specs.declared.reply.Answer.{Answer}
+use Rattle.normalizer_command.specs.Works.{Work}
+use Rattle.normalizer_command.specs.Written.{IsCutOff, IsWritten}
 use Rattle.normalizer_command.specs.Listings.{listed, IsListed, IsListedInPart}
 use Rattle.normalizer_command.specs.Outcomes.{is_unwritten, Leaves}
 use Rattle.normalizer_command.specs.declared.fault.Fault.{Fault}

@@ -23,10 +23,10 @@ use Rattle.normalizer_prepared.specs.declared.fault.PreparedError.{PreparedError
 use Rattle.normalizer_prepared.specs.declared.fault.PreparedError.TheVariants as prepared_error
 use Rattle.normalizer_prepared.proofs.decoding.Fields.{ok_is}
 use Rattle.normalizer_prepared.proofs.decoding.FileLaws.{file_again}
-use Rattle.normalizer_replies.specs.Making.{making_by, mapping_by, mapping_of, Makes, Maps}
-use Rattle.normalizer_replies.specs.declared.worker.Command.{Command}
-use Rattle.normalizer_replies.specs.declared.worker.Command.TheVariants as command
-use Rattle.normalizer_replies.proofs.MakingLemmas.{makes-ok, maps-recorded}
+use Rattle.normalizer_command.specs.Making.{making_by, mapping_by, mapping_of, Makes, Maps}
+use Rattle.normalizer_command.specs.declared.worker.Command.{Command}
+use Rattle.normalizer_command.specs.declared.worker.Command.TheVariants as command
+use Rattle.normalizer_command.proofs.MakingLemmas.{makes-ok, maps-recorded}
 use Rattle.normalizer_command.specs.PreparedFiles.{fault_of_data, fault_of_prepared, held_by, making_of, mapper_data_in, IsFaultOfData, IsFaultOfPrepared, IsFileOf, LacksMapper, RefusesWork}
 use Rattle.normalizer_command.specs.declared.fault.Fault.{Fault}
 use Rattle.normalizer_command.specs.declared.fault.Fault.TheVariants.{Memory}

@@ -15,19 +15,19 @@ use Rattle.normalizer_streams.specs.declared.scheme.EncodingScheme.{EncodingSche
 use Rattle.normalizer_streams.specs.Mismatches.{IsComparison}
 use Rattle.normalizer_streams.specs.Schemes.{bytes_of, encoding_of, units_of}
 use Rattle.normalizer_streams.specs.Streams.{form_by, IsFormCutOff}
-use Rattle.normalizer_replies.specs.declared.reply.Answer.{Answer}
-use Rattle.normalizer_replies.specs.declared.reply.Answer.TheVariants.{Ended}
-use Rattle.normalizer_replies.specs.declared.reply.Task.{Task}
-use Rattle.normalizer_replies.specs.declared.reply.Task.TheVariants.{Write, Check, Locate}
-use Rattle.normalizer_replies.specs.declared.worker.Worker.{Worker}
-use Rattle.normalizer_replies.specs.declared.worker.Worker.TheVariants as worker
-use Rattle.normalizer_replies.specs.Making.{Makes, Making}
-use Rattle.normalizer_replies.specs.Mismatches.{TellsComparison}
-use Rattle.normalizer_replies.specs.Replies.{IsReplyOfComparison, IsReplyOfForm}
-use Rattle.normalizer_replies.specs.Works.{Does, IsOfText, OfForm, OfMapper, WellFormed, Work}
-use Rattle.normalizer_replies.proofs.MismatchLemmas.{compares-by}
+use Rattle.normalizer_command.specs.declared.reply.Answer.{Answer}
+use Rattle.normalizer_command.specs.declared.reply.Answer.TheVariants.{Ended}
+use Rattle.normalizer_command.specs.declared.reply.Task.{Task}
+use Rattle.normalizer_command.specs.declared.reply.Task.TheVariants.{Write, Check, Locate}
+use Rattle.normalizer_command.specs.declared.worker.Worker.{Worker}
+use Rattle.normalizer_command.specs.declared.worker.Worker.TheVariants as worker
+use Rattle.normalizer_command.specs.Making.{Makes, Making}
+use Rattle.normalizer_command.specs.Mismatches.{TellsComparison}
+use Rattle.normalizer_command.specs.Replies.{IsReplyOfComparison, IsReplyOfForm}
+use Rattle.normalizer_command.specs.Works.{Does, IsOfText, OfForm, OfMapper, WellFormed, Work}
+use Rattle.normalizer_command.proofs.MismatchLemmas.{compares-by}
 use Rattle.normalizer_command.specs.FileFaults.{fault_of_transfer}
-use Rattle.normalizer_replies.specs.Written.{IsCutOff, IsWritten, Replies}
+use Rattle.normalizer_command.specs.Written.{IsCutOff, IsWritten, Replies}
 use Rattle.normalizer_command.specs.Outcomes.{is_unwritten_by, Leaves}
 use Rattle.normalizer_command.specs.declared.fault.Fault.{Fault}
 use Rattle.normalizer_command.specs.declared.fault.Fault.TheVariants as fault

@@ -10,12 +10,12 @@ use Rattle.normalizer_streams.specs.declared.ill_formed.ErrorMode.TheVariants.{F
 use Rattle.normalizer_streams.specs.declared.scheme.ByteOrder.TheVariants.{Big, Little}
 use Rattle.normalizer_streams.specs.declared.scheme.EncodingScheme.{EncodingScheme}
 use Rattle.normalizer_streams.specs.declared.scheme.EncodingScheme.TheVariants.{Utf8, Utf16}
-use Rattle.normalizer_replies.specs.declared.mapping.MapperTask.{MapperTask}
-use Rattle.normalizer_replies.specs.declared.mapping.MapperTask.TheVariants.{Map, Validate}
-use Rattle.normalizer_replies.specs.declared.reply.Task.{Task}
-use Rattle.normalizer_replies.specs.declared.reply.Task.TheVariants.{Write, Check, Locate}
-use Rattle.normalizer_replies.specs.declared.worker.Command.{Command}
-use Rattle.normalizer_replies.specs.declared.worker.Command.TheVariants.{OfForm, OfMapper, WellFormed}
+use Rattle.normalizer_command.specs.declared.mapping.MapperTask.{MapperTask}
+use Rattle.normalizer_command.specs.declared.mapping.MapperTask.TheVariants.{Map, Validate}
+use Rattle.normalizer_command.specs.declared.reply.Task.{Task}
+use Rattle.normalizer_command.specs.declared.reply.Task.TheVariants.{Write, Check, Locate}
+use Rattle.normalizer_command.specs.declared.worker.Command.{Command}
+use Rattle.normalizer_command.specs.declared.worker.Command.TheVariants.{OfForm, OfMapper, WellFormed}
 use Rattle.normalizer_command.specs.declared.arguments.Flags.{Flags}
 use Rattle.normalizer_command.specs.declared.listing.LineEnd.TheVariants.{LineFeed, Nul}
 use Rattle.normalizer_command.specs.declared.listing.Listing.{Listing}

@@ -6,11 +6,11 @@ use Rattle.icu_normalizer.specs.Building.{Builds}
 use Rattle.icu_normalizer.specs.Packed.{Packed}
 use Rattle.icu_normalizer.specs.RecordValue.{RecordValue, Uts46RecordValue}
 use Rattle.normalizer_ucd.specs.declared.error.UcdFile.{UcdFile}
-use Rattle.normalizer_replies.specs.declared.reply.Answer.{Answer}
-use Rattle.normalizer_replies.specs.declared.worker.Command.{Command}
-use Rattle.normalizer_replies.specs.declared.worker.Command.TheVariants as command
-use Rattle.normalizer_replies.specs.Replies.{IsReply}
-use Rattle.normalizer_replies.specs.Works.{Work, work_by, WellFormed}
+use Rattle.normalizer_command.specs.declared.reply.Answer.{Answer}
+use Rattle.normalizer_command.specs.declared.worker.Command.{Command}
+use Rattle.normalizer_command.specs.declared.worker.Command.TheVariants as command
+use Rattle.normalizer_command.specs.Replies.{IsReply}
+use Rattle.normalizer_command.specs.Works.{Work, work_by, WellFormed}
 use Rattle.normalizer_command.specs.Listings.{listed}
 use Rattle.normalizer_command.specs.declared.listing.Listing.{Listing}
 use Rattle.normalizer_command.specs.FileReports.{Report}

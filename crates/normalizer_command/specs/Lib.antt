@@ -13,4 +13,10 @@ pub mod Listings
 pub mod CommandLine
 pub mod DataDirectory
 pub mod InMemory
+pub mod Lines
+pub mod Making
+pub mod Mismatches
+pub mod Replies
+pub mod Works
+pub mod Written
 pub mod inner

@@ -2,10 +2,10 @@
 use Rattle.std.specs.Prelude.{◌≡◌, ℕ, List, [], ◌∷◌, ◌++◌, Option}
 use Rattle.std.specs.Io.KnownBytes.{Appends}
 use Rattle.normalizer_io.specs.Transfer.{AppendsFront}
-use Rattle.normalizer_replies.specs.Works.{Work}
-use Rattle.normalizer_replies.specs.Written.{Replies}
-use Rattle.normalizer_replies.specs.declared.reply.Answer.{Answer}
-use Rattle.normalizer_replies.specs.declared.reply.Answer.TheVariants.{No}
+use Rattle.normalizer_command.specs.Works.{Work}
+use Rattle.normalizer_command.specs.Written.{Replies}
+use Rattle.normalizer_command.specs.declared.reply.Answer.{Answer}
+use Rattle.normalizer_command.specs.declared.reply.Answer.TheVariants.{No}
 use Rattle.normalizer_command.specs.declared.listing.LineEnd.{LineEnd}
 use Rattle.normalizer_command.specs.declared.listing.LineEnd.TheVariants.{LineFeed, Nul}
 use Rattle.normalizer_command.specs.declared.listing.Listing.{Listing}

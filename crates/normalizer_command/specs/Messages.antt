@@ -10,7 +10,7 @@ use Rattle.normalizer_prepared.specs.declared.fault.Fault.{Fault as FileFault}
 use Rattle.normalizer_prepared.specs.declared.fault.Fault.TheVariants as file_fault
 use Rattle.normalizer_ucd.specs.Messages.{text_of_problem}
 use Rattle.normalizer_ucd.specs.declared.error.Place.{Place}
-use Rattle.normalizer_replies.specs.Mismatches.{code_point_digits}
+use Rattle.normalizer_command.specs.Mismatches.{code_point_digits}
 use Rattle.normalizer_command.specs.declared.fault.RecordsFault.{RecordsFault}
 use Rattle.std.specs.declared.io.ErrorKind.TheVariants.{Deadlock, InvalidData, NotFound}
 use Rattle.normalizer_streams.specs.declared.scheme.EncodingScheme.TheVariants.{Utf8, Utf16}

@@ -2,19 +2,19 @@
 use Rattle.std.specs.Prelude.{◌≡◌, ◌⊎◌, ◌==◌, ℕ, List, [], ◌∷◌, Option, Some, None, Result, Ok, Err, IfOk, IfErr, IfSome, IsErrOf, OnOk}
 use Rattle.std.specs.Prelude.{Bool, true, false, MatchBool, MatchOption, nat_lt, if◌then◌else◌}
 use Rattle.normalizer_io.specs.Transfer.{IsUnrefused}
-use Rattle.normalizer_replies.specs.declared.reply.Answer.{Answer}
-use Rattle.normalizer_replies.specs.declared.reply.Answer.TheVariants.{Done, No, Ended}
+use Rattle.normalizer_command.specs.declared.reply.Answer.{Answer}
+use Rattle.normalizer_command.specs.declared.reply.Answer.TheVariants.{Done, No, Ended}
 use Rattle.normalizer_streams.specs.declared.ill_formed.Ending.TheVariants.{Whole, Stopped}
 use Rattle.normalizer_command.specs.declared.fault.Fault.{Fault}
 use Rattle.normalizer_command.specs.declared.fault.Fault.TheVariants.{IllFormed, Open, Replaced, Write}
-use Rattle.normalizer_replies.specs.declared.reply.Task.TheVariants as task
+use Rattle.normalizer_command.specs.declared.reply.Task.TheVariants as task
 use Rattle.normalizer_streams.specs.Streams.{IsEndless}
 use Rattle.normalizer_command.specs.Devices.{Devices}
 use Rattle.normalizer_command.specs.FileFaults.{IsFileFault}
 use Rattle.normalizer_command.specs.Listings.{IsListed, IsListedInPart}
 use Rattle.normalizer_command.specs.declared.listing.Listing.{Listing}
 use Rattle.normalizer_command.specs.FileReports.{Report, Tells}
-use Rattle.normalizer_replies.specs.Works.{Work, OfForm}
+use Rattle.normalizer_command.specs.Works.{Work, OfForm}
 
 -- the output, what was reported, and the exit status so far
 pub record State (W : Type 0) : Type 0 where

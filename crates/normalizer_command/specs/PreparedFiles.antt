@@ -14,10 +14,10 @@ use Rattle.normalizer_prepared.specs.Files.{IsFirstFault}
 use Rattle.normalizer_prepared.specs.Prepared.{prepared_bytes, Fits}
 use Rattle.normalizer_prepared.specs.declared.fault.PreparedError.{PreparedError}
 use Rattle.normalizer_prepared.specs.declared.fault.PreparedError.TheVariants as prepared_error
-use Rattle.normalizer_replies.specs.declared.worker.Command.{Command}
-use Rattle.normalizer_replies.specs.declared.worker.Command.TheVariants as command
-use Rattle.normalizer_replies.specs.Making.{mapping_of, Making}
-use Rattle.normalizer_replies.specs.Works.{OfForm, OfMapper, WellFormed, Work}
+use Rattle.normalizer_command.specs.declared.worker.Command.{Command}
+use Rattle.normalizer_command.specs.declared.worker.Command.TheVariants as command
+use Rattle.normalizer_command.specs.Making.{mapping_of, Making}
+use Rattle.normalizer_command.specs.Works.{OfForm, OfMapper, WellFormed, Work}
 use Rattle.normalizer_command.specs.Devices.{Devices}
 use Rattle.normalizer_command.specs.FileFaults.{IsFileFault}
 use Rattle.normalizer_command.specs.declared.fault.Fault.{Fault}

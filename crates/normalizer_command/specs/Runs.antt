@@ -6,14 +6,14 @@ use Rattle.icu_normalizer.specs.RecordValue.{RecordValue, Uts46RecordValue}
 use Rattle.normalizer_ucd.specs.declared.error.UcdFile.{UcdFile}
 use Rattle.normalizer_command.specs.declared.fault.Fault.{Fault}
 use Rattle.normalizer_command.specs.declared.listing.Listing.{Listing}
-use Rattle.normalizer_replies.specs.declared.worker.Command.{Command}
+use Rattle.normalizer_command.specs.declared.worker.Command.{Command}
 use Rattle.normalizer_command.specs.UnicodeFiles.{AreFiles, AreRecorded, IsDataFault, path_of}
 use Rattle.normalizer_command.specs.PreparedFiles.{work_of, IsDirectory, IsFileAt, IsFileOf, IsPreparedFault, LacksMapper}
 use Rattle.normalizer_command.specs.Devices.{Devices}
 use Rattle.normalizer_command.specs.Outcomes.{AreDone, State}
 use Rattle.normalizer_command.specs.FileReports.{Tells}
-use Rattle.normalizer_replies.specs.declared.worker.Command.TheVariants as command
-use Rattle.normalizer_replies.specs.Works.{work_by, WellFormed}
+use Rattle.normalizer_command.specs.declared.worker.Command.TheVariants as command
+use Rattle.normalizer_command.specs.Works.{work_by, WellFormed}
 
 -- the command is done with each file by what the lines of the data files mean
 pub record RunsByFiles {W : Type 0} (d : Devices W) (command : Command) (l : Listing) (directory : List ℕ) (names : List (List ℕ))

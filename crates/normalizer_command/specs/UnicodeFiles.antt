@@ -20,8 +20,8 @@ use Rattle.normalizer_command.specs.FileFaults.{IsFileFault}
 use Rattle.normalizer_command.specs.declared.fault.Fault.{Fault}
 use Rattle.normalizer_command.specs.declared.fault.RecordsFault.{RecordsFault}
 use Rattle.normalizer_command.specs.declared.fault.Fault.TheVariants.{Open, Read, Write, Memory, Line, Records, Prepared, IllFormed, Replaced}
-use Rattle.normalizer_replies.specs.declared.worker.Command.{Command}
-use Rattle.normalizer_replies.specs.declared.worker.Command.TheVariants.{OfForm, OfMapper, WellFormed}
+use Rattle.normalizer_command.specs.declared.worker.Command.{Command}
+use Rattle.normalizer_command.specs.declared.worker.Command.TheVariants.{OfForm, OfMapper, WellFormed}
 
 abbrev pub name_of : UcdFile → List ℕ
 name_of UnicodeData = codes "UnicodeData.txt"

@@ -1,2 +1,3 @@
 -- What the contracts of private functions alone cite.
+pub mod EachLine
 pub mod Kept

@@ -44,9 +44,9 @@ ghost use Rattle.normalizer_command.specs.CommandLine.{
 ghost use Rattle.icu_normalizer.specs.declared.any_normalizer.NormalForm.{NormalForm};
 ghost use Rattle.normalizer_streams.specs.declared.ill_formed.ErrorMode.{ErrorMode};
 ghost use Rattle.normalizer_streams.specs.declared.scheme.EncodingScheme.{EncodingScheme};
-ghost use Rattle.normalizer_replies.specs.declared.mapping.MapperTask.{MapperTask};
-ghost use Rattle.normalizer_replies.specs.declared.reply.Task.{Task};
-ghost use Rattle.normalizer_replies.specs.declared.worker.Command.{Command as FileCommand};
+ghost use Rattle.normalizer_command.specs.declared.mapping.MapperTask.{MapperTask};
+ghost use Rattle.normalizer_command.specs.declared.reply.Task.{Task};
+ghost use Rattle.normalizer_command.specs.declared.worker.Command.{Command as FileCommand};
 ghost use Rattle.normalizer_command.specs.Arguments.{
   has_reports,
   is_of_text,
@@ -70,9 +70,11 @@ ghost use Rattle.normalizer_command.specs.Arguments.{
 };
 
 use crate::listing::{LineEnd, Listing};
+use crate::mapping::MapperTask;
+use crate::reply::Task;
+use crate::worker::Command as FileCommand;
 use clap::{Arg, ArgAction, ArgMatches, Command, Error};
 use icu_normalizer::NormalForm;
-use normalizer_replies::{Command as FileCommand, MapperTask, Task};
 use normalizer_streams::{ByteOrder, EncodingScheme, ErrorMode};
 use std::alloc::{AllocError, Global};
 

@@ -125,7 +125,7 @@ fn words_of(fault: FileFault) -> &'static str
 struct CodePoint(u32);
 
 impl fmt::Display for CodePoint {
-    ghost use Rattle.normalizer_replies.specs.Mismatches.{code_point_digits};
+    ghost use Rattle.normalizer_command.specs.Mismatches.{code_point_digits};
 
     ghost output = { λ point. Some (code_point_digits point.0) };
 

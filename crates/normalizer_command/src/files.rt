@@ -20,7 +20,7 @@ ghost use Rattle.std.specs.Prelude.{
 };
 ghost use Rattle.normalizer_streams.specs.declared.scheme.EncodingScheme.{EncodingScheme};
 ghost use Rattle.std.specs.Io.KnownBytes.{Appends};
-ghost use Rattle.normalizer_replies.specs.declared.reply.Answer.{Answer};
+ghost use Rattle.normalizer_command.specs.declared.reply.Answer.{Answer};
 ghost use Rattle.normalizer_io.specs.Transfer.{AppendsFront, IsUnrefused};
 ghost use Rattle.normalizer_streams.specs.Streams.{IsEndless};
 ghost use Rattle.normalizer_command.specs.Devices.{devices};
@@ -34,20 +34,21 @@ ghost use Rattle.normalizer_command.specs.Outcomes.{
   Leaves,
 };
 ghost use Rattle.normalizer_command.specs.Listings.{byte_of, listed, IsListed, IsListedInPart};
-ghost use Rattle.normalizer_replies.specs.Written.{IsCutOff, IsWritten};
+ghost use Rattle.normalizer_command.specs.Written.{IsCutOff, IsWritten};
 ghost use Rattle.normalizer_command.specs.FileReports.{Tells};
-ghost use Rattle.normalizer_replies.specs.Making.{Makes, Making};
-ghost use Rattle.normalizer_replies.specs.Mismatches.{TellsComparison};
-ghost use Rattle.normalizer_replies.specs.Works.{Does, IsOfText, OfForm, Work};
+ghost use Rattle.normalizer_command.specs.Making.{Makes, Making};
+ghost use Rattle.normalizer_command.specs.Mismatches.{TellsComparison};
+ghost use Rattle.normalizer_command.specs.Works.{Does, IsOfText, OfForm, Work};
 
 use crate::devices::{Inputs, Reports};
 use crate::fault::Fault;
 use crate::listing::{LineEnd, Listing};
 use crate::message::Message;
+use crate::reply::{Answer, Task};
 use crate::unkept::Unkept;
+use crate::worker::Worker;
 use icu_normalizer::AnyNormalizer;
 use normalizer_io::{Source, Target, TransferError, write_all};
-use normalizer_replies::{Answer, Task, Worker};
 use normalizer_streams::{
     Comparison, EncodingScheme, Ending, ErrorMode, first_mismatch, write_form,
 };

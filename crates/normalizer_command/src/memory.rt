@@ -24,7 +24,7 @@ ghost use Rattle.icu_normalizer.specs.Building.{Builds};
 ghost use Rattle.icu_normalizer.specs.Packed.{Packed};
 ghost use Rattle.icu_normalizer.specs.RecordValue.{RecordValue, Uts46RecordValue};
 ghost use Rattle.normalizer_prepared.specs.Prepared.{prepared_bytes, Fits};
-ghost use Rattle.normalizer_replies.specs.Works.{work_by};
+ghost use Rattle.normalizer_command.specs.Works.{work_by};
 ghost use Rattle.normalizer_command.specs.InMemory.{
   bytes_in,
   effect_of,
@@ -42,11 +42,11 @@ use crate::fault::Fault;
 use crate::listing::Listing;
 use crate::message::Message;
 use crate::run::run;
+use crate::worker::Command;
 use icu_normalizer::record_laws::{
     data_that_meet_conditions_are_accepted, what_is_built_is_accepted,
 };
 use normalizer_io::{Input, Output};
-use normalizer_replies::Command;
 use std::alloc::{AllocError, Global};
 use std::io::ErrorKind;
 

@@ -7,8 +7,8 @@ ghost use Rattle.icu_normalizer.specs.HeldForms.{RefusesForm, RefusesMapper};
 ghost use Rattle.icu_normalizer.specs.Mappers.{mapper_data_of};
 ghost use Rattle.icu_normalizer.specs.RecordValue.{RecordValue, Uts46RecordValue};
 ghost use Rattle.normalizer_prepared.specs.Prepared.{prepared_in};
-ghost use Rattle.normalizer_replies.specs.Making.{making_by, mapping_by, mapping_of, Makes, Maps};
-ghost use Rattle.normalizer_replies.specs.Works.{work_by, Does};
+ghost use Rattle.normalizer_command.specs.Making.{making_by, mapping_by, mapping_of, Makes, Maps};
+ghost use Rattle.normalizer_command.specs.Works.{work_by, Does};
 ghost use Rattle.normalizer_command.specs.FileFaults.{IsFileFault};
 ghost use Rattle.normalizer_command.specs.PreparedFiles.{
   fault_of_data,
@@ -23,11 +23,11 @@ ghost use Rattle.normalizer_command.specs.PreparedFiles.{
 
 use crate::devices::Inputs;
 use crate::fault::{Fault, PreparedFault};
+use crate::worker::{Command, Worker};
 use icu_normalizer::uts46::Uts46Mapper;
 use icu_normalizer::{AnyNormalizer, DataError, FormData, MappingData, NormalForm};
 use normalizer_io::read_all;
 use normalizer_prepared::PreparedData;
-use normalizer_replies::{Command, Worker};
 use std::alloc::Global;
 
 /// The bytes of the file of a path, if it can be opened.

@@ -16,7 +16,7 @@ ghost use Rattle.normalizer_command.specs.Runs.{
   RunsWithDirectory,
   RunsWithFile,
 };
-ghost use Rattle.normalizer_replies.specs.Works.{work_by};
+ghost use Rattle.normalizer_command.specs.Works.{work_by};
 
 use crate::devices::{Inputs, Reports};
 use crate::fault::Fault;
@@ -25,10 +25,10 @@ use crate::listing::Listing;
 use crate::message::Message;
 use crate::prepared_files::{bytes_if_file, worker_by};
 use crate::unicode_files::{DataFault, built, name_of, read_files};
+use crate::worker::{Command, Worker, worker_for};
 use icu_normalizer::{Built, NormalizeError};
 use normalizer_io::Target;
 use normalizer_prepared::PreparedData;
-use normalizer_replies::{Command, Worker, worker_for};
 use normalizer_ucd::UcdFile;
 use std::alloc::Global;
 

@@ -26,9 +26,9 @@ ghost use Rattle.normalizer_ucd.specs.FallibleReads.{Gives};
 
 use crate::devices::Inputs;
 use crate::fault::{Fault, RecordsFault};
+use crate::worker::Command;
 use icu_normalizer::{BuildError, Built, Record, Records, Uts46Record};
 use normalizer_io::read_all;
-use normalizer_replies::Command;
 use normalizer_ucd::{
     Disallowed, Place, UcdError, UcdFile, place_of_record, records_of_unicode_data,
     uts46_records_beside_exclusions,

@@ -9,13 +9,13 @@ use Rattle.normalizer_ucd.specs.UnicodeData.{records_of}
 use Rattle.normalizer_streams.specs.declared.ill_formed.ErrorMode.TheVariants.{Replacement}
 use Rattle.normalizer_streams.specs.declared.ill_formed.Ending.TheVariants.{Whole, Stopped}
 use Rattle.normalizer_streams.specs.declared.scheme.EncodingScheme.{EncodingScheme}
-use Rattle.normalizer_replies.specs.declared.reply.Answer.{Answer}
-use Rattle.normalizer_replies.specs.declared.reply.Answer.TheVariants.{Done, No, Ended}
-use Rattle.normalizer_replies.specs.declared.reply.Task.TheVariants.{Write}
-use Rattle.normalizer_replies.specs.declared.worker.Command.{Command}
-use Rattle.normalizer_replies.specs.declared.worker.Command.TheVariants.{OfForm}
-use Rattle.normalizer_replies.specs.Making.{Making, making_by}
-use Rattle.normalizer_replies.specs.Replies.{IsReplyOfForm}
+use Rattle.normalizer_command.specs.declared.reply.Answer.{Answer}
+use Rattle.normalizer_command.specs.declared.reply.Answer.TheVariants.{Done, No, Ended}
+use Rattle.normalizer_command.specs.declared.reply.Task.TheVariants.{Write}
+use Rattle.normalizer_command.specs.declared.worker.Command.{Command}
+use Rattle.normalizer_command.specs.declared.worker.Command.TheVariants.{OfForm}
+use Rattle.normalizer_command.specs.Making.{Making, making_by}
+use Rattle.normalizer_command.specs.Replies.{IsReplyOfForm}
 use Rattle.normalizer_command.specs.InMemory.{bytes_in, Effect, IsEffectOf, LacksDataInMemory, NamedBytes, RunsInMemory}
 use Rattle.normalizer_command.specs.Outcomes.{greater, status_of}
 use Rattle.normalizer_command.specs.UnicodeFiles.{IsFaultOf, NeedsFile, path_of}

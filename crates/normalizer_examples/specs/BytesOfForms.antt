@@ -7,7 +7,7 @@ use Rattle.normalizer_ucd.specs.UnicodeData.{records_of}
 use Rattle.normalizer_ucd.specs.declared.error.UcdFile.{UcdFile}
 use Rattle.normalizer_streams.specs.Schemes.{bytes_of, encoding_of, units_of}
 use Rattle.normalizer_streams.specs.declared.scheme.EncodingScheme.{EncodingScheme}
-use Rattle.normalizer_replies.specs.Making.{Making, making_by}
+use Rattle.normalizer_command.specs.Making.{Making, making_by}
 use Rattle.normalizer_command.specs.UnicodeFiles.{IsFaultOf}
 use Rattle.normalizer_command.specs.declared.fault.Fault.{Fault}
 use Rattle.normalizer_command.specs.declared.fault.Fault.TheVariants.{Memory}

@@ -5,7 +5,8 @@ ghost use Rattle.normalizer_examples.specs.BytesOfForms.{AreBytesOfForm, MakeNoD
 use icu_normalizer::NormalForm;
 use normalizer_command::listing::Listing;
 use normalizer_command::memory::{NamedFile, run_in_memory};
-use normalizer_replies::{Command, Task};
+use normalizer_command::reply::Task;
+use normalizer_command::worker::Command;
 use normalizer_streams::{EncodingScheme, ErrorMode};
 use std::alloc::{AllocError, Global};
 

@@ -1,7 +1,7 @@
 use Rattle.std.proofs.Common.{drop, map}
 use Rattle.normalizer_command.specs.Devices.{devices}
 use Rattle.normalizer_command.specs.Outcomes.{AreDone, State, state}
-use Rattle.normalizer_replies.specs.Works.{Does, Work}
+use Rattle.normalizer_command.specs.Works.{Does, Work}
 use Rattle.normalizer_command.proofs.files.over_files.Given as goal
 
 -- what follows for the files that are left follows for all

@@ -1,6 +1,6 @@
 use Rattle.std.proofs.Common.{◌≢◌, arith, inr, rules}
 use Rattle.std.proofs.lemmas.Grind.{common_steps}
-use Rattle.normalizer_replies.specs.declared.reply.Task.TheVariants.{Write}
+use Rattle.normalizer_command.specs.declared.reply.Task.TheVariants.{Write}
 use Rattle.normalizer_command.proofs.FileLemmas.{fault_of_reply}
 use Rattle.normalizer_command.proofs.WriteLemmas.{comparison_left, comparison_written, form_left}
 use Rattle.normalizer_command.proofs.files.over_form.Goals as goal
