@@ -1,6 +1,6 @@
 -- A run over files in memory, by what it does over devices.
-use Rattle.std.proofs.Common.{◌≡◌, ◌≢◌, ◌⊎◌, inl, inr, ℕ, ◌+◌, ◌<◌, ◌≤◌, Bool, true, false, List, [], ◌∷◌, ◌++◌, Option, Some, None, Result, Ok, Err, IfOk, IfSome, MatchOption, refl, sym, ap, subst, ◌∙◌, arith, append_assoc, append-nil, length}
-use Rattle.std.specs.Prelude.{All, IsErrOf, IsSomeAnd, nat_lt, if◌then◌else◌, ⊤}
+use Rattle.std.proofs.Common.{◌≡◌, ◌⊎◌, inl, inr, ℕ, Bool, true, false, List, [], ◌∷◌, ◌++◌, Option, Some, None, Result, Ok, Err, IfOk, IfSome, MatchOption, refl, sym, ap, subst, ◌∙◌, arith, append_assoc, append-nil, length}
+use Rattle.std.specs.Prelude.{All, IsErrOf, nat_lt, ⊤}
 use Rattle.std.specs.Option.{option_map, option_to_list}
 use Rattle.std.specs.Io.KnownBytes.{Appends}
 use Rattle.std.proofs.Math.Seq.{drop-append_seam, take-append_seam}
@@ -23,10 +23,10 @@ use Rattle.normalizer_command.specs.Devices.{Devices, devices}
 use Rattle.normalizer_command.specs.FileReports.{Report, Tells}
 use Rattle.normalizer_command.specs.FileFaults.{IsFileFault}
 use Rattle.normalizer_command.specs.InMemory.{bytes_in, effect_of, reports_of, AreHandled, Effect, IsEffectOf, IsEffectOfData, IsFaultInMemory, IsHandled, IsThere, LacksDataInMemory, LacksPreparedInMemory, NamedBytes, RunsByDataInMemory, RunsInMemory}
-use Rattle.normalizer_command.specs.Outcomes.{fault_told, greater, status_of, AreDone, IsDone, State, state}
+use Rattle.normalizer_command.specs.Outcomes.{fault_told, greater, status_of, AreDone, IsDone, State}
 use Rattle.normalizer_command.specs.PreparedFiles.{work_of, IsFaultOfPrepared, IsFileAt, IsFileOf}
 use Rattle.normalizer_command.specs.Runs.{IsRun, LacksData, LacksPrepared, RunsByData, RunsByFiles, RunsWithData, RunsWithDirectory, RunsWithFile}
-use Rattle.normalizer_command.specs.UnicodeFiles.{path_of, IsDataFault, IsReadFault}
+use Rattle.normalizer_command.specs.UnicodeFiles.{path_of, IsReadFault}
 use Rattle.normalizer_command.specs.inner.Kept.{is_refusal, IsOfData}
 use Rattle.normalizer_command.specs.declared.memory.Outcome.{Outcome}
 use Rattle.normalizer_command.specs.declared.fault.Fault.{Fault}

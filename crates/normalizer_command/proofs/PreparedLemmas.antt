@@ -1,10 +1,9 @@
 -- What works by prepared data, and why nothing does.
-use Rattle.std.proofs.Common.{◌≡◌, ◌≢◌, ◌⊎◌, inl, inr, ℕ, List, Result, Ok, Err, IfOk, refl, sym, ap, subst, ◌∙◌}
+use Rattle.std.proofs.Common.{◌≡◌, inl, inr, ℕ, List, Result, Ok, Err, IfOk, refl, sym, ap, subst, ◌∙◌}
 use Rattle.icu_normalizer.specs.AnyNormalizers.{made_by}
 use Rattle.icu_normalizer.specs.Building.{Builds}
 use Rattle.icu_normalizer.specs.ByRecords.{packed_form, IsRecordedForm, MapsByRecords}
 use Rattle.icu_normalizer.specs.DataError.{DataError}
-use Rattle.icu_normalizer.specs.DataError.TheVariants as data_error
 use Rattle.icu_normalizer.specs.ComposingAcceptance.{SuitsComposing}
 use Rattle.icu_normalizer.specs.Held.{AcceptsHeld}
 use Rattle.icu_normalizer.specs.HeldForms.{IsMadeOf, RefusesForm, RefusesMapper}

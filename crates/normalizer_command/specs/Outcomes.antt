@@ -1,5 +1,5 @@
 -- What becomes of files, one after another.
-use Rattle.std.specs.Prelude.{◌≡◌, ◌⊎◌, ◌==◌, ℕ, List, [], ◌∷◌, Option, Some, None, Result, Ok, Err, IfOk, IfErr, IfSome, IsErrOf, OnOk}
+use Rattle.std.specs.Prelude.{◌≡◌, ◌⊎◌, ◌==◌, ℕ, List, [], ◌∷◌, Option, Some, None, Result, Ok, Err, IfOk, IfErr, IsErrOf, OnOk}
 use Rattle.std.specs.Prelude.{Bool, true, false, MatchBool, MatchOption, nat_lt, if◌then◌else◌}
 use Rattle.normalizer_io.specs.Transfer.{IsUnrefused}
 use Rattle.normalizer_command.specs.declared.reply.Answer.{Answer}

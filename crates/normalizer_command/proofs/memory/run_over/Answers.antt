@@ -1,4 +1,4 @@
-use Rattle.std.proofs.Common.{◌≡◌, true, List, arith, refl, rules}
+use Rattle.std.proofs.Common.{◌≡◌, true, arith, refl, rules}
 use Rattle.std.specs.Prelude.{All, Some, ⊤}
 use Rattle.std.proofs.lemmas.Grind.{common_steps}
 use Rattle.normalizer_command.specs.InMemory.{files_of}
