@@ -1,5 +1,6 @@
 //! A sink over a buffer of a caller.
 ghost use Rattle.std.specs.Prelude.{◌≡◌, ◌≤◌, ◌-◌, ◌++◌, ◌^◌, length, drop, min, take};
+ghost use Rattle.std.specs.Char.{encode_utf8};
 ghost use Rattle.icu_normalizer_c.specs.Overwriting.{overwritten};
 
 use crate::history::History;
@@ -56,6 +57,32 @@ impl<'a, T: Copy> Buffer<'a, T> {
     }
 }
 
+impl<'a> Buffer<'a, u8> {
+    /// Takes a character in UTF-8: up to three bytes are stored without an array between.
+    #[inline(always)]
+    fn take_in_utf8(&mut self, c: char)
+        ensures same_reference { self.new.units.ghost_name ≡ self.old.units.ghost_name }
+        ensures room { length self.new.units.now ≡ length self.old.units.now }
+        ensures history { self.new.history.units ≡ self.old.history.units ++ encode_utf8 c }
+    {
+        let number = c as u32;
+        if number < 0x80 {
+            self.take(&[number as u8]);
+        } else if number < 0x800 {
+            self.take(&[(0xC0 + number / 64) as u8, (0x80 + number % 64) as u8]);
+        } else if number < 0x10000 {
+            self.take(&[
+                (0xE0 + number / 4096) as u8,
+                (0x80 + number / 64 % 64) as u8,
+                (0x80 + number % 64) as u8,
+            ]);
+        } else {
+            let mut bytes = [0; 4];
+            self.take(c.encode_utf8(&mut bytes).as_bytes());
+        }
+    }
+}
+
 impl<'a> Write for Buffer<'a, u8> {
     ghost use Rattle.icu_normalizer.specs.Sinks.{TakesNothing};
     ghost use Rattle.icu_normalizer_c.specs.Taken.{taken_by};
@@ -72,8 +99,7 @@ impl<'a> Write for Buffer<'a, u8> {
     }
 
     fn write_char(&mut self, c: char) -> Result<(), SinkError> {
-        let mut bytes = [0; 4];
-        self.take(c.encode_utf8(&mut bytes).as_bytes());
+        self.take_in_utf8(c);
         Ok(())
     }
 }
