@@ -1,5 +1,6 @@
 -- What the contracts of private functions alone cite.
 pub mod Backwards
+pub mod Leads
 pub mod PairMembers
 pub mod PassedMembers
 pub mod Trails

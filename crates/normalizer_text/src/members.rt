@@ -1,5 +1,5 @@
 //! Passing over characters that are all in a set.
-ghost use Rattle.std.specs.Prelude.{◌≡◌, ◌+◌, ◌<◌, ◌≤◌, ℕ, List, length, take, drop, slice_index, min, nat_lt, IsTrue};
+ghost use Rattle.std.specs.Prelude.{◌≡◌, ◌+◌, ◌<◌, ◌≤◌, if◌then◌else◌, ℕ, List, length, take, drop, slice_index, min, nat_lt, IsTrue};
 ghost use Rattle.std.specs.ControlFlow.{ForContinue, MatchControlFlow};
 ghost use Rattle.std.specs.List.{prefix_len};
 ghost use Rattle.normalizer_sets.specs.CharacterSets.{has};
@@ -7,24 +7,19 @@ ghost use Rattle.normalizer_text.specs.DecodingSteps.{steps, IsBoundary};
 ghost use Rattle.normalizer_text.specs.Encodings.{Encoding, first_in};
 ghost use Rattle.normalizer_text.specs.Scans.{leading_below, low_byte, width_in, width_within, EndsLowCharacters};
 ghost use Rattle.normalizer_text.specs.Utf16.{first_of_utf16};
-ghost use Rattle.normalizer_text.specs.inner.PairMembers.{width_of_pairs_in};
-ghost use Rattle.normalizer_text.specs.inner.PassedMembers.{end_within, IsPassed};
+ghost use Rattle.normalizer_text.specs.inner.Leads.{width_led_by, IsLead};
+ghost use Rattle.normalizer_text.specs.inner.PairMembers.{has_pair_in_front};
+ghost use Rattle.normalizer_text.specs.inner.PassedMembers.{end_within, IsPassed, IsPassedTo};
 
+use crate::decoding_step::Step;
+use crate::units::Units;
+use crate::utf8::Lead;
 use crate::{scan, utf8, utf16};
 use normalizer_sets::CharacterSet;
 use std::ops::ControlFlow;
 
 /// Bytes below this are characters by themselves.
 const ASCII: u32 = 0x80;
-
-/// The least byte that begins a sequence of two.
-const LEAD_OF_TWO: u32 = 0xC2;
-
-/// The least byte that begins a sequence of three.
-const LEAD_OF_THREE: u32 = 0xE0;
-
-/// The least byte that begins a sequence of four.
-const LEAD_OF_FOUR: u32 = 0xF0;
 
 /// How many 16-bit units are looked up together.
 const GROUP: usize = 4;
@@ -58,11 +53,23 @@ pub(crate) trait Members: Copy {
         requires { position < length (units self) }
         ensures { result ≡ nat_lt (slice_index (units self) position) limit };
 
-    /// How many units the step at a position takes, if the set has its character, and otherwise 0.
-    fn member_at(self, position: usize, set: &CharacterSet) -> usize
-        requires within { position < length (units self) }
+    /// The step at a position.
+    fn step_at(self, position: usize) -> Step
+        requires { position < length (units self) }
+        ensures { result ≡ first_in encoding (drop position (units self)) };
+
+    /// Whether the unit at a position is such a lead.
+    fn is_lead_at(self, position: usize, lead: Lead) -> bool
+        requires { position < length (units self) }
+        ensures { IsTrue result → IsLead lead (slice_index (units self) position) };
+
+    /// Whether the set has the character of the step at a position, which begins with such a lead.
+    fn has_member_led_by(self, position: usize, lead: Lead, set: &CharacterSet) -> bool
+        requires room { position + width_led_by lead ≤ length (units self) }
+        requires lead { IsLead lead (slice_index (units self) position) }
         requires boundary { IsBoundary (first_in encoding) (units self) position }
-        ensures { result ≡ width_in (has set.now) (first_in encoding (drop position (units self))) };
+        ensures { width_in (has set.now) (first_in encoding (drop position (units self)))
+            ≡ (if result then width_led_by lead else 0) };
 
     /// A law: a step ends with units below such a limit, and the characters up to there are below the bound.
     fn low_units_are_of_low_characters(self)
@@ -99,41 +106,64 @@ fn passed_members<M: Members>(
     let limit = units.low_unit(set.first_missing());
     let mut end = units.end_of_below(position, limit);
     while end < units.len() {
-        end = passed_members_led_by(units, end, set, LEAD_OF_TWO, LEAD_OF_THREE)?;
-        end = passed_members_led_by(units, end, set, LEAD_OF_THREE, LEAD_OF_FOUR)?;
+        end = passed_members_led_by(units, end, set, Lead::OfTwo)?;
+        end = passed_members_led_by(units, end, set, Lead::OfThree)?;
         // A single low unit, as a space between words, is looked up faster than a vector is read.
         if end < units.len() && begins_low_run(units, end, limit) {
             end = units.end_of_below(end, limit);
         } else {
-            end = passed_member(units, end, set)?;
+            end = passed_others(units, end, set)?;
         }
     }
     ControlFlow::Continue(end)
 }
 
-/// Passes over members as long as they begin with units from one number up to another: then the branches on their width
-/// are foreseen, and the next one is read before this one is looked up.
+/// Passes over members as long as they begin with leads of a kind. The test of each is a branch, and what is added a
+/// constant, so that the next one is read before this one is looked up.
 #[inline(always)]
 fn passed_members_led_by<M: Members>(
     units: M,
     position: usize,
     set: &CharacterSet,
-    least: u32,
-    limit: u32,
+    lead: Lead,
 ) -> ControlFlow<usize, usize>
     requires { IsBoundary (first_in M.encoding) (M.units units) position }
     ensures { IsPassed (has set.now) M.encoding (M.units units) position result }
 {
+    let width = lead.width();
     let mut end = position;
-    while end < units.len() && !units.is_below_at(end, least) && units.is_below_at(end, limit) {
-        end = passed_member(units, end, set)?;
+    while units.len() - end >= width && units.is_lead_at(end, lead) {
+        if !units.has_member_led_by(end, lead, set) {
+            return ControlFlow::Break(end);
+        }
+        end += width;
     }
     ControlFlow::Continue(end)
 }
 
-/// Passes over a member, and breaks off at the end or at a step that is none.
+/// Passes over members of one unit, then of four, or else over one step of any width. It breaks off at the end, and at a
+/// step that is no member.
 #[inline(always)]
-fn passed_member<M: Members>(
+fn passed_others<M: Members>(
+    units: M,
+    position: usize,
+    set: &CharacterSet,
+) -> ControlFlow<usize, usize>
+    requires { IsBoundary (first_in M.encoding) (M.units units) position }
+    ensures passed { IsPassed (has set.now) M.encoding (M.units units) position result }
+    ensures further { ForContinue result (λ end. position < end) }
+{
+    let singles = passed_members_led_by(units, position, set, Lead::OfOne)?;
+    let end = passed_members_led_by(units, singles, set, Lead::OfFour)?;
+    if end == position {
+        return passed_step(units, position, set);
+    }
+    ControlFlow::Continue(end)
+}
+
+/// Passes over a step whose character is a member, and breaks off at the end or at a step that is none.
+#[inline(never)]
+fn passed_step<M: Members>(
     units: M,
     position: usize,
     set: &CharacterSet,
@@ -145,11 +175,11 @@ fn passed_member<M: Members>(
     if position == units.len() {
         return ControlFlow::Break(position);
     }
-    let width = units.member_at(position, set);
-    if width == 0 {
+    let step = units.step_at(position);
+    if !set.contains(step.character) {
         return ControlFlow::Break(position);
     }
-    ControlFlow::Continue(position + width)
+    ControlFlow::Continue(position + step.width)
 }
 
 /// Whether the unit at a position and the one after it are below a limit.
@@ -189,9 +219,18 @@ impl<'a> Members for &'a str {
         u32::from(self.as_bytes()[position]) < limit
     }
 
+    fn step_at(self, position: usize) -> Step {
+        <&'a str as Units>::step_at(self, position)
+    }
+
     #[inline(always)]
-    fn member_at(self, position: usize, set: &CharacterSet) -> usize {
-        utf8::member_of_well_formed(&self.as_bytes()[position..], set)
+    fn is_lead_at(self, position: usize, lead: Lead) -> bool {
+        lead.is(self.as_bytes()[position])
+    }
+
+    #[inline(always)]
+    fn has_member_led_by(self, position: usize, lead: Lead, set: &CharacterSet) -> bool {
+        utf8::has_well_formed_led_by(&self.as_bytes()[position..], lead, set)
     }
 
     fn low_units_are_of_low_characters(self) {}
@@ -223,9 +262,18 @@ impl<'a> Members for &'a [u8] {
         u32::from(self[position]) < limit
     }
 
+    fn step_at(self, position: usize) -> Step {
+        <&'a [u8] as Units>::step_at(self, position)
+    }
+
     #[inline(always)]
-    fn member_at(self, position: usize, set: &CharacterSet) -> usize {
-        utf8::member(&self[position..], set)
+    fn is_lead_at(self, position: usize, lead: Lead) -> bool {
+        lead.is(self[position])
+    }
+
+    #[inline(always)]
+    fn has_member_led_by(self, position: usize, lead: Lead, set: &CharacterSet) -> bool {
+        utf8::has_led_by(&self[position..], lead, set)
     }
 
     fn low_units_are_of_low_characters(self) {}
@@ -240,24 +288,43 @@ pub(crate) fn end_of_unit_members(units: &[u16], position: usize, set: &Characte
 {
     let mut end = position;
     while end < units.len() {
-        let pairs = end_of_single_members(units, end, set);
-        end = end_of_pair_members(units, pairs, set);
-        if end == pairs {
+        end = end_of_single_members(units, end, set);
+        if !has_pair_at(units, end, set) {
             return end;
         }
+        end = end_of_mixed_members(units, end + 2, set);
     }
     end
 }
 
-/// Returns the end of the surrogate pairs from a position on whose characters are members.
+/// Whether a surrogate pair whose character is a member is at a position.
 #[inline(always)]
-fn end_of_pair_members(units: &[u16], position: usize, set: &CharacterSet) -> usize
+fn has_pair_at(units: &[u16], position: usize, set: &CharacterSet) -> bool
     requires { position ≤ length units.now }
-    ensures { result ≡ position + width_of_pairs_in (has set.now) (drop position units.now) }
+    ensures { result ≡ has_pair_in_front (has set.now) (drop position units.now) }
+{
+    units.len() - position >= 2 && utf16::has_pair(units[position], units[position + 1], set)
+}
+
+/// Returns an end of members, pairs among them: up to as many single ones as are looked up together. Where pairs are
+/// mixed with single units, it is faster to look up each.
+#[inline(never)]
+fn end_of_mixed_members(units: &[u16], position: usize, set: &CharacterSet) -> usize
+    requires { IsBoundary first_of_utf16 units.now position }
+    ensures { IsPassedTo (has set.now) Encoding.Utf16 units.now position result }
 {
     let mut end = position;
-    while units.len() - end >= 2 && utf16::has_pair(units[end], units[end + 1], set) {
-        end += 2;
+    let mut singles = 0;
+    while end < units.len() && singles < GROUP {
+        if has_pair_at(units, end, set) {
+            end += 2;
+            singles = 0;
+        } else if set.has_unit(units[end]) {
+            end += 1;
+            singles += 1;
+        } else {
+            return end;
+        }
     }
     end
 }

@@ -154,6 +154,9 @@ impl<A: Allocator> Write16 for Vec<u16, A> {
         ensures answer { AnswersGrowth (λ v. v.items) self.old (encode_utf16 c) result self.new }
         ensures full { OnErr result (vec_capacity self.old < vec_len self.old + length (encode_utf16 c)) }
     {
+        if let Ok(unit) = u16::try_from(c as u32) {
+            return self.push(unit).map_err(|_| SinkError);
+        }
         let mut buffer = [0; 2];
         self.extend_from_slice(c.encode_utf16(&mut buffer))
             .map_err(|_| SinkError)

@@ -1,11 +1,13 @@
 //! Decoding bytes that may not be UTF-8, with U+FFFD for ill-formed sequences (The Unicode Standard, section 3.9).
-ghost use Rattle.std.specs.Prelude.{◌≡◌, ◌+◌, ◌<◌, ◌≤◌, IsTrue, length, option_map, slice_index, slice_index_or};
+ghost use Rattle.std.specs.Prelude.{◌≡◌, ◌+◌, ◌<◌, ◌≤◌, if◌then◌else◌, IsTrue, length, option_map, slice_index, slice_index_or};
 ghost use Rattle.std.specs.Str.{continuation_len};
 ghost use Rattle.normalizer_sets.specs.CharacterSets.{has};
 ghost use Rattle.normalizer_text.specs.Scans.{low_byte, width_in};
 ghost use Rattle.normalizer_text.specs.DecodingSteps.{IsWellFormed};
 ghost use Rattle.normalizer_text.specs.Utf8.{continuation, allows, row_of, matched_count, scalar_value, first_of_utf8};
 ghost use Rattle.normalizer_text.specs.MaximalSubparts.{IsWellFormedSequence};
+ghost use Rattle.normalizer_text.specs.declared.utf8.Lead.{Lead};
+ghost use Rattle.normalizer_text.specs.inner.Leads.{width_led_by, IsLead};
 ghost use Rattle.normalizer_text.specs.inner.Trails.{BeginsWithSequence, LeadsFour, LeadsThree};
 
 use crate::decoding_step::Step;
@@ -17,6 +19,45 @@ pub(crate) fn is_continuation(byte: u8) -> bool
     ensures { result ≡ allows continuation byte }
 {
     0x80 <= byte && byte <= 0xBF
+}
+
+/// The bytes that begin sequences, by how many bytes these have.
+#[derive(Clone, Copy)]
+pub(crate) enum Lead {
+    OfOne,
+    OfTwo,
+    OfThree,
+    OfFour,
+}
+
+impl Lead {
+    ghost use Rattle.normalizer_text.specs.inner.Leads.{width_led_by, IsLead};
+
+    /// How many bytes such a sequence has.
+    #[inline(always)]
+    pub(crate) fn width(self) -> usize
+        ensures { result ≡ width_led_by self }
+    {
+        match self {
+            Lead::OfOne => 1,
+            Lead::OfTwo => 2,
+            Lead::OfThree => 3,
+            Lead::OfFour => 4,
+        }
+    }
+
+    /// Whether a byte is such a lead.
+    #[inline(always)]
+    pub(crate) fn is(self, byte: u8) -> bool
+        ensures { IsTrue result → IsLead self byte }
+    {
+        match self {
+            Lead::OfOne => byte <= 0x7F,
+            Lead::OfTwo => 0xC2 <= byte && byte <= 0xDF,
+            Lead::OfThree => 0xE0 <= byte && byte <= 0xEF,
+            Lead::OfFour => 0xF0 <= byte && byte <= 0xF4,
+        }
+    }
 }
 
 /// The bytes that may follow a first byte: how many, and the range of the first of them; the others are of 80 to BF.
@@ -138,27 +179,15 @@ pub(crate) fn first_step_of_well_formed(bytes: &[u8]) -> Step
     Step::read(character_of(&bytes[..width]), width)
 }
 
-/// How many bytes the first step of well-formed bytes takes, if the set has its character, otherwise 0.
+/// Whether a set has the character of the first step of well-formed bytes that begin with a lead.
 #[inline(always)]
-pub(crate) fn member_of_well_formed(bytes: &[u8], set: &CharacterSet) -> usize
-    requires some { 0 < length bytes.now }
+pub(crate) fn has_well_formed_led_by(bytes: &[u8], lead: Lead, set: &CharacterSet) -> bool
+    requires room { width_led_by lead ≤ length bytes.now }
+    requires lead { IsLead lead (slice_index bytes.now 0) }
     requires well_formed { IsWellFormed first_of_utf8 bytes.now }
-    ensures { result ≡ width_in (has set.now) (first_of_utf8 bytes.now) }
+    ensures { width_in (has set.now) (first_of_utf8 bytes.now) ≡ (if result then width_led_by lead else 0) }
 {
-    member_of_width(bytes, length_of_sequence(bytes[0]), set)
-}
-
-/// The same of bytes that begin with a sequence of so many.
-#[inline(always)]
-fn member_of_width(bytes: &[u8], width: usize, set: &CharacterSet) -> usize
-    requires { BeginsWithSequence bytes.now width }
-    ensures { result ≡ width_in (has set.now) (first_of_utf8 bytes.now) }
-{
-    if has_sequence(&bytes[..width], set) {
-        width
-    } else {
-        0
-    }
+    has_sequence(&bytes[..lead.width()], set)
 }
 
 /// Whether a set has the character of a well-formed sequence: the bit is found by the bytes.
@@ -337,67 +366,89 @@ fn first_step_of_more(bytes: &[u8]) -> Step
     Step::read(character_of(&bytes[..width]), width)
 }
 
-/// How many bytes the first step of bytes that aren't empty takes, if the set has its character, otherwise 0.
+/// Whether a set has the character of the first step of bytes that begin with a lead.
 #[inline(always)]
-pub(crate) fn member(bytes: &[u8], set: &CharacterSet) -> usize
-    requires { 0 < length bytes.now }
-    ensures { result ≡ width_in (has set.now) (first_of_utf8 bytes.now) }
+pub(crate) fn has_led_by(bytes: &[u8], lead: Lead, set: &CharacterSet) -> bool
+    requires room { width_led_by lead ≤ length bytes.now }
+    requires lead { IsLead lead (slice_index bytes.now 0) }
+    ensures { width_in (has set.now) (first_of_utf8 bytes.now) ≡ (if result then width_led_by lead else 0) }
 {
-    let lead = bytes[0];
-    if lead < 0x80 {
-        if set.has_unit(lead as u16) { 1 } else { 0 }
-    } else if lead < 0xE0 && begins_with_two(bytes) {
-        member_of_width(bytes, 2, set)
-    } else if 0xE0 <= lead && lead <= 0xEF {
-        member_of_three(bytes, set)
-    } else if 0xF0 <= lead && begins_with_four(bytes) {
-        member_of_width(bytes, 4, set)
-    } else {
-        member_of_others(bytes, set)
+    match lead {
+        Lead::OfOne => has_one(bytes, set),
+        Lead::OfTwo => has_two(bytes, set),
+        Lead::OfThree => has_three(bytes, set),
+        Lead::OfFour => has_four(bytes, set),
     }
 }
 
-/// The same of bytes whose first one begins sequences of three. No set has surrogates, and the blocks below 32 have no
-/// sequence of three, so that the first two bytes need no further tests.
+/// The same of the leads of one, which are characters by themselves.
 #[inline(always)]
-fn member_of_three(bytes: &[u8], set: &CharacterSet) -> usize
-    requires some { 0 < length bytes.now }
-    requires lead { (0xE0 ≤ slice_index bytes.now 0) × (slice_index bytes.now 0 ≤ 0xEF) }
-    ensures { result ≡ width_in (has set.now) (first_of_utf8 bytes.now) }
+fn has_one(bytes: &[u8], set: &CharacterSet) -> bool
+    requires room { 1 ≤ length bytes.now }
+    requires lead { IsLead Lead.OfOne (slice_index bytes.now 0) }
+    ensures { width_in (has set.now) (first_of_utf8 bytes.now) ≡ (if result then 1 else 0) }
 {
-    if bytes.len() < 3 {
-        return 0;
-    }
+    set.has_unit(bytes[0] as u16)
+}
+
+/// The same of the leads of two.
+#[inline(always)]
+fn has_two(bytes: &[u8], set: &CharacterSet) -> bool
+    requires room { 2 ≤ length bytes.now }
+    requires lead { IsLead Lead.OfTwo (slice_index bytes.now 0) }
+    ensures { width_in (has set.now) (first_of_utf8 bytes.now) ≡ (if result then 2 else 0) }
+{
     if !is_continuation(bytes[1]) {
-        return 0;
+        return false;
+    }
+    set.has_at((bytes[0] - 0xC0) as usize, (bytes[1] % 64) as u32)
+}
+
+/// The same of the leads of three. No set has surrogates, and the blocks below 32 have no sequence of three, so that the
+/// first two bytes need no further tests.
+#[inline(always)]
+fn has_three(bytes: &[u8], set: &CharacterSet) -> bool
+    requires room { 3 ≤ length bytes.now }
+    requires lead { IsLead Lead.OfThree (slice_index bytes.now 0) }
+    ensures { width_in (has set.now) (first_of_utf8 bytes.now) ≡ (if result then 3 else 0) }
+{
+    if !is_continuation(bytes[1]) {
+        return false;
     }
     if !is_continuation(bytes[2]) {
-        return 0;
+        return false;
     }
     let block = (bytes[0] as usize - 0xE0) * 64 + (bytes[1] as usize - 0x80);
     if block < 32 {
-        return 0;
+        return false;
     }
-    if set.has_at(block, (bytes[2] % 64) as u32) {
-        3
-    } else {
-        0
-    }
+    set.has_at(block, (bytes[2] % 64) as u32)
 }
 
-/// The same in a call.
-#[inline(never)]
-#[tactic(auto, unfolding(crate::specs::Scans::width_in))]
-fn member_of_others(bytes: &[u8], set: &CharacterSet) -> usize
-    requires { 0 < length bytes.now }
-    ensures { result ≡ width_in (has set.now) (first_of_utf8 bytes.now) }
+/// The same of the leads of four: their sequences are those of the pages above the Basic Multilingual Plane.
+#[inline(always)]
+fn has_four(bytes: &[u8], set: &CharacterSet) -> bool
+    requires room { 4 ≤ length bytes.now }
+    requires lead { IsLead Lead.OfFour (slice_index bytes.now 0) }
+    ensures { width_in (has set.now) (first_of_utf8 bytes.now) ≡ (if result then 4 else 0) }
 {
-    let step = first_step(bytes);
-    if set.contains(step.character) {
-        step.width
-    } else {
-        0
+    if !is_continuation(bytes[1]) {
+        return false;
     }
+    if !is_continuation(bytes[2]) {
+        return false;
+    }
+    if !is_continuation(bytes[3]) {
+        return false;
+    }
+    let page = (bytes[0] as usize - 0xF0) * 64 + (bytes[1] as usize - 0x80);
+    if page < 16 {
+        return false;
+    }
+    if page >= 272 {
+        return false;
+    }
+    set.has_above(page - 16, (bytes[2] % 64) as usize, (bytes[3] % 64) as u32)
 }
 
 /// Returns well-formed bytes as a text.

@@ -1,9 +1,10 @@
 -- Steps whose characters are in a set.
 use Rattle.std.proofs.Common.{◌≡◌, ◌≢◌, ℕ, zero, suc, ◌+◌, ◌-◌, ◌*◌, ◌%◌, ◌<◌, ◌≤◌, ◌&&◌, Bool, true, false, inl, inr, List, [], ◌∷◌, ◌++◌, length, take, drop, map, get_or, length-drop, length-take-le, arith, refl, ap, sym, ◌∙◌, subst}
-use Rattle.std.specs.Prelude.{All, if◌then◌else◌}
-use Rattle.std.proofs.lemmas.Bool.{and_from, and_parts, cases_Bool, cases_eq, cond-true, cond-false}
+use Rattle.std.specs.Prelude.{All, if◌then◌else◌, min}
+use Rattle.std.specs.Str.{continuation_len}
+use Rattle.std.proofs.lemmas.Bool.{and_from, and_parts, cases_Bool, cases_eq, cases_lt, cond-true, cond-false, true≢false}
 use Rattle.std.proofs.Math.Seq.{drop-cons}
-use Rattle.std.proofs.lemmas.List.{drop-drop, drop_all, get_or-drop}
+use Rattle.std.proofs.lemmas.List.{drop-drop, drop_all, get_or-drop, length-take, take_min}
 use Rattle.std.proofs.lemmas.List.Elements.{All-nil, All-cons, All-head, All-same, All-tail}
 use Rattle.std.proofs.lemmas.List.Sums.{prefix_len-le-length}
 use Rattle.std.specs.List.{prefix_len}
@@ -14,19 +15,21 @@ use Rattle.normalizer_text.specs.DecodingSteps.{read, replacement_step, steps, w
 use Rattle.normalizer_text.specs.Encodings.{Encoding, first_in}
 use Rattle.normalizer_text.specs.Scans.{leading_below, width_in, width_within, EndsLowCharacters}
 use Rattle.normalizer_text.specs.Utf16.{first_of_utf16, is_high, is_low, pair_value, unpaired_step}
-use Rattle.normalizer_text.specs.inner.PairMembers.{width_of_pairs_in}
-use Rattle.normalizer_text.specs.Utf8.{allows, continuation, first_of_utf8, matched_count, scalar_value}
-use Rattle.normalizer_text.proofs.scans.LowLemmas.{first-ascii_byte}
+use Rattle.normalizer_text.specs.inner.PairMembers.{has_pair_in_front}
+use Rattle.normalizer_text.specs.inner.PassedMembers.{IsPassedTo}
+use Rattle.normalizer_text.specs.declared.utf8.Lead.{Lead}
+use Rattle.normalizer_text.specs.inner.Leads.{width_led_by, IsLead}
+use Rattle.normalizer_text.specs.Utf8.{first_of_utf8, matched_count, scalar_value}
 use Rattle.normalizer_text.proofs.scans.PrefixLemmas.{prefix-stricter}
 use Rattle.normalizer_text.proofs.scans.ScanLemmas.{boundary-single}
 use Rattle.normalizer_text.proofs.rules.Utf16Lemmas.{cases, first-pair, first-single, high-is_single, low-is_single, unpaired-cases}
 use Rattle.normalizer_text.proofs.rules.Utf8Lemmas.{by_cases}
-use Rattle.normalizer_text.proofs.sequences.MatchLemmas.{allows-true}
 use Rattle.normalizer_text.proofs.sequences.RowLemmas.{IsSequence-row}
 use Rattle.normalizer_text.proofs.sequences.Sequences.{IsSequence}
-use Rattle.normalizer_text.proofs.sequences.SubpartLemmas.{BeginsWithSequence-three, first-begins}
+use Rattle.normalizer_text.proofs.sequences.SubpartLemmas.{first-begins, sequence_of_bounds}
+use Rattle.normalizer_text.proofs.sequences.SequenceLemmas.{length-led, length-sequence}
 use Rattle.normalizer_text.proofs.steps.StepLemmas.{steps-nil, steps-some}
-use Rattle.normalizer_text.proofs.steps.StepBoundaries.{boundary-after, boundary-first, boundary-start, boundary-between, boundary-le, boundary-more, step-some, steps-take-drop, width_of-steps}
+use Rattle.normalizer_text.proofs.steps.StepBoundaries.{boundary-after, boundary-between, boundary-le, boundary-more, step-some, steps-take-drop, width_of-steps}
 
 -- ---- a front of members
 
@@ -130,6 +133,9 @@ module _ (test : ℕ → Bool) where
           let end = (step-some e units n s more refl).1 in
           (subst (λ k. IsBoundary (first_in e) units (n + k)) (sym width) (boundary-more e units n s at more refl), omega arith)
 
+      pub member-passed : w ≢ 0 → IsBoundary (first_in e) units n → IsPassedTo test e units n (n + w)
+      member-passed some at = ((member-next some at).0, omega arith, member-more some)
+
       pub member-none : w ≡ 0 → reach n ≡ n
       member-none none = elim (cases_Bool (test s.character)) [
         | inl member ↦ absurd (omega (arith, is ∙ cond-true (test s.character) s.width 0 member, (step-some e units n s more refl).0))
@@ -144,11 +150,6 @@ module _ (test : ℕ → Bool) where
 pub replaced-none : (set : List ℕ) (n : ℕ) → width_in (has set) (replacement_step n) ≡ 0
 replaced-none set n = rw (has-replacement set) refl
 
--- ---- a single byte
-
-pub member-ascii : (set bytes : List ℕ) → 0 < length bytes → get_or bytes 0 0 < 0x80 → width_in (has set) (first_of_utf8 bytes) ≡ (if has set (get_or bytes 0 0) then 1 else 0)
-member-ascii set bytes some low = ap (width_in (has set)) (first-ascii_byte bytes some low)
-
 -- ---- a sequence of bytes
 
 -- no member is in front if no sequence there is one
@@ -161,76 +162,119 @@ member-no_sequence set (b ∷ bs) some none = by_cases (λ s. width_in (has set)
     cond-false (has set (scalar_value (b ∷ take n bs))) (suc n) 0 (none (suc n) (IsSequence-row b bs r e m)))
     (λ r e m. replaced-none set (suc (matched_count r.trail bs)))
 
-abbrev LeadsOfThree : ℕ → Type 0
-LeadsOfThree b = (0xE0 ≤ b) × (b ≤ 0xEF)
+pub led-some : (l : Lead) → 0 < width_led_by l
+led-some Lead.OfOne = omega arith
+led-some Lead.OfTwo = omega arith
+led-some Lead.OfThree = omega arith
+led-some Lead.OfFour = omega arith
 
--- a sequence with such a first byte has three
-three_only : (b c d : ℕ) (bs : List ℕ) (n : ℕ) → LeadsOfThree b → IsSequence (take n (b ∷ c ∷ d ∷ bs)) → take n (b ∷ c ∷ d ∷ bs) ≡ b ∷ c ∷ d ∷ []
-three_only b c d bs zero leads s = absurd s
-three_only b c d bs (suc zero) leads s = absurd (omega arith)
-three_only b c d bs (suc (suc zero)) leads s = absurd (omega arith)
-three_only b c d bs (suc (suc (suc zero))) leads s = refl
-three_only b c d [] (suc (suc (suc (suc n)))) leads s = refl
-three_only b c d (e ∷ bs) (suc (suc (suc (suc zero)))) leads s = absurd (omega arith)
-three_only b c d (e ∷ []) (suc (suc (suc (suc (suc n))))) leads s = absurd (omega arith)
-three_only b c d (e ∷ f ∷ bs) (suc (suc (suc (suc (suc n))))) leads s = absurd s
+-- a sequence has as many bytes as its first one says
+only : (bytes : List ℕ) (n k : ℕ) → k ≤ length bytes → k ≡ 1 + continuation_len (get_or bytes 0 0) → IsSequence (take n bytes) → take n bytes ≡ take k bytes
+only [] n k room is s = absurd (omega arith)
+only (b ∷ bs) zero k room is s = absurd s
+only (b ∷ bs) (suc n) k room is s =
+    let suc_is : k ≡ suc (continuation_len b) = omega (arith, is) in
+    let some : min n (length bs) ≡ continuation_len b = sym (length-take n bs) ∙ length-sequence b (take n bs) s in
+    ap (λ l. b ∷ l) (sym (take_min n bs) ∙ ap (λ i. take i bs) some) ∙ ap (λ i. take i (b ∷ bs)) (sym suc_is)
 
-pub member-short_three : (set bytes : List ℕ) → 0 < length bytes → LeadsOfThree (get_or bytes 0 0) → length bytes < 3 → width_in (has set) (first_of_utf8 bytes) ≡ 0
-member-short_three set [] some leads short = absurd (omega arith)
-member-short_three set (b ∷ []) some leads short = member-no_sequence set (b ∷ []) some none
-  where
-    none : (n : ℕ) → IsSequence (take n (b ∷ [])) → has set (scalar_value (take n (b ∷ []))) ≡ false
-    none zero s = absurd s
-    none (suc zero) s = absurd (omega arith)
-    none (suc (suc n)) s = absurd (omega arith)
-member-short_three set (b ∷ c ∷ []) some leads short = member-no_sequence set (b ∷ c ∷ []) some none
-  where
-    none : (n : ℕ) → IsSequence (take n (b ∷ c ∷ [])) → has set (scalar_value (take n (b ∷ c ∷ []))) ≡ false
-    none zero s = absurd s
-    none (suc zero) s = absurd (omega arith)
-    none (suc (suc zero)) s = absurd (omega arith)
-    none (suc (suc (suc n))) s = absurd (omega arith)
-member-short_three set (b ∷ c ∷ d ∷ bs) some leads short = absurd (omega arith)
+-- whether the character of the first step is a member, by the one sequence that may be in front
+pub member-led : (set bytes : List ℕ) (k : ℕ) → k ≤ length bytes → k ≡ 1 + continuation_len (get_or bytes 0 0) → (r : Bool)
+    → (r ≡ true → IsSequence (take k bytes)) → (IsSequence (take k bytes) → r ≡ has set (scalar_value (take k bytes))) → width_in (has set) (first_of_utf8 bytes) ≡ (if r then k else 0)
+member-led set bytes k room is r sure value = elim (cases_Bool r) [
+  | inl t ↦
+      let s = sure t in
+      ap (width_in (has set)) (sym (first-begins bytes k (room, sequence_of_bounds (take k bytes) s)))
+      ∙ ap (λ b. if b then k else 0) (sym (value s))
+  | inr f ↦
+      member-no_sequence set bytes (omega arith) (λ n s. let same = only bytes n k room is s in ap (λ l. has set (scalar_value l)) same ∙ sym (value (subst IsSequence same s)) ∙ f)
+      ∙ sym (cond-false r k 0 f)
+]
 
-pub member-no_three : (set bytes : List ℕ) → 2 < length bytes → LeadsOfThree (get_or bytes 0 0)
-    → (IsSequence (get_or bytes 0 0 ∷ get_or bytes 1 0 ∷ get_or bytes 2 0 ∷ []) → has set (scalar_value (get_or bytes 0 0 ∷ get_or bytes 1 0 ∷ get_or bytes 2 0 ∷ [])) ≡ false)
-    → width_in (has set) (first_of_utf8 bytes) ≡ 0
-member-no_three set [] long leads none = absurd (omega arith)
-member-no_three set (b ∷ []) long leads none = absurd (omega arith)
-member-no_three set (b ∷ c ∷ []) long leads none = absurd (omega arith)
-member-no_three set (b ∷ c ∷ d ∷ bs) long leads none = member-no_sequence set (b ∷ c ∷ d ∷ bs) (omega arith)
-    (λ n s. let same = three_only b c d bs n leads s in ap (λ l. has set (scalar_value l)) same ∙ none (subst IsSequence same s))
+abbrev IsTrail : ℕ → Type 0
+IsTrail b = (0x80 ≤ b) × (b ≤ 0xBF)
+
+pub member-one : (set bytes : List ℕ) → 1 ≤ length bytes → IsLead Lead.OfOne (get_or bytes 0 0) → (r : Bool) → r ≡ has set (get_or bytes 0 0)
+    → width_in (has set) (first_of_utf8 bytes) ≡ (if r then 1 else 0)
+member-one set [] room = absurd (omega arith)
+member-one set (b ∷ bs) room = λ led r value. member-led set (b ∷ bs) 1 room (length-led Lead.OfOne b led) r (λ _. omega arith) (λ _. value)
+
+pub member-two : (set bytes : List ℕ) → 2 ≤ length bytes → IsLead Lead.OfTwo (get_or bytes 0 0) → (r : Bool) → (r ≡ true → IsTrail (get_or bytes 1 0))
+    → (IsTrail (get_or bytes 1 0) → r ≡ has set (64 * (get_or bytes 0 0 - 0xC0) + get_or bytes 1 0 % 64)) → width_in (has set) (first_of_utf8 bytes) ≡ (if r then 2 else 0)
+member-two set [] room = absurd (omega arith)
+member-two set (b ∷ []) room = absurd (omega arith)
+member-two set (b ∷ c ∷ bs) room = λ led r sure value.
+    member-led set (b ∷ c ∷ bs) 2 room (length-led Lead.OfTwo b led) r
+    (λ t. let f = sure t in (led.0, led.1, f.0, f.1))
+    (λ s. value (s.2, s.3) ∙ ap (has set) (let v : 64 * (b - 0xC0) + c % 64 ≡ (b - 0xC0) * 64 + (c - 0x80) = omega arith in v))
 
 -- the blocks below 32 have no sequence of three
-pub three-high : (b c d : ℕ) → IsSequence (b ∷ c ∷ d ∷ []) → 32 ≤ (b - 0xE0) * 64 + (c - 0x80)
+three-high : (b c d : ℕ) → IsSequence (b ∷ c ∷ d ∷ []) → 32 ≤ (b - 0xE0) * 64 + (c - 0x80)
 three-high b c d s = elim (cases_eq b 0xE0) [ inl e ↦ let k = s.2 e in omega arith | inr ne ↦ omega arith ]
 
-pub member-three : (set bytes : List ℕ) → 2 < length bytes → LeadsOfThree (get_or bytes 0 0) → allows continuation (get_or bytes 1 0) ≡ true → allows continuation (get_or bytes 2 0) ≡ true
-    → (block : ℕ) → block ≡ (get_or bytes 0 0 - 0xE0) * 64 + (get_or bytes 1 0 - 0x80) → 32 ≤ block
-    → width_in (has set) (first_of_utf8 bytes) ≡ (if has set (64 * block + get_or bytes 2 0 % 64) then 3 else 0)
-member-three set [] long = absurd (omega arith)
-member-three set (b ∷ []) long = absurd (omega arith)
-member-three set (b ∷ c ∷ []) long = absurd (omega arith)
-member-three set (b ∷ c ∷ d ∷ bs) long = λ leads second third block is high.
-    let s = allows-true continuation c second in
-    let t = allows-true continuation d third in
-    let value : ((b - 0xE0) * 64 + (c - 0x80)) * 64 + (d - 0x80) ≡ 64 * block + d % 64 = omega arith in
-    elim (cases_Bool (has set (64 * block + d % 64))) [
-      | inl member ↦
-          let apart = (has-IsCandidate set (64 * block + d % 64) member).apart in
-          let second_of_ED : b ≡ 0xED → c ≤ 0x9F = λ e. elim apart [ inl below ↦ omega arith | inr above ↦ absurd (omega arith) ] in
-          let begins = BeginsWithSequence-three (b ∷ c ∷ d ∷ bs) long (leads.0, leads.1, (λ e. omega arith), second_of_ED, s.0, s.1) third in
-          ap (width_in (has set)) (sym (first-begins (b ∷ c ∷ d ∷ bs) 3 begins)) ∙ ap (λ v. if has set v then 3 else 0) value
-      | inr other ↦
-          member-no_three set (b ∷ c ∷ d ∷ bs) long leads (λ _. ap (has set) value ∙ other) ∙ sym (cond-false (has set (64 * block + d % 64)) 3 0 other)
-    ]
+-- bytes of which a member, which is no surrogate, makes a sequence
+abbrev MayFollowThree : ℕ → ℕ → ℕ → Type 0
+MayFollowThree b c d = IsTrail c × IsTrail d × (32 ≤ (b - 0xE0) * 64 + (c - 0x80))
+
+pub member-three : (set bytes : List ℕ) → 3 ≤ length bytes → IsLead Lead.OfThree (get_or bytes 0 0) → (r : Bool)
+    → (r ≡ true → MayFollowThree (get_or bytes 0 0) (get_or bytes 1 0) (get_or bytes 2 0))
+    → (MayFollowThree (get_or bytes 0 0) (get_or bytes 1 0) (get_or bytes 2 0) → r ≡ has set (64 * ((get_or bytes 0 0 - 0xE0) * 64 + (get_or bytes 1 0 - 0x80)) + get_or bytes 2 0 % 64))
+    → width_in (has set) (first_of_utf8 bytes) ≡ (if r then 3 else 0)
+member-three set [] room = absurd (omega arith)
+member-three set (b ∷ []) room = absurd (omega arith)
+member-three set (b ∷ c ∷ []) room = absurd (omega arith)
+member-three set (b ∷ c ∷ d ∷ bs) room = λ led r sure value.
+    let number = 64 * ((b - 0xE0) * 64 + (c - 0x80)) + d % 64 in
+    member-led set (b ∷ c ∷ d ∷ bs) 3 room (length-led Lead.OfThree b led) r
+    (λ t.
+    let f = sure t in
+    let second = f.0 in
+    let third = f.1 in
+    let high = f.2 in
+    let apart = (has-IsCandidate set number (sym (value f) ∙ t)).apart in
+    let second_of_ED : b ≡ 0xED → c ≤ 0x9F = λ e. elim apart [ inl below ↦ omega arith | inr above ↦ absurd (omega arith) ] in
+    (led.0, led.1, (λ e. omega arith), second_of_ED, second.0, second.1, third.0, third.1))
+    (λ s.
+    let same : number ≡ ((b - 0xE0) * 64 + (c - 0x80)) * 64 + (d - 0x80) = omega arith in
+    value ((s.4, s.5), (s.6, s.7), three-high b c d s) ∙ ap (has set) same)
+
+-- the sequences of four are of the pages above the Basic Multilingual Plane
+four-within : (b c d e : ℕ) → IsSequence (b ∷ c ∷ d ∷ e ∷ []) → (16 ≤ (b - 0xF0) * 64 + (c - 0x80)) × ((b - 0xF0) * 64 + (c - 0x80) < 272)
+four-within b c d e s = (
+  elim (cases_eq b 0xF0) [ inl e ↦ let k = s.2 e in omega arith | inr ne ↦ omega arith ],
+  elim (cases_eq b 0xF4) [ inl e ↦ let k = s.3 e in omega arith | inr ne ↦ omega arith ],
+)
+
+abbrev MayFollowFour : ℕ → ℕ → ℕ → ℕ → Type 0
+MayFollowFour b c d e = IsTrail c × IsTrail d × IsTrail e × (16 ≤ (b - 0xF0) * 64 + (c - 0x80)) × ((b - 0xF0) * 64 + (c - 0x80) < 272)
+
+pub member-four : (set bytes : List ℕ) → 4 ≤ length bytes → IsLead Lead.OfFour (get_or bytes 0 0) → (r : Bool)
+    → (r ≡ true → MayFollowFour (get_or bytes 0 0) (get_or bytes 1 0) (get_or bytes 2 0) (get_or bytes 3 0))
+    → (MayFollowFour (get_or bytes 0 0) (get_or bytes 1 0) (get_or bytes 2 0) (get_or bytes 3 0)
+    → r ≡ has set (0x10000 + 4096 * ((get_or bytes 0 0 - 0xF0) * 64 + (get_or bytes 1 0 - 0x80) - 16) + 64 * (get_or bytes 2 0 % 64) + get_or bytes 3 0 % 64))
+    → width_in (has set) (first_of_utf8 bytes) ≡ (if r then 4 else 0)
+member-four set [] room = absurd (omega arith)
+member-four set (b ∷ []) room = absurd (omega arith)
+member-four set (b ∷ c ∷ []) room = absurd (omega arith)
+member-four set (b ∷ c ∷ d ∷ []) room = absurd (omega arith)
+member-four set (b ∷ c ∷ d ∷ e ∷ bs) room = λ led r sure value.
+    member-led set (b ∷ c ∷ d ∷ e ∷ bs) 4 room (length-led Lead.OfFour b led) r
+    (λ t.
+    let f = sure t in
+    let second = f.0 in
+    let third = f.1 in
+    let fourth = f.2 in
+    let least = f.3 in
+    let most = f.4 in
+    (led.0, led.1, (λ is. omega arith), (λ is. omega arith), second.0, second.1, third.0, third.1, fourth.0, fourth.1))
+    (λ s.
+    let within = four-within b c d e s in
+    let least = within.0 in
+    let same : 0x10000 + 4096 * ((b - 0xF0) * 64 + (c - 0x80) - 16) + 64 * (d % 64) + e % 64 ≡ (((b - 0xF0) * 64 + (c - 0x80)) * 64 + (d - 0x80)) * 64 + (e - 0x80) = omega arith in
+    value ((s.4, s.5), (s.6, s.7), (s.8, s.9), within.0, within.1) ∙ ap (has set) same)
 
 -- ---- members by themselves, and pairs, of 16-bit units
 
 module _ (set : List ℕ) where
-  abbrev pairs : List ℕ → ℕ
-  pairs units = width_of_pairs_in (has set) units
-
   abbrev within : List ℕ → ℕ
   within units = width_within (has set) (steps first_of_utf16 units)
 
@@ -279,59 +323,31 @@ module _ (set : List ℕ) where
         | inr is_not ↦ ap (λ k. k + within (drop k (u ∷ us))) (cond-false (has set u) (1 + n) 0 is_not) ∙ (omega arith)
       ]
 
-  -- the same of pairs
-  pair-step : (u v : ℕ) (us : List ℕ) → ((is_high u && is_low v) && has set (pair_value u v)) ≡ true → steps first_of_utf16 (u ∷ v ∷ us) ≡ read (pair_value u v) 2 ∷ steps first_of_utf16 us
-  pair-step u v us is =
-      steps-some Encoding.Utf16 (u ∷ v ∷ us) (omega arith)
-      ∙ ap (λ s. s ∷ steps first_of_utf16 (drop s.width (u ∷ v ∷ us))) (first-pair u v us (and_parts _ _ is).0)
+  -- the steps of one unit, and of a pair
+  pub single-width : (units : List ℕ) → AreUnits units → 0 < length units → has set (get_or units 0 0) ≡ true → 1 ≡ width_in (has set) (first_of_utf16 units)
+  single-width [] all some is = absurd (omega arith)
+  single-width (u ∷ us) all some is = sym (ap (width_in (has set)) (single-member u us (all 0, is)) ∙ cond-true (has set u) 1 0 is)
 
-  pub boundary-pairs : (units : List ℕ) → IsBoundary first_of_utf16 units (pairs units)
-  boundary-pairs [] = boundary-start Encoding.Utf16 []
-  boundary-pairs (u ∷ []) = boundary-start Encoding.Utf16 (u ∷ [])
-  boundary-pairs (u ∷ v ∷ us) = elim (cases_Bool ((is_high u && is_low v) && has set (pair_value u v))) [
-    | inl is ↦
-        let s = read (pair_value u v) 2 in
-        let one = boundary-first Encoding.Utf16 (u ∷ v ∷ us) s (record { some = omega arith; is = sym (first-pair u v us (and_parts _ _ is).0) }) in
-        subst (IsBoundary first_of_utf16 (u ∷ v ∷ us)) (sym (cond-true _ (2 + pairs us) 0 is)) (boundary-after Encoding.Utf16 (u ∷ v ∷ us) 2 (pairs us) one (boundary-pairs us))
-    | inr is_not ↦ subst (IsBoundary first_of_utf16 (u ∷ v ∷ us)) (sym (cond-false _ (2 + pairs us) 0 is_not)) (boundary-start Encoding.Utf16 (u ∷ v ∷ us))
-  ]
-
-  pub members-pairs : (units : List ℕ) → pairs units + within (drop (pairs units) units) ≡ within units
-  members-pairs [] = omega arith
-  members-pairs (u ∷ []) = omega arith
-  members-pairs (u ∷ v ∷ us) = elim (cases_Bool ((is_high u && is_low v) && has set (pair_value u v))) [
-    | inl is ↦
-        let two : pairs (u ∷ v ∷ us) ≡ suc (suc (pairs us)) = cond-true _ (2 + pairs us) 0 is ∙ (omega arith) in
-        let whole : within (u ∷ v ∷ us) ≡ 2 + within us = ap (width_within (has set)) (pair-step u v us is) ∙ cond-true (has set (pair_value u v)) (2 + within us) 0 (and_parts _ _ is).1 in
-        ap (λ k. k + within (drop k (u ∷ v ∷ us))) two ∙ omega (arith, whole, members-pairs us)
-    | inr is_not ↦ ap (λ k. k + within (drop k (u ∷ v ∷ us))) (cond-false _ (2 + pairs us) 0 is_not) ∙ (omega arith)
-  ]
+  pub pair-width : (units : List ℕ) → has_pair_in_front (has set) units ≡ true → (2 ≤ length units) × (2 ≡ width_in (has set) (first_of_utf16 units))
+  pair-width [] is = absurd (true≢false (sym is))
+  pair-width (u ∷ []) is = absurd (true≢false (sym is))
+  pair-width (u ∷ v ∷ us) is =
+      let parts = and_parts _ _ is in
+      (omega arith, sym (ap (width_in (has set)) (first-pair u v us parts.0) ∙ cond-true (has set (pair_value u v)) 2 0 parts.1))
 
   -- no member is in front if neither is
   alone : (u : ℕ) → has set u ≡ false → width_in (has set) (unpaired_step u) ≡ 0
   alone u is_not = unpaired-cases (λ s. width_in (has set) s ≡ 0) u (λ single. rw is_not refl) (λ surrogate. replaced-none set 1)
 
-  no_unit : (u : ℕ) (us : List ℕ) → prefix_len (has set) (u ∷ us) ≡ 0 → has set u ≡ false
-  no_unit u us none = elim (cases_Bool (has set u)) [
-    | inl is ↦ absurd (omega (arith, cond-true (has set u) (1 + prefix_len (has set) us) 0 is))
-    | inr is_not ↦ is_not
-  ]
-
-  no_member : (units : List ℕ) → 0 < length units → prefix_len (has set) units ≡ 0 → pairs units ≡ 0 → width_in (has set) (first_of_utf16 units) ≡ 0
-  no_member [] some no_single no_pair = absurd (omega arith)
-  no_member (u ∷ []) some no_single no_pair = alone u (no_unit u [] no_single)
-  no_member (u ∷ v ∷ us) some no_single no_pair = cases (λ s. width_in (has set) s ≡ 0) u v us
+  pub neither-width : (units : List ℕ) → 0 < length units → has set (get_or units 0 0) ≡ false → has_pair_in_front (has set) units ≡ false → 0 ≡ width_in (has set) (first_of_utf16 units)
+  neither-width [] some no_single no_pair = absurd (omega arith)
+  neither-width (u ∷ []) some no_single no_pair = sym (alone u no_single)
+  neither-width (u ∷ v ∷ us) some no_single no_pair = sym (cases (λ s. width_in (has set) s ≡ 0) u v us
       (λ pair. elim (cases_Bool (has set (pair_value u v))) [
-        | inl is ↦ absurd (omega (arith, cond-true _ (2 + pairs us) 0 (and_from _ _ pair is)))
+        | inl is ↦ absurd (true≢false (sym (and_from _ _ pair is) ∙ no_pair))
         | inr is_not ↦ rw is_not refl
       ])
-      (λ single. alone u (no_unit u (v ∷ us) no_single))
-
-  pub members-neither : (units : List ℕ) → prefix_len (has set) units ≡ 0 → pairs units ≡ 0 → within units ≡ 0
-  members-neither [] no_single no_pair = ap (width_within (has set)) (steps-nil Encoding.Utf16)
-  members-neither (u ∷ us) no_single no_pair =
-      let some : 0 < length (u ∷ us) = omega arith in
-      omega (arith, member-none (has set) Encoding.Utf16 (u ∷ us) 0 0 some (sym (no_member (u ∷ us) some no_single no_pair)) refl)
+      (λ single. alone u no_single))
 
   -- ---- at positions
 
@@ -342,21 +358,29 @@ module _ (set : List ℕ) where
       drop-cons units n 0 (omega arith)
       ∙ ap (λ l. get_or units n 0 ∷ l) (ap (λ i. drop i units) next ∙ drop-cons units (n + 1) 0 (omega arith) ∙ ap (λ i. get_or units (n + 1) 0 ∷ drop i units) past)
 
-  pub pairs-some : (units : List ℕ) (n : ℕ) → n + 2 ≤ length units → ((is_high (get_or units n 0) && is_low (get_or units (n + 1) 0)) && has set (pair_value (get_or units n 0) (get_or units (n + 1) 0))) ≡ true
-      → pairs (drop n units) ≡ 2 + pairs (drop (n + 2) units)
-  pairs-some units n room is = ap pairs (two units n room) ∙ cond-true _ (2 + pairs (drop (n + 2) units)) 0 is
+  pub pair-front : (units : List ℕ) (n : ℕ) → n + 2 ≤ length units
+      → has_pair_in_front (has set) (drop n units) ≡ ((is_high (get_or units n 0) && is_low (get_or units (n + 1) 0)) && has set (pair_value (get_or units n 0) (get_or units (n + 1) 0)))
+  pair-front units n room = ap (has_pair_in_front (has set)) (two units n room)
 
-  pub pairs-none : (units : List ℕ) (n : ℕ) → n + 2 ≤ length units → ((is_high (get_or units n 0) && is_low (get_or units (n + 1) 0)) && has set (pair_value (get_or units n 0) (get_or units (n + 1) 0))) ≡ false
-      → pairs (drop n units) ≡ 0
-  pairs-none units n room is_not = ap pairs (two units n room) ∙ cond-false _ (2 + pairs (drop (n + 2) units)) 0 is_not
-
-  pub pairs-short : (units : List ℕ) (n : ℕ) → length units < n + 2 → pairs (drop n units) ≡ 0
-  pairs-short units n short = by (drop n units) (omega (arith, length-drop n units))
+  pub pair-short : (units : List ℕ) (n : ℕ) → length units < n + 2 → has_pair_in_front (has set) (drop n units) ≡ false
+  pair-short units n short = by (drop n units) (omega (arith, length-drop n units))
     where
-      by : (us : List ℕ) → length us < 2 → pairs us ≡ 0
+      by : (us : List ℕ) → length us < 2 → has_pair_in_front (has set) us ≡ false
       by [] _ = refl
       by (u ∷ []) _ = refl
       by (u ∷ v ∷ us) l = absurd (omega arith)
+
+  pub pair-passed : (units : List ℕ) (n : ℕ) → IsBoundary first_of_utf16 units n → has_pair_in_front (has set) (drop n units) ≡ true → IsPassedTo (has set) Encoding.Utf16 units n (n + 2)
+  pair-passed units n here is =
+      let pair = pair-width (drop n units) is in
+      member-passed (has set) Encoding.Utf16 units n 2 (omega (arith, pair.0, length-drop n units)) pair.1 (λ none. absurd (omega (arith, none))) here
+
+  pub single-passed : (units : List ℕ) → AreUnits units → (n : ℕ) → IsBoundary first_of_utf16 units n → n < length units → has set (get_or units n 0) ≡ true
+      → IsPassedTo (has set) Encoding.Utf16 units n (n + 1)
+  single-passed units all n here some is =
+      let at = get_or-drop n units 0 0 ∙ ap (λ i. get_or units i 0) (let i : n + 0 ≡ n = omega arith in i) in
+      let width = single-width (drop n units) (λ k. subst (λ u. u < 0x10000) (sym (get_or-drop n units k 0)) (all (n + k))) (omega (arith, length-drop n units)) (ap (has set) at ∙ is) in
+      member-passed (has set) Encoding.Utf16 units n 1 some width (λ none. absurd (omega (arith, none))) here
 
   -- passing over them
   module _ (units : List ℕ) (all : AreUnits units) (n m : ℕ) (here : IsBoundary first_of_utf16 units n) where
@@ -373,17 +397,25 @@ module _ (set : List ℕ) where
       moved (prefix_len (has set) (drop n units)) is (members-alone (drop n units) rest_are),
     )
 
-    pub pairs-passed : m ≡ n + pairs (drop n units)
-        → IsBoundary first_of_utf16 units m × (m + within (drop m units) ≡ n + within (drop n units))
-    pairs-passed is = (
-      subst (IsBoundary first_of_utf16 units) (sym is) (boundary-after Encoding.Utf16 units n (pairs (drop n units)) here (boundary-pairs (drop n units))),
-      moved (pairs (drop n units)) is (members-pairs (drop n units)),
-    )
+    -- where single members end, no member is if no pair is
+    pub alone-end : m ≡ n + prefix_len (has set) (drop n units) → has_pair_in_front (has set) (drop m units) ≡ false → m + within (drop m units) ≡ m
+    alone-end is no_pair = elim (cases_lt m (length units)) [
+      | inl some ↦
+          let rest = drop m units in
+          let more : 0 < length rest = omega (arith, length-drop m units) in
+          let none = prefix-none rest more (rest_none is) in
+          member-none (has set) Encoding.Utf16 units m 0 some (neither-width rest more none no_pair) refl
+      | inr past ↦ members-end (has set) Encoding.Utf16 units m past
+    ]
+      where
+        rest_none : m ≡ n + prefix_len (has set) (drop n units) → prefix_len (has set) (drop m units) ≡ 0
+        rest_none is =
+            let place : drop (prefix_len (has set) (drop n units)) (drop n units) ≡ drop m units = drop-drop (prefix_len (has set) (drop n units)) n units ∙ ap (λ i. drop i units) (sym is) in
+            omega (arith, prefix-stricter (has set) (has set) (λ u i. i) (drop n units), ap (prefix_len (has set)) place)
 
-    -- where single members end, no pair follows: so no member does
-    pub alone-end : m ≡ n + prefix_len (has set) (drop n units) → pairs (drop m units) ≡ 0 → within (drop m units) ≡ 0
-    alone-end is no_pair =
-        let k = prefix_len (has set) (drop n units) in
-        let place : drop k (drop n units) ≡ drop m units = drop-drop k n units ∙ ap (λ i. drop i units) (sym is) in
-        let none : prefix_len (has set) (drop m units) ≡ 0 = omega (arith, prefix-stricter (has set) (has set) (λ u i. i) (drop n units), ap (prefix_len (has set)) place) in
-        members-neither (drop m units) none no_pair
+        prefix-none : (us : List ℕ) → 0 < length us → prefix_len (has set) us ≡ 0 → has set (get_or us 0 0) ≡ false
+        prefix-none [] more none = absurd (omega arith)
+        prefix-none (u ∷ us) more none = elim (cases_Bool (has set u)) [
+          | inl is ↦ absurd (omega (arith, cond-true (has set u) (1 + prefix_len (has set) us) 0 is))
+          | inr is_not ↦ is_not
+        ]

@@ -10,8 +10,13 @@ use Rattle.normalizer_text.specs.Scans.{width_within}
 abbrev pub end_within : (ℕ → Bool) → Encoding → List ℕ → ℕ → ℕ
 end_within test e units from = from + width_within test (steps (first_in e) (drop from units))
 
--- from a place on, members are passed over up to a step, or up to their end
+-- from a place on, members are passed over up to another
+abbrev pub IsPassedTo : (ℕ → Bool) → Encoding → List ℕ → ℕ → ℕ → Type 0
+IsPassedTo test e units from to =
+    IsBoundary (first_in e) units to × (from ≤ to) × (end_within test e units to ≡ end_within test e units from)
+
+-- the same up to a step, or up to their end
 abbrev pub IsPassed : (ℕ → Bool) → Encoding → List ℕ → ℕ → ControlFlow ℕ ℕ → Type 0
 IsPassed test e units from result = MatchControlFlow result
-    (λ to. IsBoundary (first_in e) units to × (from ≤ to) × (end_within test e units to ≡ end_within test e units from))
+    (IsPassedTo test e units from)
     (λ to. to ≡ end_within test e units from)

@@ -5,10 +5,10 @@ use Rattle.normalizer_text.specs.Encodings.{Encoding}
 use Rattle.normalizer_text.specs.Utf8.{first_of_utf8}
 use Rattle.normalizer_text.proofs.rules.StrLemmas.{IsWellFormed-IsUtf8}
 use Rattle.normalizer_text.proofs.steps.StepBoundaries.{well_formed-parts}
-use Rattle.normalizer_text.proofs.members.RefStrMembers.member_at.Goals as goal
+use Rattle.normalizer_text.proofs.members.RefStrMembers.has_member_led_by.Goals as goal
 
-pub member_of_well_formed-requires-clause-well_formed : goal.member_of_well_formed-requires-clause-well_formed
-member_of_well_formed-requires-clause-well_formed c =
+pub has_well_formed_led_by-requires-clause-well_formed : goal.has_well_formed_led_by-requires-clause-well_formed
+has_well_formed_led_by-requires-clause-well_formed c =
     let rest = take_rest c.as_bytes.result.now c.args.position ∙ ap (drop c.args.position) c.as_bytes.ensures.value in
     subst (IsWellFormed first_of_utf8) (sym rest)
     (well_formed-parts Encoding.Utf8 c.args.self.now c.args.position c.requires.boundary (IsWellFormed-IsUtf8 c.args.self.now c.utf8.self)).1

@@ -1,0 +1,28 @@
+use Rattle.std.proofs.Common.{arith, get_or, sym, ◌∙◌}
+use Rattle.std.specs.Prelude.{false}
+use Rattle.std.proofs.lemmas.Bool.{true≢false}
+use Rattle.normalizer_text.proofs.scans.MemberLemmas.{member-three}
+use Rattle.normalizer_text.proofs.sequences.MatchLemmas.{allows-true}
+use Rattle.normalizer_text.proofs.sequences.SequenceLemmas.{allows_from}
+use Rattle.normalizer_text.specs.Utf8.{continuation}
+use Rattle.normalizer_text.proofs.utf8.has_three.Goals as goal
+
+pub returns-then-not-is_continuation : goal.returns-then-not-is_continuation
+returns-then-not-is_continuation c =
+    member-three c.args.set.now c.args.bytes.now c.requires.room c.requires.lead false (λ t. absurd (true≢false (sym t)))
+    (λ f. absurd (true≢false (sym (allows_from continuation (get_or c.args.bytes.now 1 0) f.0) ∙ sym c.is_continuation.ensures ∙ c.if-not-is_continuation.true)))
+
+pub returns-then-not-is_continuation-2 : goal.returns-then-not-is_continuation-2
+returns-then-not-is_continuation-2 c =
+    member-three c.args.set.now c.args.bytes.now c.requires.room c.requires.lead false (λ t. absurd (true≢false (sym t)))
+    (λ f. absurd (true≢false (sym (allows_from continuation (get_or c.args.bytes.now 2 0) f.1) ∙ sym c.is_continuation-2.ensures ∙ c.if-not-is_continuation-2.true)))
+
+pub returns-then-block-lt32 : goal.returns-then-block-lt32
+returns-then-block-lt32 c =
+    member-three c.args.set.now c.args.bytes.now c.requires.room c.requires.lead false (λ t. absurd (true≢false (sym t))) (λ f. absurd (omega (arith, f.2)))
+
+pub returns : goal.returns
+returns c =
+    let trail1 = allows-true continuation (get_or c.args.bytes.now 1 0) (sym c.is_continuation.ensures ∙ c.if-not-is_continuation.false) in
+    let trail2 = allows-true continuation (get_or c.args.bytes.now 2 0) (sym c.is_continuation-2.ensures ∙ c.if-not-is_continuation-2.false) in
+    member-three c.args.set.now c.args.bytes.now c.requires.room c.requires.lead c.has_at.result (λ _. (trail1, trail2, omega arith)) (λ _. c.has_at.ensures)
