@@ -23,7 +23,7 @@ ghost use Rattle.normalizer_tables.specs.Pairs.{Pair};
 
 use crate::error::NormalizeError;
 use crate::pending::{PendingChar, read_from};
-use crate::reading::{push_from, read_on};
+use crate::reading::{push_others, read_on};
 use crate::waiting::{ClassedChar, WaitingList};
 use normalizer_tables::characters::{CharacterData, IgnoredCharacters};
 use normalizer_tables::condition::GREATEST_BOUNDS;
@@ -272,7 +272,7 @@ fn read_chunk<I: Iterator<Item = char> + Drop>(
         unreachable!()
     };
     waiting.clear();
-    push_from(characters, &members, 1, waiting)?;
+    push_others(characters, &members, waiting)?;
     let pending = read_on(characters, ignored, following, delegate, waiting)?;
     Ok((first, pending))
 }

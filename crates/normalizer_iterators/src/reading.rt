@@ -1,5 +1,5 @@
 //! Reading further characters, up to a boundary.
-ghost use Rattle.std.specs.Prelude.{◌≡◌, ◌+◌, ◌≤◌, length, drop, IsOk, IfOk, OnOk, OnErr, []};
+ghost use Rattle.std.specs.Prelude.{◌≡◌, ◌+◌, ◌<◌, ◌≤◌, ◌∷◌, length, drop, IsOk, IfOk, OnOk, OnErr, []};
 ghost use Rattle.normal_forms.specs.ShortRuns.{buffer_limit};
 ghost use Rattle.normalizer_tables.specs.Characters.{list_of};
 ghost use Rattle.normalizer_tables.specs.Ignored.{ignored_list};
@@ -94,4 +94,42 @@ pub(crate) fn push_from(
         }
     }
     Ok(())
+}
+
+/// Buffers the members of a list after the first.
+#[inline(always)]
+pub(crate) fn push_others(
+    characters: &CharacterData<'_>,
+    members: &Members<'_>,
+    waiting: &mut WaitingList,
+) -> Result<(), AllocError>
+    requires { 1 ≤ length members.now }
+    ensures text { OnOk result (Adds characters.now (drop 1 members.now) waiting.old waiting.new) }
+    ensures classes { OnOk result (KeepsClasses characters.now waiting.old waiting.new) }
+    ensures held { OnOk result (item_count waiting.new + 1 ≡ item_count waiting.old + length members.now) }
+    ensures succeeds { item_count waiting.old + length members.now ≤ buffer_limit + 1 → IsOk result }
+{
+    if let Some(two) = members.as_two() {
+        return push_member(characters, two[1], waiting);
+    }
+    if let Some(three) = members.as_three() {
+        push_member(characters, three[1], waiting)?;
+        return push_member(characters, three[2], waiting);
+    }
+    push_from(characters, members, 1, waiting)
+}
+
+/// Buffers a member of a list.
+#[inline(always)]
+fn push_member(
+    characters: &CharacterData<'_>,
+    member: char,
+    waiting: &mut WaitingList,
+) -> Result<(), AllocError>
+    ensures text { OnOk result (Adds characters.now (member ∷ []) waiting.old waiting.new) }
+    ensures classes { OnOk result (KeepsClasses characters.now waiting.old waiting.new) }
+    ensures held { OnOk result (item_count waiting.new ≡ item_count waiting.old + 1) }
+    ensures succeeds { item_count waiting.old < buffer_limit → IsOk result }
+{
+    waiting.push(member, characters.class_of(member))
 }
