@@ -7,7 +7,7 @@ ghost use Rattle.normalizer_sets.specs.CharacterSets.{has};
 ghost use Rattle.normal_forms.specs.Decomposition.{expand};
 ghost use Rattle.normal_forms.specs.ShortRuns.{buffer_limit};
 ghost use Rattle.normalizer_conditions.specs.RequiredConditions.{SuitsTexts};
-ghost use Rattle.normalizer_tables.specs.Characters.{class_of, class_of_itself, has_class_form, list_of, reading_of_word};
+ghost use Rattle.normalizer_tables.specs.Characters.{class_of, class_of_itself, has_class_form, list_of, reading_of_word, word_of};
 ghost use Rattle.normalizer_tables.specs.PairConditions.{is_taken_as_boundary};
 ghost use Rattle.normalizer_text.specs.Encodings.{decoded_in, first_in};
 ghost use Rattle.normalizer_iterators.specs.CharactersLeft.{characters_left};
@@ -29,6 +29,7 @@ use normalizer_sets::CharacterSet;
 use normalizer_tables::characters::{CharacterData, IgnoredCharacters};
 use normalizer_tables::may_be_second;
 use normalizer_tables::members::Members;
+use normalizer_tables::word::{is_ordinary_class_form, is_plain, low_byte};
 use normalizer_text::output::Output;
 use normalizer_text::{Chars, Step, Units};
 use std::alloc::{AllocError, Global};
@@ -156,6 +157,21 @@ pub trait Forming {
     ghost suits: { (f : Self) → SuitsTexts (made_form f).reading (made_form f).form };
 }
 
+/// Returns the class of a character that is its own list, by its word: the low byte, which is 0 if the word is plain.
+/// The two kinds of words aren't told apart, so that there is no branch on what alternates in a text.
+#[inline(always)]
+#[tactic(auto, using(crate::proofs::passthrough::ClassReadings::classes_in_words))]
+fn class_by(characters: &CharacterData<'_>, character: char, word: u32) -> Option<u8>
+    requires { word ≡ word_of characters.now character }
+    ensures { result ≡ class_of_itself (reading_of_word characters.now character) }
+{
+    if is_plain(word) || is_ordinary_class_form(word) {
+        Some(low_byte(word))
+    } else {
+        None
+    }
+}
+
 impl<'a> Forming for DecomposingForm<'a> {
     ghost made_form = { decomposing_by };
 
@@ -172,12 +188,13 @@ impl<'a> Forming for DecomposingForm<'a> {
         &self.characters
     }
 
+    #[inline(always)]
     fn passthrough_class(&self, character: char) -> Option<u8> {
         if (character as u32) < self.bounds.decomposition {
             return Some(0);
         }
         let word = self.characters.word_of(character);
-        self.characters.class_of_itself(character, word)
+        class_by(&self.characters, character, word)
     }
 
     fn passing(&self) -> &CharacterSet {
@@ -250,12 +267,13 @@ impl<'a> Forming for ComposingForm<'a> {
     }
 
     #[tactic(auto, unfolding(crate::specs::inner::PassthroughRuns::class_if_alone, crate::specs::inner::PassthroughRuns::composing_class))]
+    #[inline(always)]
     fn passthrough_class(&self, character: char) -> Option<u8> {
         let word = self.characters.word_of(character);
         if self.passes_by(character, word) {
             return Some(0);
         }
-        let class = self.characters.class_of_itself(character, word)?;
+        let class = class_by(&self.characters, character, word)?;
         if class > 0 && !may_be_second(self.pairs, character) {
             Some(class)
         } else {
