@@ -1,4 +1,5 @@
 -- Runs of passthrough characters.
+pub mod ClassReadings
 pub mod PassthroughLemmas
 pub mod RunParts
 pub mod RunSteps

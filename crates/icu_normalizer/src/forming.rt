@@ -7,7 +7,7 @@ ghost use Rattle.normalizer_sets.specs.CharacterSets.{has};
 ghost use Rattle.normal_forms.specs.Decomposition.{expand};
 ghost use Rattle.normal_forms.specs.ShortRuns.{buffer_limit};
 ghost use Rattle.normalizer_conditions.specs.RequiredConditions.{SuitsTexts};
-ghost use Rattle.normalizer_tables.specs.Characters.{class_of_itself, has_class_form, reading_of_word};
+ghost use Rattle.normalizer_tables.specs.Characters.{class_of, class_of_itself, has_class_form, list_of, reading_of_word, word_of};
 ghost use Rattle.normalizer_tables.specs.PairConditions.{is_taken_as_boundary};
 ghost use Rattle.normalizer_text.specs.Encodings.{decoded_in, first_in};
 ghost use Rattle.normalizer_iterators.specs.CharactersLeft.{characters_left};
@@ -26,9 +26,10 @@ use crate::kept::{SeenSegment, Unseen, seen_segment};
 use crate::writing::{first_item, write_items};
 use normalizer_iterators::{MarkRun, NormalizeError, SegmentBuffers};
 use normalizer_sets::CharacterSet;
-use normalizer_tables::characters::IgnoredCharacters;
+use normalizer_tables::characters::{CharacterData, IgnoredCharacters};
 use normalizer_tables::may_be_second;
 use normalizer_tables::members::Members;
+use normalizer_tables::word::{is_ordinary_class_form, is_plain, low_byte};
 use normalizer_text::output::Output;
 use normalizer_text::{Chars, Step, Units};
 use std::alloc::{AllocError, Global};
@@ -51,6 +52,11 @@ pub trait Forming {
     /// Which characters begin a new part.
     ghost beginning: { Self → ℕ → Bool };
 
+    /// Returns the data that say the lists and the classes of the reading.
+    fn characters(&self) -> &CharacterData<'_>
+        ensures lists { (c : ℕ) → (made_form self.now).reading.list c ≡ list_of result.now [] c }
+        ensures classes { (c : ℕ) → (made_form self.now).reading.class c ≡ class_of result.now c };
+
     /// Returns the class of a character that is passed on as it is: wherever it comes if that is 0, otherwise unless
     /// the class before is greater.
     fn passthrough_class(&self, character: char) -> Option<u8>
@@ -59,10 +65,6 @@ pub trait Forming {
     /// Returns a set of characters that are passed on, with class 0. They aren't looked up.
     fn passing(&self) -> &CharacterSet
         ensures { (c : ℕ) → has result.now c ≡ true → passthrough_class self.now c ≡ Some 0 };
-
-    /// Returns the class of a character, if it is its own list.
-    fn class_of_itself(&self, character: char) -> Option<u8>
-        ensures { IfSome result (IsOwnListOfClass (made_form self.now).reading character) };
 
     /// Returns the bound below which every character is passed on, with class 0.
     fn passthrough_bound(&self) -> u32
@@ -86,10 +88,6 @@ pub trait Forming {
     /// The form of a character alone, if its list is that.
     fn form_of_one(&self, character: char) -> Option<Members<'_>>
         ensures { IfSome result (λ members. members ≡ form_of (made_form self.now) (character ∷ [])) };
-
-    /// Makes empty buffers for the forms of short texts.
-    fn segment_buffers(&self) -> SegmentBuffers
-        ensures { text result ≡ [] };
 
     /// Makes the form of what the units decode to in the buffers. Returns whether it fits: whether the lists of the
     /// characters have at most `places` members together.
@@ -124,8 +122,25 @@ pub trait Forming {
         ensures room { HasShortUnits (made_form self.now) U.encoding (U.units units) → IsOk result }
         ensures refused { IsOkUnless result NormalizeError.Memory };
 
+    /// Returns the class of a character, if it is its own list.
+    final fn class_of_itself(&self, character: char) -> Option<u8>
+        ensures { IfSome result (IsOwnListOfClass (made_form self.now).reading character) }
+    {
+        let characters = self.characters();
+        characters.class_of_itself(character, characters.word_of(character))
+    }
+
+    /// Makes empty buffers for the forms of short texts.
+    final fn segment_buffers(&self) -> SegmentBuffers
+        ensures { text result ≡ [] }
+    {
+        SegmentBuffers::new(self.characters())
+    }
+
     /// Returns the allocator of the data.
-    fn allocator(&self) -> Global;
+    final fn allocator(&self) -> Global {
+        self.characters().allocator()
+    }
 
     /// Characters that pass with class 0 are normalized apart, those that pass with another may follow characters of
     /// classes up to it, and those below the bound pass; what `begins` accepts is normalized apart from what comes before.
@@ -142,6 +157,21 @@ pub trait Forming {
     ghost suits: { (f : Self) → SuitsTexts (made_form f).reading (made_form f).form };
 }
 
+/// Returns the class of a character that is its own list, by its word: the low byte, which is 0 if the word is plain.
+/// The two kinds of words aren't told apart, so that there is no branch on what alternates in a text.
+#[inline(always)]
+#[tactic(auto, using(crate::proofs::passthrough::ClassReadings::classes_in_words))]
+fn class_by(characters: &CharacterData<'_>, character: char, word: u32) -> Option<u8>
+    requires { word ≡ word_of characters.now character }
+    ensures { result ≡ class_of_itself (reading_of_word characters.now character) }
+{
+    if is_plain(word) || is_ordinary_class_form(word) {
+        Some(low_byte(word))
+    } else {
+        None
+    }
+}
+
 impl<'a> Forming for DecomposingForm<'a> {
     ghost made_form = { decomposing_by };
 
@@ -154,21 +184,21 @@ impl<'a> Forming for DecomposingForm<'a> {
 
     ghost beginning = { λ f c. nat_lt c f.bounds.decomposition || not (has_class_form f.characters c) };
 
+    fn characters(&self) -> &CharacterData<'_> {
+        &self.characters
+    }
+
+    #[inline(always)]
     fn passthrough_class(&self, character: char) -> Option<u8> {
         if (character as u32) < self.bounds.decomposition {
             return Some(0);
         }
         let word = self.characters.word_of(character);
-        self.characters.class_of_itself(character, word)
+        class_by(&self.characters, character, word)
     }
 
     fn passing(&self) -> &CharacterSet {
         self.characters.plain()
-    }
-
-    fn class_of_itself(&self, character: char) -> Option<u8> {
-        let word = self.characters.word_of(character);
-        self.characters.class_of_itself(character, word)
     }
 
     fn passthrough_bound(&self) -> u32 {
@@ -196,10 +226,6 @@ impl<'a> Forming for DecomposingForm<'a> {
         )
     }
 
-    fn segment_buffers(&self) -> SegmentBuffers {
-        SegmentBuffers::new(&self.characters)
-    }
-
     fn short_form<U: Units>(&self, units: U, buffers: &mut SegmentBuffers) -> bool {
         buffers.decompose(&self.characters, IgnoredCharacters::Dropped, units)
     }
@@ -220,10 +246,6 @@ impl<'a> Forming for DecomposingForm<'a> {
         first_item(self.items(Chars::new(units))?)
     }
 
-    fn allocator(&self) -> Global {
-        self.characters.allocator()
-    }
-
     fn passthrough_is_normalized_apart(&self) {}
 
     ghost suits = { λ f. f.serves.laws };
@@ -240,13 +262,18 @@ impl<'a> Forming for ComposingForm<'a> {
 
     ghost beginning = { λ f c. is_taken_as_boundary f.characters f.bounds c };
 
+    fn characters(&self) -> &CharacterData<'_> {
+        &self.characters
+    }
+
     #[tactic(auto, unfolding(crate::specs::inner::PassthroughRuns::class_if_alone, crate::specs::inner::PassthroughRuns::composing_class))]
+    #[inline(always)]
     fn passthrough_class(&self, character: char) -> Option<u8> {
         let word = self.characters.word_of(character);
         if self.passes_by(character, word) {
             return Some(0);
         }
-        let class = self.characters.class_of_itself(character, word)?;
+        let class = class_by(&self.characters, character, word)?;
         if class > 0 && !may_be_second(self.pairs, character) {
             Some(class)
         } else {
@@ -257,11 +284,6 @@ impl<'a> Forming for ComposingForm<'a> {
     #[tactic(auto, unfolding(crate::specs::inner::PassthroughRuns::composing_class, normalizer_tables::specs::PairConditions::is_composing_passthrough, normalizer_tables::specs::TableSets::has_no_flag))]
     fn passing(&self) -> &CharacterSet {
         self.characters.unflagged()
-    }
-
-    fn class_of_itself(&self, character: char) -> Option<u8> {
-        let word = self.characters.word_of(character);
-        self.characters.class_of_itself(character, word)
     }
 
     fn passthrough_bound(&self) -> u32 {
@@ -292,10 +314,6 @@ impl<'a> Forming for ComposingForm<'a> {
         }
     }
 
-    fn segment_buffers(&self) -> SegmentBuffers {
-        SegmentBuffers::new(&self.characters)
-    }
-
     fn short_form<U: Units>(&self, units: U, buffers: &mut SegmentBuffers) -> bool {
         let ignored = IgnoredCharacters::Dropped;
         buffers.compose(&self.characters, ignored, self.pairs, units)
@@ -316,10 +334,6 @@ impl<'a> Forming for ComposingForm<'a> {
 
     fn first_item<U: Units>(&self, units: U) -> Result<Option<char>, NormalizeError> {
         first_item(self.items(Chars::new(units))?)
-    }
-
-    fn allocator(&self) -> Global {
-        self.characters.allocator()
     }
 
     fn passthrough_is_normalized_apart(&self) {}

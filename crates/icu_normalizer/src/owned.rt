@@ -141,6 +141,9 @@ fn change_of<U: Expected, N: Forming>(
     ensures refused { IsOkUnless result NormalizeError.Memory }
 {
     let kept = kept_end(normalizer, units);
+    if kept.end == units.len() {
+        return Ok(None);
+    }
     let rest = units.after(kept.end);
     if changes_first(normalizer, rest, kept.composite) {
         return Ok(Some(Change {

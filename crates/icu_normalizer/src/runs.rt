@@ -1,5 +1,5 @@
 //! The ends of runs of characters that are passed on as they are, and of the segments between them.
-ghost use Rattle.std.specs.Prelude.{◌≡◌, ◌<◌, drop, length, take, IfSome, MatchOption};
+ghost use Rattle.std.specs.Prelude.{◌≡◌, ◌≢◌, ◌<◌, ◌≤◌, drop, length, take, IfSome, MatchOption};
 ghost use Rattle.normalizer_text.specs.Encodings.{first_in};
 ghost use Rattle.normalizer_text.specs.InputCut.{IsInputNormalized};
 ghost use Rattle.normalizer_text.specs.DecodingSteps.{IsBoundary};
@@ -60,6 +60,49 @@ fn next_class<N: Forming>(normalizer: &N, last: u8, step: Step) -> Option<u8>
     }
 }
 
+/// How many starters in a row are looked up one by one where letters and marks alternate.
+const PATIENCE: usize = 6;
+
+/// How few units between marks say that letters and marks alternate.
+const NEAR: usize = 6;
+
+/// Characters below this, as Latin letters, are mostly followed by others like them.
+const LOW: u32 = 0xC0;
+
+/// Returns how many starters in a row are looked up one by one after marks, if so many units were passed over together
+/// before them: where letters and marks alternate, each change between the two kinds of loop is a branch that isn't
+/// foreseen.
+#[inline(always)]
+fn patience_after(passed: usize) -> usize
+    ensures some { 0 < result }
+    ensures few { result ≤ 6 }
+{
+    if passed < NEAR { PATIENCE } else { 1 }
+}
+
+/// Returns how many starters are at the end, after a character of a class. A low one counts as many.
+#[inline(always)]
+fn starters_after(starters: usize, class: u8, character: char) -> usize
+    requires { starters ≤ 6 }
+    ensures starters { 0 < result → class ≡ 0 }
+{
+    let count = if (character as u32) < LOW {
+        PATIENCE
+    } else {
+        1
+    };
+    if class == 0 { starters + count } else { 0 }
+}
+
+/// Returns where the marks at an end begin, after a character of a class.
+#[inline(always)]
+fn marks_after(marks: usize, class: u8, end: usize) -> usize
+    ensures starter { class ≡ 0 → result ≡ end }
+    ensures mark { class ≢ 0 → result ≡ marks }
+{
+    if class == 0 { end } else { marks }
+}
+
 /// Returns the run of characters that are passed on as they are: marks as long as their classes don't fall.
 #[inline(always)]
 fn run_end<U: Units, N: Forming>(normalizer: &N, units: U) -> Run
@@ -71,6 +114,8 @@ fn run_end<U: Units, N: Forming>(normalizer: &N, units: U) -> Run
     let mut end = units.end_of_members(0, passing);
     let mut marks = end;
     let mut last = 0;
+    let mut starters = 0;
+    let mut patience = patience_after(end);
     while end < units.len() {
         let step = units.step_at(end);
         let Some(class) = next_class(normalizer, last, step) else {
@@ -80,13 +125,17 @@ fn run_end<U: Units, N: Forming>(normalizer: &N, units: U) -> Run
                 next: Some(step),
             };
         };
-        if class == 0 {
-            end = units.end_of_members(end + step.width, passing);
-            marks = end;
-        } else {
-            end += step.width;
-        }
+        end += step.width;
+        marks = marks_after(marks, class, end);
+        starters = starters_after(starters, class, step.character);
         last = class;
+        if starters >= patience {
+            let from = end;
+            end = units.end_of_members(from, passing);
+            marks = end;
+            starters = 0;
+            patience = patience_after(end - from);
+        }
     }
     Run {
         marks,

@@ -182,6 +182,20 @@ module _ (passed : ℕ → Option ℕ) (e : Encoding) (units : List ℕ) where
           (All-nil (λ t. class_of_step passed t ≢ Some 0)));
     }
 
+    -- with either
+    pub IsRun-next : (marks last k new : ℕ) → IsRun passed e units marks end last → next_class passed last s ≡ Some k → (k ≡ 0 → new ≡ end + s.width) → (k ≢ 0 → new ≡ marks)
+        → IsRun passed e units new (end + s.width) k
+    IsRun-next marks last k new run passes starter mark = elim (cases_Bool (k == 0)) [
+      | inl zero ↦
+          let is : k ≡ 0 = eqb-true k 0 zero in
+          subst (λ n. IsRun passed e units n (end + s.width) k) (sym (starter is))
+          (subst (IsRun passed e units (end + s.width) (end + s.width)) (sym is)
+          (IsRun-starters (end + s.width) (IsPassthroughTo-more last 0 run.to_end (passes ∙ ap (λ n. Some n) is))))
+      | inr other ↦
+          let not_zero : k ≢ 0 = λ is. (let no : true ≡ false = subst (λ n. (n == 0) ≡ false) is other in cc) in
+          subst (λ n. IsRun passed e units n (end + s.width) k) (sym (mark not_zero)) (IsRun-mark marks last k run passes not_zero)
+    ]
+
   -- without the last of the characters, a starter
   module _ (end : ℕ) (to : IsPassthroughTo passed e units end 0) (s : Step) (last : IsLastStep (first_in e) (take end units) s) where
     abbrev front : List ℕ

@@ -1,5 +1,9 @@
-use Rattle.icu_normalizer.proofs.results.QualifyingLemmas.{IsKeptTo-qualifies, differs-with_rest}
+use Rattle.std.proofs.Common.{◌∙◌}
+use Rattle.icu_normalizer.proofs.results.QualifyingLemmas.{IsKeptTo-qualifies, differs-with_rest, normalized-whole}
 use Rattle.icu_normalizer.proofs.owned.change_of.Goals as goal
+
+pub returns-then-kept-len-clause-change : goal.returns-then-kept-len-clause-change
+returns-then-kept-len-clause-change g c = normalized-whole _ _ _ _ _ (IsKeptTo-qualifies _ _ _ _ _ c.kept_end-kept.ensures.kept) (c.if-kept-len.true ∙ c.len.ensures)
 
 pub changes_first-requires : goal.changes_first-requires
 changes_first-requires g c = rw c.after-rest.ensures c.kept_end-kept.ensures.composite
