@@ -67,10 +67,3 @@ other_reasons Refused Refused' Written Written' Unrefused Unrefused' Cannot f g 
 other_reasons Refused Refused' Written Written' Unrefused Unrefused' Cannot f g h (Prepared fault) why = why
 other_reasons Refused Refused' Written Written' Unrefused Unrefused' Cannot f g h (IllFormed scheme at) why = why
 other_reasons Refused Refused' Written Written' Unrefused Unrefused' Cannot f g h (Replaced count) why = why
-
--- a fault of an open file is one of the file
-pub fault_of_open_file : (Cannot : ErrorKind → Type 0) (Refused Refused' Written Unrefused Unrefused' : Type 0) (r : Result Answer Fault)
-    → (Refused → Refused') → (Unrefused → Unrefused')
-    → IfErr r (IsFileFault (λ _. ⊥) Refused Written Unrefused) → IfErr r (IsFileFault Cannot Refused' Written Unrefused')
-fault_of_open_file Cannot Refused Refused' Written Unrefused Unrefused' (Ok answer) f g why = tt
-fault_of_open_file Cannot Refused Refused' Written Unrefused Unrefused' (Err fault) f g why = other_reasons Refused Refused' Written Written Unrefused Unrefused' Cannot f (λ x. x) g fault why

@@ -5,20 +5,12 @@ use Rattle.std.proofs.KnownBytes.{Appends-nil, Appends-trans}
 use Rattle.std.proofs.Math.Seq.{take-append_seam}
 use Rattle.std.specs.Io.KnownBytes.{Appends}
 use Rattle.normalizer_io.specs.Transfer.{AppendsFront}
-use Rattle.normalizer_command.specs.declared.reply.Answer.{Answer}
 use Rattle.normalizer_command.specs.Works.{Work}
-use Rattle.normalizer_command.specs.Written.{IsCutOff, IsWritten}
-use Rattle.normalizer_command.specs.Listings.{listed, IsListed, IsListedInPart}
+use Rattle.normalizer_command.specs.Written.{IsCutOff}
+use Rattle.normalizer_command.specs.Listings.{listed, IsListedInPart}
 use Rattle.normalizer_command.specs.Outcomes.{is_unwritten, Leaves}
 use Rattle.normalizer_command.specs.declared.fault.Fault.{Fault}
 use Rattle.normalizer_command.specs.declared.listing.Listing.{Listing}
-
-module _ (l : Listing) (w : Work) (name : List ℕ) (bytes before after x y : Option (List ℕ)) (answer : Answer) (written : IsWritten w name bytes x y answer) where
-  pub listed_by : ((output : List ℕ) → Appends before after (listed l name answer output)) → IsListed l w name bytes before after answer
-  listed_by appends = (written.0, written.1, appends written.0)
-
-  pub listed_in_part : ((output : List ℕ) → AppendsFront before after (listed l name answer output)) → IsListedInPart l w name bytes before after
-  listed_in_part appends = (answer, written.0, written.1, appends written.0)
 
 pub nothing_listed : (l : Listing) (w : Work) (name : List ℕ) (bytes before x y : Option (List ℕ)) → IsCutOff w name bytes x y → IsListedInPart l w name bytes before before
 nothing_listed l w name bytes before x y cut = (cut.0, cut.1, cut.2, (0, Appends-nil before))

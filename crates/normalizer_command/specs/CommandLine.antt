@@ -1,5 +1,5 @@
 -- The arguments of the program, in the words of `clap`.
-use Rattle.std.specs.Prelude.{codes, Some}
+use Rattle.std.specs.Prelude.{ℕ, List, codes, Some}
 use Rattle.clap.specs.Lexer.{usize_max}
 use Rattle.clap.specs.Simple.{App, new_app, new_rule, with_rule}
 use Rattle.clap.specs.Walk.{Rule}
@@ -24,38 +24,27 @@ directory_rule = record (new_rule (codes "data")) { long = Some (codes "data"); 
 abbrev pub encoding_rule : Rule
 encoding_rule = record (new_rule (codes "encoding")) { long = Some (codes "encoding"); value_names = 1 }
 
--- --version, -V
-abbrev pub version_rule : Rule
-version_rule = record (new_rule (codes "version")) { long = Some (codes "version"); short = Some 86; action = Some SetTrue }
+-- a flag of this name
+abbrev pub flag_rule : (name : List ℕ) → Rule
+flag_rule name = record (new_rule name) { long = Some name; action = Some SetTrue }
 
--- --strict
-abbrev pub strict_rule : Rule
-strict_rule = record (new_rule (codes "strict")) { long = Some (codes "strict"); action = Some SetTrue }
+-- and of one letter
+abbrev pub short_flag_rule : (name : List ℕ) → (letter : ℕ) → Rule
+short_flag_rule name letter = record (flag_rule name) { short = Some letter }
 
--- --quiet, -q
-abbrev pub quiet_rule : Rule
-quiet_rule = record (new_rule (codes "quiet")) { long = Some (codes "quiet"); short = Some 113; action = Some SetTrue }
-
--- --name-only, -l
-abbrev pub name_only_rule : Rule
-name_only_rule = record (new_rule (codes "name-only")) {
-  long = Some (codes "name-only");
-  short = Some 108;
-  action = Some SetTrue;
-}
-
--- --null, -z
-abbrev pub null_rule : Rule
-null_rule = record (new_rule (codes "null")) { long = Some (codes "null"); short = Some 122; action = Some SetTrue }
-
+-- --data, --encoding, --strict
 abbrev pub with_reading : App → App
-with_reading a = with_rule (with_rule (with_rule a directory_rule) encoding_rule) strict_rule
+with_reading a = with_rule (with_rule (with_rule a directory_rule) encoding_rule) (flag_rule (codes "strict"))
 
+-- --quiet or -q, --name-only or -l, --null or -z
 abbrev pub with_listing : App → App
-with_listing a = with_rule (with_rule (with_rule a quiet_rule) name_only_rule) null_rule
+with_listing a =
+    with_rule (with_rule (with_rule a (short_flag_rule (codes "quiet") 113)) (short_flag_rule (codes "name-only") 108))
+    (short_flag_rule (codes "null") 122)
 
+-- these, and --version or -V
 abbrev pub with_options : App → App
-with_options a = with_rule (with_listing (with_reading a)) version_rule
+with_options a = with_rule (with_listing (with_reading a)) (short_flag_rule (codes "version") 86)
 
 abbrev pub uninorm : App
 uninorm = with_options (with_rule (with_rule (new_app (codes "uninorm")) word_rule) after_rule)

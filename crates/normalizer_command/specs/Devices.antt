@@ -3,8 +3,8 @@ use Rattle.std.specs.Prelude.{ℕ, List, Option}
 use Rattle.std.specs.declared.io.ErrorKind.{ErrorKind}
 
 -- of the file of a name: its bytes, if they are known; that it can be opened; that it can't, for this reason; that it was
--- opened, and no read of it was refused; and that one was. Of the output: the bytes that it took, if they are known; and that a write
--- was refused on the way from one state to another
+-- opened, and no read of it was refused; and that one was. Of the output: the bytes that it took, if they are known; and
+-- that a write was refused on the way from one state to another
 pub record Devices (W : Type 0) : Type 1 where
   pub bytes_of : List ℕ → Option (List ℕ)
   pub can_open : List ℕ → Type 0
@@ -14,8 +14,9 @@ pub record Devices (W : Type 0) : Type 1 where
   pub taken : W → Option (List ℕ)
   pub write_refused : W → W → Type 0
 
-abbrev pub devices : {W : Type 0} → (bytes_of : List ℕ → Option (List ℕ)) → (can_open : List ℕ → Type 0) → (cannot_open : List ℕ → ErrorKind → Type 0)
-    → (unrefused read_refused : List ℕ → Type 0) → (taken : W → Option (List ℕ)) → (write_refused : W → W → Type 0) → Devices W
+abbrev pub devices : {W : Type 0} → (bytes_of : List ℕ → Option (List ℕ)) → (can_open : List ℕ → Type 0)
+    → (cannot_open : List ℕ → ErrorKind → Type 0) → (unrefused read_refused : List ℕ → Type 0)
+    → (taken : W → Option (List ℕ)) → (write_refused : W → W → Type 0) → Devices W
 devices bytes_of can_open cannot_open unrefused read_refused taken write_refused = record {
   bytes_of = bytes_of;
   can_open = can_open;

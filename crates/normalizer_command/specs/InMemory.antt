@@ -1,5 +1,6 @@
 -- The program over files in memory: what it writes and reports, and its exit status. No device is named.
-use Rattle.std.specs.Prelude.{◌≡◌, ◌≢◌, ◌⊎◌, ℕ, List, [], ◌∷◌, ◌++◌, Option, Some, None, Result, Ok, Err, MatchOption, bytes_eq, if◌then◌else◌, map, string_bytes}
+use Rattle.std.specs.Prelude.{◌≡◌, ◌≢◌, ◌⊎◌, ℕ, List, [], ◌∷◌, ◌++◌, Option, Some, None, Result, Ok, Err, MatchOption}
+use Rattle.std.specs.Prelude.{bytes_eq, if◌then◌else◌, map, string_bytes}
 use Rattle.std.specs.Option.{option_map, option_to_list}
 use Rattle.std.specs.declared.io.ErrorKind.TheVariants.{NotFound}
 use Rattle.icu_normalizer.specs.Building.{Builds}

@@ -4,7 +4,6 @@ use Rattle.icu_normalizer.specs.Form.{Form}
 use Rattle.icu_normalizer.specs.NormalForms.{nfc, normal_form}
 use Rattle.icu_normalizer.specs.Reading.{Reading}
 use Rattle.icu_normalizer.specs.IgnoredCharacters.TheVariants.{Dropped, Replaced}
-use Rattle.icu_normalizer.specs.Mappings.{Mappings}
 use Rattle.icu_normalizer.specs.Mappings.TheVariants.{Canonical, All}
 use Rattle.icu_normalizer.specs.RecordValue.{RecordValue, Uts46RecordValue}
 use Rattle.icu_normalizer.specs.RecordedReading.{recorded_reading}
@@ -21,21 +20,12 @@ pub record Making : Type 0 where
   pub reading : Reading
   pub form : Form
 
-abbrev pub mappings_of : NormalForm → Mappings
-mappings_of Nfd = Canonical
-mappings_of Nfc = Canonical
-mappings_of Nfkd = All
-mappings_of Nfkc = All
-
-abbrev pub kind_of : NormalForm → Form
-kind_of Nfd = Decomposing
-kind_of Nfc = Composing
-kind_of Nfkd = Decomposing
-kind_of Nfkc = Composing
-
 -- D118 to D121 by what records mean
 abbrev pub making_by : List RecordValue → NormalForm → Making
-making_by records form = record { reading = recorded_reading records (mappings_of form); form = kind_of form }
+making_by records Nfd = record { reading = recorded_reading records Canonical; form = Decomposing }
+making_by records Nfc = record { reading = recorded_reading records Canonical; form = Composing }
+making_by records Nfkd = record { reading = recorded_reading records All; form = Decomposing }
+making_by records Nfkc = record { reading = recorded_reading records All; form = Composing }
 
 -- the normalizer makes this form of every text
 pub record Makes (n : AnyNormalizer) (m : Making) : Type 0 where

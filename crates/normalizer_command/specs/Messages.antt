@@ -39,6 +39,11 @@ name_of_marker markers.NormalizerNfkdTablesV1 = codes "NormalizerNfkdTablesV1"
 name_of_marker markers.NormalizerNfcV1 = codes "NormalizerNfcV1"
 name_of_marker markers.NormalizerNfdSupplementV1 = codes "NormalizerNfdSupplementV1"
 
+-- the data of this kind break a condition
+abbrev pub text_of_unfit : DataMarkerInfo → (condition : ℕ) → List ℕ
+text_of_unfit marker condition =
+    codes "the data of " ++ (name_of_marker marker ++ (codes " break condition " ++ decimal condition))
+
 -- why records can't be built
 abbrev pub text_of_error : BuildError → List ℕ
 text_of_error errors.Order = codes "the records don't strictly rise by character"
@@ -48,8 +53,7 @@ text_of_error errors.Mapping = codes "a mapping of a wrong length or with a char
 text_of_error errors.Chain = codes "more than 16 records lead from one to the next"
 text_of_error errors.Length = codes "a list is too long"
 text_of_error errors.Pair = codes "two records give the same pair"
-text_of_error (errors.Unfit marker condition) =
-    codes "the data of " ++ (name_of_marker marker ++ (codes " break condition " ++ decimal condition))
+text_of_error (errors.Unfit marker condition) = text_of_unfit marker condition
 text_of_error errors.TableFull = codes "the lists have more items than the tables hold"
 text_of_error errors.Memory = codes "out of memory"
 
@@ -83,8 +87,7 @@ words_of file_fault.Trailing = codes "there are more bytes"
 -- why it can't be used: WHAT at byte 12
 abbrev pub text_of_prepared : PreparedFault → List ℕ
 text_of_prepared (Wrong fault offset) = words_of fault ++ (codes " at byte " ++ decimal offset)
-text_of_prepared (Unfit marker condition) =
-    codes "the data of " ++ (name_of_marker marker ++ (codes " break condition " ++ decimal condition))
+text_of_prepared (Unfit marker condition) = text_of_unfit marker condition
 text_of_prepared NoMapper = codes "it has no data for the mapper"
 
 -- why, in words that are known; those of other kinds of errors are of the types of these

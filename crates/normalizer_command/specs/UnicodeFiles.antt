@@ -1,5 +1,5 @@
 -- The data that the files of Unicode mean.
-use Rattle.std.specs.Prelude.{◌≡◌, ◌≢◌, ℕ, List, [], ◌∷◌, ◌++◌, codes, Option, Some, None, IfSome, IsSomeAnd, Result, Ok, Err, ⊤, ◌⊎◌, unwrap_or}
+use Rattle.std.specs.Prelude.{◌≡◌, ◌≢◌, ℕ, List, [], ◌∷◌, ◌++◌, Option, Some, None, IfSome, IsSomeAnd, Result, Ok, Err, ⊤, ◌⊎◌, unwrap_or}
 use Rattle.std.specs.Option.{option_and_then}
 use Rattle.icu_normalizer.specs.AtFault.{IsFirstAtFault}
 use Rattle.icu_normalizer.specs.BuildError.TheVariants as errors
@@ -10,6 +10,7 @@ use Rattle.icu_normalizer.specs.RecordValue.{RecordValue, Uts46RecordValue}
 use Rattle.normalizer_ucd.specs.declared.error.UcdFile.{UcdFile}
 use Rattle.normalizer_ucd.specs.declared.error.UcdFile.TheVariants.{UnicodeData, CompositionExclusions, IdnaMappingTable}
 use Rattle.normalizer_ucd.specs.declared.idna_table.Disallowed.TheVariants.{All}
+use Rattle.normalizer_ucd.specs.Messages.{name_of_file}
 use Rattle.normalizer_ucd.specs.RecordPlaces.{place_of_record}
 use Rattle.normalizer_ucd.specs.declared.error.LineFault.{LineFault}
 use Rattle.normalizer_ucd.specs.declared.error.Place.{Place}
@@ -19,18 +20,13 @@ use Rattle.normalizer_command.specs.Devices.{Devices}
 use Rattle.normalizer_command.specs.FileFaults.{IsFileFault}
 use Rattle.normalizer_command.specs.declared.fault.Fault.{Fault}
 use Rattle.normalizer_command.specs.declared.fault.RecordsFault.{RecordsFault}
-use Rattle.normalizer_command.specs.declared.fault.Fault.TheVariants.{Open, Read, Write, Memory, Line, Records, Prepared, IllFormed, Replaced}
+use Rattle.normalizer_command.specs.declared.fault.Fault.TheVariants.{Memory, Line, Records}
 use Rattle.normalizer_command.specs.declared.worker.Command.{Command}
 use Rattle.normalizer_command.specs.declared.worker.Command.TheVariants.{OfForm, OfMapper, WellFormed}
 
-abbrev pub name_of : UcdFile → List ℕ
-name_of UnicodeData = codes "UnicodeData.txt"
-name_of CompositionExclusions = codes "CompositionExclusions.txt"
-name_of IdnaMappingTable = codes "IdnaMappingTable.txt"
-
 -- a file in a directory
 abbrev pub path_of : List ℕ → UcdFile → List ℕ
-path_of directory file = directory ++ (0x2F ∷ name_of file)
+path_of directory file = directory ++ (0x2F ∷ name_of_file file)
 
 -- a file of a directory can be opened, and these are its bytes, if they are known
 abbrev pub IsFile : (List ℕ → Option (List ℕ)) → (can_open : List ℕ → Type 0) → (directory : List ℕ) → UcdFile
@@ -99,12 +95,7 @@ IsFaultOf unicode_data exclusions table file (Records f) = (file ≡ file_of f.p
     × (uts46 : List Uts46RecordValue) × AreRecorded unicode_data exclusions table records uts46
     × IsRecordsFault (λ r. place_of_record unicode_data (unwrap_or table []) r) records uts46 f)
 IsFaultOf unicode_data exclusions table file Memory = ⊤
-IsFaultOf unicode_data exclusions table file (Open kind) = ⊥
-IsFaultOf unicode_data exclusions table file Read = ⊥
-IsFaultOf unicode_data exclusions table file Write = ⊥
-IsFaultOf unicode_data exclusions table file (Prepared f) = ⊥
-IsFaultOf unicode_data exclusions table file (IllFormed scheme at) = ⊥
-IsFaultOf unicode_data exclusions table file (Replaced count) = ⊥
+IsFaultOf unicode_data exclusions table file other = ⊥
 
 -- a command needs this file: no form needs the table
 abbrev pub NeedsFile : Command → UcdFile → Type 0

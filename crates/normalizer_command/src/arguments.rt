@@ -6,6 +6,7 @@ ghost use Rattle.std.specs.Prelude.{
   ℕ,
   List,
   Some,
+  codes,
   map,
   option_copied,
   string_bytes,
@@ -30,12 +31,9 @@ ghost use Rattle.normalizer_command.specs.CommandLine.{
   after_rule,
   directory_rule,
   encoding_rule,
-  name_only_rule,
-  null_rule,
-  quiet_rule,
-  strict_rule,
+  flag_rule,
+  short_flag_rule,
   uninorm,
-  version_rule,
   with_listing,
   with_options,
   with_reading,
@@ -95,6 +93,26 @@ const STRICT_HELP: &str = "\
 End a file at its first ill-formed sequence, which\n\
 fails. Else forms and mapped lines have U+FFFD for\n\
 each, and a report says how many a file had";
+
+/// What `--quiet` does.
+const QUIET_HELP: &str = "\
+For check, where, validate: list nothing; the\n\
+status says it. Failures are still reported";
+
+/// What `--name-only` does.
+const NAME_ONLY_HELP: &str = "\
+For where, validate: list the name of each file\n\
+that isn't in the form or valid, once, as check does";
+
+/// What `--null` does.
+const NULL_HELP: &str = "\
+End each name that check or -l lists with NUL, not\n\
+a line feed, for xargs -0";
+
+/// What `--version` does.
+const VERSION_HELP: &str = "\
+Print the version, and that of Unicode, which the\n\
+head of CompositionExclusions.txt states";
 
 /// The data.
 const DATA_HELP: &str = "\
@@ -538,7 +556,7 @@ fn with_options<'a>(alloc: Global, command: Command<'a>) -> Result<Command<'a>, 
     ensures { IfOk result (λ all. app_of all ≡ with_options (app_of command.entry)) }
 {
     let command = with_reading(alloc, command)?;
-    with_listing(alloc, command)?.arg(version(alloc))
+    with_listing(alloc, command)?.arg(short_flag(alloc, "version", 'V', VERSION_HELP))
 }
 
 fn with_reading<'a>(alloc: Global, command: Command<'a>) -> Result<Command<'a>, AllocError>
@@ -547,7 +565,7 @@ fn with_reading<'a>(alloc: Global, command: Command<'a>) -> Result<Command<'a>, 
     command
         .arg(directory(alloc))?
         .arg(encoding(alloc))?
-        .arg(strict(alloc))
+        .arg(flag(alloc, "strict", STRICT_HELP))
 }
 
 fn with_listing<'a>(alloc: Global, command: Command<'a>) -> Result<Command<'a>, AllocError>
@@ -599,62 +617,40 @@ fn encoding<'a>(alloc: Global) -> Arg<'a>
         .help(ENCODING_HELP)
 }
 
-fn strict<'a>(alloc: Global) -> Arg<'a>
-    ensures rule { rule_of result ≡ strict_rule }
-    ensures local { result.global ≡ false }
-{
-    Arg::new(alloc, "strict")
-        .long("strict")
-        .action(ArgAction::SetTrue)
-        .help(STRICT_HELP)
-}
-
 fn quiet<'a>(alloc: Global) -> Arg<'a>
-    ensures rule { rule_of result ≡ quiet_rule }
+    ensures rule { rule_of result ≡ short_flag_rule (codes "quiet") 113 }
     ensures local { result.global ≡ false }
 {
-    Arg::new(alloc, "quiet")
-        .long("quiet")
-        .short('q')
-        .action(ArgAction::SetTrue)
-        .help(
-            "For check, where, validate: list nothing; the\nstatus says it. Failures are still reported",
-        )
+    short_flag(alloc, "quiet", 'q', QUIET_HELP)
 }
 
 fn name_only<'a>(alloc: Global) -> Arg<'a>
-    ensures rule { rule_of result ≡ name_only_rule }
+    ensures rule { rule_of result ≡ short_flag_rule (codes "name-only") 108 }
     ensures local { result.global ≡ false }
 {
-    Arg::new(alloc, "name-only")
-        .long("name-only")
-        .short('l')
-        .action(ArgAction::SetTrue)
-        .help(
-            "For where, validate: list the name of each file\nthat isn't in the form or valid, once, as check does",
-        )
+    short_flag(alloc, "name-only", 'l', NAME_ONLY_HELP)
 }
 
 fn null<'a>(alloc: Global) -> Arg<'a>
-    ensures rule { rule_of result ≡ null_rule }
+    ensures rule { rule_of result ≡ short_flag_rule (codes "null") 122 }
     ensures local { result.global ≡ false }
 {
-    Arg::new(alloc, "null")
-        .long("null")
-        .short('z')
-        .action(ArgAction::SetTrue)
-        .help("End each name that check or -l lists with NUL, not\na line feed, for xargs -0")
+    short_flag(alloc, "null", 'z', NULL_HELP)
 }
 
-fn version<'a>(alloc: Global) -> Arg<'a>
-    ensures rule { rule_of result ≡ version_rule }
+fn flag<'a>(alloc: Global, name: &'a str, help: &'a str) -> Arg<'a>
+    ensures rule { rule_of result ≡ flag_rule name.now }
     ensures local { result.global ≡ false }
 {
-    Arg::new(alloc, "version")
-        .long("version")
-        .short('V')
+    Arg::new(alloc, name)
+        .long(name)
         .action(ArgAction::SetTrue)
-        .help(
-            "Print the version, and that of Unicode, which the\nhead of CompositionExclusions.txt states",
-        )
+        .help(help)
+}
+
+fn short_flag<'a>(alloc: Global, name: &'a str, short: char, help: &'a str) -> Arg<'a>
+    ensures rule { rule_of result ≡ short_flag_rule name.now short }
+    ensures local { result.global ≡ false }
+{
+    flag(alloc, name, help).short(short)
 }

@@ -1,12 +1,13 @@
 //! What the program reads from, and what it reports failures to.
 ghost use Rattle.std.specs.Prelude.{◌≡◌, ℕ, List, Option, IfOk, IfErr, OnOk};
 ghost use Rattle.std.specs.declared.io.ErrorKind.{ErrorKind};
+ghost use Rattle.normalizer_command.specs.Devices.{Devices, devices};
 ghost use Rattle.normalizer_command.specs.FileFaults.{IsReadUnrefused};
 ghost use Rattle.normalizer_command.specs.FileReports.{Report, Tells};
 ghost use Rattle.normalizer_command.specs.Messages.{report_of};
 
 use crate::message::Message;
-use normalizer_io::Source;
+use normalizer_io::{Source, Target};
 use std::io::ErrorKind;
 
 /// Files by their names, and standard input.
@@ -41,6 +42,18 @@ pub trait Inputs {
         ensures succeeds { IfOk result (λ input. (later : Self.Input) → IsReadUnrefused (Self.Input.bytes_left later)
             Self.Input.refusal input later → unrefused self.now name.now) }
         ensures fault { IfErr result (cannot_open self.now name.now) };
+}
+
+/// Files, beside an output that takes what is written of them.
+pub trait ForOutput<W> {
+    /// What is known of the files and of the output.
+    ghost devices: { Self → Devices W };
+}
+
+impl<I: Inputs, W: Target> ForOutput<W> for I {
+    ghost devices = { λ inputs.
+        devices (I.bytes_of inputs) (I.can_open inputs) (I.cannot_open inputs) (I.unrefused inputs)
+        (I.read_refused inputs) W.bytes_taken W.refusal };
 }
 
 /// Takes reports of files that failed.

@@ -7,6 +7,7 @@ ghost use Rattle.normalizer_command.specs.Messages.{
   text_of_fault,
   text_of_prepared,
   text_of_records,
+  text_of_unfit,
   words_of,
 };
 ghost use Rattle.normalizer_command.specs.FileFaults.{fault_of_file, fault_of_transfer};
@@ -94,10 +95,7 @@ impl fmt::Display for PreparedFault {
                 let words = words_of(fault);
                 write!(f, "{words} at byte {offset}")
             }
-            PreparedFault::Unfit(marker, condition) => {
-                let name = name_of(marker);
-                write!(f, "the data of {name} break condition {condition}")
-            }
+            PreparedFault::Unfit(marker, condition) => write!(f, "{}", Unfit(marker, condition)),
             PreparedFault::NoMapper => f.write_str("it has no data for the mapper"),
         }
     }
@@ -165,15 +163,25 @@ impl fmt::Display for Reason {
             BuildError::Chain => f.write_str("more than 16 records lead from one to the next"),
             BuildError::Length => f.write_str("a list is too long"),
             BuildError::Pair => f.write_str("two records give the same pair"),
-            BuildError::Unfit { marker, condition } => {
-                let name = name_of(marker);
-                write!(f, "the data of {name} break condition {condition}")
-            }
+            BuildError::Unfit { marker, condition } => write!(f, "{}", Unfit(marker, condition)),
             BuildError::TableFull => {
                 f.write_str("the lists have more items than the tables hold")
             }
             BuildError::Memory => f.write_str("out of memory"),
         }
+    }
+}
+
+/// The text of data of a kind that break a condition.
+#[derive(Clone, Copy)]
+struct Unfit(DataMarkerInfo, u8);
+
+impl fmt::Display for Unfit {
+    ghost output = { λ unfit. Some (text_of_unfit unfit.0 unfit.1) };
+
+    fn fmt<W: fmt::Write>(&self, f: &mut fmt::Formatter<W>) -> fmt::Result {
+        let (name, condition) = (name_of(self.0), self.1);
+        write!(f, "the data of {name} break condition {condition}")
     }
 }
 

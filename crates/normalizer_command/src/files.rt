@@ -23,8 +23,7 @@ ghost use Rattle.std.specs.Io.KnownBytes.{Appends};
 ghost use Rattle.normalizer_command.specs.declared.reply.Answer.{Answer};
 ghost use Rattle.normalizer_io.specs.Transfer.{AppendsFront, IsUnrefused};
 ghost use Rattle.normalizer_streams.specs.Streams.{IsEndless};
-ghost use Rattle.normalizer_command.specs.Devices.{devices};
-ghost use Rattle.normalizer_command.specs.FileFaults.{IsFileFault, IsReadUnrefused};
+ghost use Rattle.normalizer_command.specs.FileFaults.{IsFileFault, IsTransferFault};
 ghost use Rattle.normalizer_command.specs.Outcomes.{
   fault_told,
   greater,
@@ -40,7 +39,7 @@ ghost use Rattle.normalizer_command.specs.Making.{Makes, Making};
 ghost use Rattle.normalizer_command.specs.Mismatches.{TellsComparison};
 ghost use Rattle.normalizer_command.specs.Works.{Does, IsOfText, OfForm, Work};
 
-use crate::devices::{Inputs, Reports};
+use crate::devices::{ForOutput, Inputs, Reports};
 use crate::fault::Fault;
 use crate::listing::{LineEnd, Listing};
 use crate::message::Message;
@@ -66,10 +65,7 @@ pub(crate) fn over_files<I: Inputs, W: Target, R: Reports>(
     reports: &mut R,
 ) -> u8
     ensures { (w : Work) → Does worker.now w →
-        AreDone
-        (devices (I.bytes_of inputs.now) (I.can_open inputs.now) (I.cannot_open inputs.now) (I.unrefused inputs.now)
-        (I.read_refused inputs.now) W.bytes_taken W.refusal)
-        listing w (map (λ name. name.now) names.now)
+        AreDone (⟦<I as ForOutput<W>>⟧.devices inputs.now) listing w (map (λ name. name.now) names.now)
         (state writer.old (R.reports reports.old) 0) (state writer.new (R.reports reports.new) result) }
 {
     let mut status = 0;
@@ -119,10 +115,8 @@ fn over_input<S: Source, W: Target>(
 ) -> Result<Answer, Fault>
     ensures done { (w : Work) → Does worker.now w → IfOk result
         (IsListed listing w name.now (S.bytes_left input.old) (W.bytes_taken writer.old) (W.bytes_taken writer.new)) }
-    ensures why { IfErr result (IsFileFault (λ _. ⊥)
-        (S.refusal input.old input.new ⊎ IsEndless (S.bytes_left input.old)) (W.refusal writer.old writer.new)
-        (IsReadUnrefused (S.bytes_left input.new) S.refusal input.old input.new
-        × IsUnrefused W.refusal writer.old writer.new)) }
+    ensures why { IfErr result (IsTransferFault S.bytes_left S.refusal W.refusal
+        (input.old, writer.old) (input.new, writer.new)) }
     ensures left { (w : Work) → Does worker.now w →
         IfErr result (λ fault. Leaves w fault (writer.new ≡ writer.old)
         (IsListedInPart listing w name.now (S.bytes_left input.old) (W.bytes_taken writer.old) (W.bytes_taken writer.new))) }
@@ -147,10 +141,8 @@ fn list_name<S: Source, W: Target>(
     requires { listing ≢ Listing.All }
     ensures done { (w : Work) → Does worker.now w → IfOk result
         (IsListed listing w name.now (S.bytes_left input.old) (W.bytes_taken writer.old) (W.bytes_taken writer.new)) }
-    ensures why { IfErr result (IsFileFault (λ _. ⊥)
-        (S.refusal input.old input.new ⊎ IsEndless (S.bytes_left input.old)) (W.refusal writer.old writer.new)
-        (IsReadUnrefused (S.bytes_left input.new) S.refusal input.old input.new
-        × IsUnrefused W.refusal writer.old writer.new)) }
+    ensures why { IfErr result (IsTransferFault S.bytes_left S.refusal W.refusal
+        (input.old, writer.old) (input.new, writer.new)) }
     ensures left { (w : Work) → Does worker.now w →
         IfErr result (λ fault. Leaves w fault (writer.new ≡ writer.old)
         (IsListedInPart listing w name.now (S.bytes_left input.old) (W.bytes_taken writer.old) (W.bytes_taken writer.new))) }
@@ -219,10 +211,8 @@ fn write_input<S: Source, W: Target>(
 ) -> Result<Answer, Fault>
     ensures done { (w : Work) → Does worker.now w → IfOk result
         (IsWritten w name.now (S.bytes_left input.old) (W.bytes_taken writer.old) (W.bytes_taken writer.new)) }
-    ensures why { IfErr result (IsFileFault (λ _. ⊥)
-        (S.refusal input.old input.new ⊎ IsEndless (S.bytes_left input.old)) (W.refusal writer.old writer.new)
-        (IsReadUnrefused (S.bytes_left input.new) S.refusal input.old input.new
-        × IsUnrefused W.refusal writer.old writer.new)) }
+    ensures why { IfErr result (IsTransferFault S.bytes_left S.refusal W.refusal
+        (input.old, writer.old) (input.new, writer.new)) }
     ensures left { (w : Work) → Does worker.now w →
         IfErr result (λ fault. Leaves w fault (writer.new ≡ writer.old)
         (IsCutOff w name.now (S.bytes_left input.old) (W.bytes_taken writer.old) (W.bytes_taken writer.new))) }
@@ -252,10 +242,8 @@ fn over_form<S: Source, W: Target>(
 ) -> Result<Answer, Fault>
     ensures done { (m : Making) → Makes normalizer.now m → IfOk result (IsWritten (OfForm task scheme mode m) name.now
         (S.bytes_left input.old) (W.bytes_taken writer.old) (W.bytes_taken writer.new)) }
-    ensures why { IfErr result (IsFileFault (λ _. ⊥)
-        (S.refusal input.old input.new ⊎ IsEndless (S.bytes_left input.old)) (W.refusal writer.old writer.new)
-        (IsReadUnrefused (S.bytes_left input.new) S.refusal input.old input.new
-        × IsUnrefused W.refusal writer.old writer.new)) }
+    ensures why { IfErr result (IsTransferFault S.bytes_left S.refusal W.refusal
+        (input.old, writer.old) (input.new, writer.new)) }
     ensures left { (m : Making) → Makes normalizer.now m →
         IfErr result (λ fault. Leaves (OfForm task scheme mode m) fault (writer.new ≡ writer.old)
         (IsCutOff (OfForm task scheme mode m) name.now
@@ -307,10 +295,8 @@ fn write_reply<S: Source, W: Target>(
     requires { IsOfText worker.now }
     ensures done { (w : Work) → Does worker.now w → IfOk result
         (IsWritten w name.now (S.bytes_left input.old) (W.bytes_taken writer.old) (W.bytes_taken writer.new)) }
-    ensures why { IfErr result (IsFileFault (λ _. ⊥)
-        (S.refusal input.old input.new ⊎ IsEndless (S.bytes_left input.old)) (W.refusal writer.old writer.new)
-        (IsReadUnrefused (S.bytes_left input.new) S.refusal input.old input.new
-        × IsUnrefused W.refusal writer.old writer.new)) }
+    ensures why { IfErr result (IsTransferFault S.bytes_left S.refusal W.refusal
+        (input.old, writer.old) (input.new, writer.new)) }
     ensures left { (w : Work) → Does worker.now w →
         IfErr result (λ fault. Leaves w fault (writer.new ≡ writer.old)
         (IsCutOff w name.now (S.bytes_left input.old) (W.bytes_taken writer.old) (W.bytes_taken writer.new))) }

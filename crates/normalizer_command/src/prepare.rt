@@ -1,7 +1,6 @@
 //! The prepared data of Unicode's files.
 ghost use Rattle.std.specs.Prelude.{◌≡◌, ⊤, IfErr, IfOk, MatchOption};
 ghost use Rattle.std.specs.Option.{option_map};
-ghost use Rattle.normalizer_command.specs.Devices.{devices};
 ghost use Rattle.normalizer_command.specs.FileFaults.{IsFileFault};
 ghost use Rattle.normalizer_command.specs.FileReports.{Tells};
 ghost use Rattle.normalizer_command.specs.Preparing.{AreAllFiles, IsPrepareFault, IsPrepared, IsTableIfThere, Refuses};

@@ -4,7 +4,6 @@ ghost use Rattle.icu_normalizer.specs.Built.{AreBuilt, data_in};
 ghost use Rattle.icu_normalizer.specs.Building.{Builds};
 ghost use Rattle.icu_normalizer.specs.RecordValue.{RecordValue, Uts46RecordValue};
 ghost use Rattle.normalizer_command.specs.UnicodeFiles.{IsDataFault, path_of};
-ghost use Rattle.normalizer_command.specs.Devices.{devices};
 ghost use Rattle.normalizer_command.specs.Outcomes.{AreDone, state};
 ghost use Rattle.normalizer_command.specs.FileReports.{Tells};
 ghost use Rattle.normalizer_command.specs.PreparedFiles.{IsFaultOfPrepared, IsFileAt};
@@ -18,13 +17,13 @@ ghost use Rattle.normalizer_command.specs.Runs.{
 };
 ghost use Rattle.normalizer_command.specs.Works.{work_by};
 
-use crate::devices::{Inputs, Reports};
+use crate::devices::{ForOutput, Inputs, Reports};
 use crate::fault::Fault;
 use crate::files::over_files;
 use crate::listing::Listing;
 use crate::message::Message;
 use crate::prepared_files::{bytes_if_file, worker_by};
-use crate::unicode_files::{DataFault, built, name_of, read_files};
+use crate::unicode_files::{DataFault, built, read_files};
 use crate::worker::{Command, Worker, worker_for};
 use icu_normalizer::{Built, NormalizeError};
 use normalizer_io::Target;
@@ -46,9 +45,7 @@ pub fn run<I: Inputs, W: Target, R: Reports>(
     writer: &mut W,
     reports: &mut R,
 ) -> u8
-    ensures { IsRun
-        (devices (I.bytes_of inputs.now) (I.can_open inputs.now) (I.cannot_open inputs.now) (I.unrefused inputs.now)
-        (I.read_refused inputs.now) W.bytes_taken W.refusal)
+    ensures { IsRun (⟦<I as ForOutput<W>>⟧.devices inputs.now)
         command listing path.now (map (λ name. name.now) names.now)
         (state writer.old (R.reports reports.old) 0) (state writer.new (R.reports reports.new) result) }
 {
@@ -74,9 +71,7 @@ fn run_with_data<I: Inputs, W: Target, R: Reports>(
     writer: &mut W,
     reports: &mut R,
 ) -> u8
-    ensures { RunsWithData
-        (devices (I.bytes_of inputs.now) (I.can_open inputs.now) (I.cannot_open inputs.now) (I.unrefused inputs.now)
-        (I.read_refused inputs.now) W.bytes_taken W.refusal)
+    ensures { RunsWithData (⟦<I as ForOutput<W>>⟧.devices inputs.now)
         command listing path.now (map (λ name. name.now) names.now)
         (state writer.old (R.reports reports.old) 0) (state writer.new (R.reports reports.new) result) }
 {
@@ -103,13 +98,8 @@ fn run_with_file<I: Inputs, W: Target, R: Reports>(
     writer: &mut W,
     reports: &mut R,
 ) -> u8
-    requires { IsFileAt
-        (devices (I.bytes_of inputs.now) (I.can_open inputs.now) (I.cannot_open inputs.now) (I.unrefused inputs.now)
-        (I.read_refused inputs.now) W.bytes_taken W.refusal)
-        path.now prepared.now }
-    ensures { RunsWithFile
-        (devices (I.bytes_of inputs.now) (I.can_open inputs.now) (I.cannot_open inputs.now) (I.unrefused inputs.now)
-        (I.read_refused inputs.now) W.bytes_taken W.refusal)
+    requires { IsFileAt (⟦<I as ForOutput<W>>⟧.devices inputs.now) path.now prepared.now }
+    ensures { RunsWithFile (⟦<I as ForOutput<W>>⟧.devices inputs.now)
         command listing path.now (map (λ name. name.now) names.now)
         (state writer.old (R.reports reports.old) 0) (state writer.new (R.reports reports.new) result) }
 {
@@ -145,9 +135,7 @@ fn run_by_data<I: Inputs, W: Target, R: Reports>(
     writer: &mut W,
     reports: &mut R,
 ) -> Result<u8, Fault>
-    ensures done { IfOk result (λ status. RunsByData
-        (devices (I.bytes_of inputs.now) (I.can_open inputs.now) (I.cannot_open inputs.now) (I.unrefused inputs.now)
-        (I.read_refused inputs.now) W.bytes_taken W.refusal)
+    ensures done { IfOk result (λ status. RunsByData (⟦<I as ForOutput<W>>⟧.devices inputs.now)
         command listing prepared.now (map (λ name. name.now) names.now)
         (state writer.old (R.reports reports.old) 0) (state writer.new (R.reports reports.new) status)) }
     ensures fault { IfErr result (IsFaultOfPrepared prepared.now command) }
@@ -170,9 +158,7 @@ fn run_with_directory<I: Inputs, W: Target, R: Reports>(
     writer: &mut W,
     reports: &mut R,
 ) -> u8
-    ensures { RunsWithDirectory
-        (devices (I.bytes_of inputs.now) (I.can_open inputs.now) (I.cannot_open inputs.now) (I.unrefused inputs.now)
-        (I.read_refused inputs.now) W.bytes_taken W.refusal)
+    ensures { RunsWithDirectory (⟦<I as ForOutput<W>>⟧.devices inputs.now)
         command listing directory.now (map (λ name. name.now) names.now)
         (state writer.old (R.reports reports.old) 0) (state writer.new (R.reports reports.new) result) }
 {
@@ -198,14 +184,10 @@ fn run_by_files<I: Inputs, W: Target, R: Reports>(
     writer: &mut W,
     reports: &mut R,
 ) -> Result<u8, DataFault>
-    ensures done { IfOk result (λ status. RunsByFiles
-        (devices (I.bytes_of inputs.now) (I.can_open inputs.now) (I.cannot_open inputs.now) (I.unrefused inputs.now)
-        (I.read_refused inputs.now) W.bytes_taken W.refusal)
+    ensures done { IfOk result (λ status. RunsByFiles (⟦<I as ForOutput<W>>⟧.devices inputs.now)
         command listing directory.now (map (λ name. name.now) names.now)
         (state writer.old (R.reports reports.old) 0) (state writer.new (R.reports reports.new) status)) }
-    ensures fault { IfErr result (λ e. IsDataFault
-        (devices (I.bytes_of inputs.now) (I.can_open inputs.now) (I.cannot_open inputs.now) (I.unrefused inputs.now)
-        (I.read_refused inputs.now) W.bytes_taken W.refusal)
+    ensures fault { IfErr result (λ e. IsDataFault (⟦<I as ForOutput<W>>⟧.devices inputs.now)
         directory.now command e.file e.fault) }
     ensures unwritten { OnErr result (writer.new ≡ writer.old) }
     ensures untold { OnErr result (reports.new ≡ reports.old) }
@@ -236,9 +218,7 @@ fn over_data<I: Inputs, W: Target, R: Reports>(
 ) -> Result<u8, NormalizeError>
     requires { AreBuilt (data_in «data».now) }
     ensures done { (records : List RecordValue) (uts46 : List Uts46RecordValue) →
-        Builds records uts46 (data_in «data».now) → IfOk result (λ status. AreDone
-        (devices (I.bytes_of inputs.now) (I.can_open inputs.now) (I.cannot_open inputs.now) (I.unrefused inputs.now)
-        (I.read_refused inputs.now) W.bytes_taken W.refusal)
+        Builds records uts46 (data_in «data».now) → IfOk result (λ status. AreDone (⟦<I as ForOutput<W>>⟧.devices inputs.now)
         listing (work_by records uts46 command) (map (λ name. name.now) names.now)
         (state writer.old (R.reports reports.old) 0) (state writer.new (R.reports reports.new) status)) }
     ensures unwritten { OnErr result (writer.new ≡ writer.old) }
@@ -254,7 +234,7 @@ pub(crate) fn tell<R: Reports>(directory: &str, error: DataFault, reports: &mut 
 {
     reports.report(Message {
         directory: Some(directory),
-        name: name_of(error.file),
+        name: error.file.name(),
         fault: error.fault,
     });
 }

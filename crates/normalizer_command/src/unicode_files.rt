@@ -16,7 +16,6 @@ ghost use Rattle.normalizer_command.specs.UnicodeFiles.{
   NeedsFile,
   file_of,
   mapper_records_of,
-  name_of,
   path_of,
 };
 ghost use Rattle.normalizer_command.specs.FileFaults.{fault_of_file, IsFileFault};
@@ -46,19 +45,8 @@ pub(crate) struct DataFault {
 fn path(alloc: Global, directory: &str, file: UcdFile) -> Result<String, AllocError>
     ensures { IfOk result (λ path. string_bytes path ≡ path_of directory.now file) }
 {
-    let name = name_of(file);
+    let name = file.name();
     format!(in alloc; "{directory}/{name}")
-}
-
-/// The name of a file.
-pub(crate) fn name_of(file: UcdFile) -> &'static str
-    ensures { result.now ≡ name_of file }
-{
-    match file {
-        UcdFile::UnicodeData => "UnicodeData.txt",
-        UcdFile::CompositionExclusions => "CompositionExclusions.txt",
-        UcdFile::IdnaMappingTable => "IdnaMappingTable.txt",
-    }
 }
 
 /// The bytes of the files of a directory. A form needs no mapping table.

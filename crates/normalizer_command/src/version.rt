@@ -19,7 +19,6 @@ ghost use Rattle.normalizer_io.specs.Transfer.{AppendsFront};
 ghost use Rattle.normalizer_ucd.specs.Versions.{stated_version};
 ghost use Rattle.normalizer_ucd.specs.declared.error.UcdFile.TheVariants.{CompositionExclusions};
 ghost use Rattle.normalizer_command.specs.UnicodeFiles.{path_of, IsFile};
-ghost use Rattle.normalizer_command.specs.Devices.{devices};
 ghost use Rattle.normalizer_command.specs.FileFaults.{IsFileFault};
 ghost use Rattle.normalizer_command.specs.Outcomes.{state};
 ghost use Rattle.normalizer_command.specs.Versions.{
@@ -30,7 +29,7 @@ ghost use Rattle.normalizer_command.specs.Versions.{
   IsVersionRun,
 };
 
-use crate::devices::{Inputs, Reports};
+use crate::devices::{ForOutput, Inputs, Reports};
 use crate::fault::Fault;
 use crate::run::tell;
 use crate::unicode_files::{DataFault, read_file};
@@ -47,9 +46,7 @@ pub fn write_version<I: Inputs, W: Target, R: Reports>(
     writer: &mut W,
     reports: &mut R,
 ) -> u8
-    ensures { IsVersionRun
-        (devices (I.bytes_of inputs.now) (I.can_open inputs.now) (I.cannot_open inputs.now) (I.unrefused inputs.now)
-        (I.read_refused inputs.now) W.bytes_taken W.refusal)
+    ensures { IsVersionRun (⟦<I as ForOutput<W>>⟧.devices inputs.now)
         path.now (state writer.old (R.reports reports.old) 0) (state writer.new (R.reports reports.new) result) }
 {
     match version_written(alloc, path, inputs, writer) {
@@ -68,15 +65,11 @@ fn version_written<I: Inputs, W: Target>(
     inputs: &I,
     writer: &mut W,
 ) -> Result<(), DataFault>
-    ensures written { OnOk result (IsVersionAppended
-        (devices (I.bytes_of inputs.now) (I.can_open inputs.now) (I.cannot_open inputs.now) (I.unrefused inputs.now)
-        (I.read_refused inputs.now) W.bytes_taken W.refusal)
+    ensures written { OnOk result (IsVersionAppended (⟦<I as ForOutput<W>>⟧.devices inputs.now)
         path.now writer.old writer.new) }
     ensures why { IfErr result (λ e. IsFileFault (I.cannot_open inputs.now (path_of path.now e.file))
         (I.read_refused inputs.now (path_of path.now e.file)) (W.refusal writer.old writer.new) ⊤ e.fault) }
-    ensures cut { IfErr result (λ e. e.fault ≡ Fault.Write → IsVersionCutOff
-        (devices (I.bytes_of inputs.now) (I.can_open inputs.now) (I.cannot_open inputs.now) (I.unrefused inputs.now)
-        (I.read_refused inputs.now) W.bytes_taken W.refusal)
+    ensures cut { IfErr result (λ e. e.fault ≡ Fault.Write → IsVersionCutOff (⟦<I as ForOutput<W>>⟧.devices inputs.now)
         path.now writer.old writer.new) }
     ensures unwritten { IfErr result (λ e. e.fault ≢ Fault.Write → writer.new ≡ writer.old) }
 {

@@ -332,9 +332,6 @@ module _ (scheme : EncodingScheme) (m : MadeForm) where
     settled mode None kept e h = subst (λ x. AgreesFurther scheme m passed carried x cursor') (sym e) (settled-none mode h)
     settled mode (Some c) kept e h = settled-some mode c h
 
-  pub unsettled : (passed carried : List ℕ) (cursor : Cursor) → Agrees scheme m passed carried cursor → AgreesFurther scheme m passed carried carried cursor
-  unsettled passed carried cursor a = record { front = []; parts = refl; agrees = subst (λ x. Agrees scheme m x carried cursor) (sym (append-nil passed)) a }
-
   -- ---- blocks that are read
 
   pub IsReadTo-none : (left : Option (List ℕ)) (c : List ℕ) (cursor : Cursor) → c ≡ [] → IsCursorAfter [] cursor → IsReadTo scheme m left left c cursor

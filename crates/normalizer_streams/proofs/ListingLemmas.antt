@@ -27,9 +27,8 @@ use Rattle.normalizer_streams.specs.inner.Watches.{IsCursorAfter}
 use Rattle.normalizer_streams.proofs.CarriedLemmas.{take-sum}
 use Rattle.normalizer_streams.proofs.LineLemmas.{nothing-append}
 use Rattle.normalizer_streams.proofs.MoveLemmas.{all_that_was_left, nothing_left, rest_is, rest_of, AppendsFront-after, AppendsFront-more}
-use Rattle.normalizer_streams.proofs.PassLemmas.{aligned-joined, aligned-zero, steps_by-nil}
+use Rattle.normalizer_streams.proofs.PassLemmas.{aligned-joined, steps_by-nil}
 use Rattle.normalizer_streams.proofs.SchemeLemmas.{aligned-sum, even-double, first-cut, units-append, units-back, units-front, units-some}
-use Rattle.normalizer_streams.proofs.WatchLemmas.{units_of-nil}
 
 -- ---- lists
 
@@ -132,13 +131,6 @@ module _ (s : EncodingScheme) (name : List ℕ) where
   lines_after-nil front = ap (lines_of_errors s name (front ++ units_of s []) (length front)) (steps_by-nil s)
 
   module _ (front bytes next : List ℕ) where
-    pub IsListedTo-none : IsListedTo s name front bytes next [] 0
-    IsListedTo-none = record {
-      within = omega arith;
-      aligned = inr (aligned-zero s);
-      apart = ap (λ f. lines_after s name f (bytes ++ next)) (sym (ap (λ u. front ++ u) (units_of-nil s) ∙ append-nil front));
-    }
-
     module _ (is_last : Bool) (written : List ℕ) (place : ℕ) (l : IsListedTo s name front bytes next written place) (come : MayCome is_last next) (inside : place + cond is_last 0 3 < length bytes) where
       abbrev rest : List ℕ
       rest = drop place bytes

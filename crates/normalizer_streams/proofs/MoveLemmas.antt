@@ -74,13 +74,6 @@ module _ (scheme : EncodingScheme) (mode : ErrorMode) (form : List ℕ → List 
   Ends-stopped all text fatal f = subst (λ m. Ends scheme m all text (Stopped (record { line = counted (line_after (units_of scheme text)); byte = counted (byte_after scheme (units_of scheme text)) })))
       (sym fatal) (f, record { line = refl; byte = refl })
 
-  -- bytes that were noted from the beginning
-  pub Ends-noted : (w : Watch) (bytes : List ℕ) (stop : Option Stop) (ending : Ending) → IfNone stop (ending ≡ Whole w.found) → IfSome stop (λ stop. ending ≡ Stopped stop.position)
-      → IsNoted scheme mode w [] bytes stop → Ends scheme mode bytes (text_in bytes stop) ending
-  Ends-noted w bytes None ending none some n = subst (Ends scheme mode bytes bytes) (sym none) (Ends-whole mode w bytes n)
-  Ends-noted w bytes (Some stop) ending none some n =
-      subst (Ends scheme mode bytes (take stop.place bytes)) (sym some) (subst (λ k. Ends scheme k bytes (take stop.place bytes) (Stopped stop.position)) (sym n.0) (n.3.first, n.3.position))
-
   -- nothing more is written
   pub IsCut-none : (m : ErrorMode) → m ≡ mode → (w : Watch) (t : Option (List ℕ)) (passed written carried next : List ℕ) → IsPassed scheme form passed written carried → Watches scheme m w passed
       → IsCut scheme mode form t t passed written (carried ++ next)

@@ -112,10 +112,6 @@ module _ (scheme : EncodingScheme) where
   pub BeginsAs-less : (bytes next rest : List ℕ) → BeginsWhole scheme bytes → BeginsAs scheme (bytes ++ next) rest → BeginsAs scheme bytes rest
   BeginsAs-less bytes next rest b alike = record { some = alike.some; same = alike.same ∙ first-extends scheme bytes next b.some b.whole }
 
-  -- from the beginning
-  pub Joins-none : (bytes : List ℕ) → Joins scheme [] bytes
-  Joins-none bytes = record { aligned = aligned-zero scheme; apart = sym (ap (λ x. x ++ steps_by scheme bytes) (steps_by-nil scheme)) }
-
   module _ (form : List ℕ → List ℕ) where
     -- nothing was passed
     pub IsPassed-none : (carried : List ℕ) → IsPassed scheme form [] [] carried

@@ -38,15 +38,6 @@ drop_nil zero = refl
 drop_nil (suc n) = refl
 
 module _ (order : ByteOrder) where
-  pub units-cons : (bytes : List ℕ) (place a b : ℕ) → place + 1 < length bytes → a ≡ get_or bytes place 0 → b ≡ get_or bytes (place + 1) 0
-      → units_of_pairs order (drop place bytes) ≡ unit_of order a b ∷ units_of_pairs order (drop (place + 2) bytes)
-  units-cons bytes place a b lt ea eb =
-      let e : place + 1 + 1 ≡ place + 2 = omega arith in
-      let two : drop place bytes ≡ a ∷ b ∷ drop (place + 2) bytes =
-      rw (ea, eb) (drop_step bytes place 0 (omega arith) ∙ ap (λ x. get_or bytes place 0 ∷ x) (drop_step bytes (place + 1) 0 lt)
-      ∙ ap (λ k. get_or bytes place 0 ∷ get_or bytes (place + 1) 0 ∷ drop k bytes) e) in
-      ap (units_of_pairs order) two
-
   pub units-last : (bytes : List ℕ) (place : ℕ) → place < length bytes → length bytes ≤ place + 1
       → units_of_pairs order (drop place bytes) ≡ 0xD800 ∷ units_of_pairs order (drop (place + 2) bytes)
   units-last bytes place lt le =

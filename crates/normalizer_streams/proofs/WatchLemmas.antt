@@ -11,39 +11,13 @@ use Rattle.normalizer_streams.specs.declared.ill_formed.ErrorMode.TheVariants.{F
 use Rattle.normalizer_streams.specs.declared.position.Cursor.{Cursor}
 use Rattle.normalizer_streams.specs.declared.scheme.EncodingScheme.TheVariants.{Utf8, Utf16}
 use Rattle.normalizer_streams.specs.declared.watch.Watch.{Watch}
-use Rattle.normalizer_streams.specs.IllFormed.{ill_formed, steps_by, IsWellFormedBy}
+use Rattle.normalizer_streams.specs.IllFormed.{IsWellFormedBy}
 use Rattle.normalizer_streams.specs.Positions.{counted, line_after, units_before}
 use Rattle.normalizer_streams.specs.Schemes.{units_of}
 use Rattle.normalizer_streams.specs.inner.Watches.{IsCursorAfter, Joins, Watches}
 use Rattle.normalizer_streams.proofs.PassLemmas.{steps_by-nil, well_formed-joined}
 use Rattle.normalizer_streams.proofs.SchemeLemmas.{units-append}
-use Rattle.normalizer_streams.proofs.ErrorLemmas.{count_errors, count_errors-append}
-
-pub ill_formed-joined : (scheme : EncodingScheme) (passed piece : List ℕ) → Joins scheme passed piece → ill_formed scheme (passed ++ piece) ≡ ill_formed scheme passed + ill_formed scheme piece
-ill_formed-joined scheme passed piece j = ap count_errors j.apart ∙ count_errors-append (steps_by scheme passed) (steps_by scheme piece)
-
--- one unit more
-module _ (front : List ℕ) (u : ℕ) where
-  feeds : count_by (λ u. u == 0x0A) (front ++ u ∷ []) ≡ count_by (λ u. u == 0x0A) front + cond (u == 0x0A) 1 0
-  feeds = sum_by-append (λ (u : ℕ). cond (u == 0x0A) 1 0) front (u ∷ []) ∙ ap (λ n. count_by (λ u. u == 0x0A) front + n) (let e : 0 + cond (u == 0x0A) 1 0 ≡ cond (u == 0x0A) 1 0 = omega arith in e)
-
-  last : reverse (front ++ u ∷ []) ≡ u ∷ reverse front
-  last = reverse-append front (u ∷ [])
-
-  in_line : take_while (λ u. not (u == 0x0A)) (reverse (front ++ u ∷ [])) ≡ cond (not (u == 0x0A)) (u ∷ take_while (λ u. not (u == 0x0A)) (reverse front)) []
-  in_line = ap (take_while (λ u. not (u == 0x0A))) last ∙ take_while-cons (λ u. not (u == 0x0A)) u (reverse front)
-
-  pub line_after-feed : (u == 0x0A) ≡ true → line_after (front ++ u ∷ []) ≡ line_after front + 1
-  line_after-feed is = omega (arith, feeds ∙ ap (λ b. count_by (λ u. u == 0x0A) front + cond b 1 0) is)
-
-  pub line_after-other : (u == 0x0A) ≡ false → line_after (front ++ u ∷ []) ≡ line_after front
-  line_after-other isnt = omega (arith, feeds ∙ ap (λ b. count_by (λ u. u == 0x0A) front + cond b 1 0) isnt)
-
-  pub units_before-feed : (u == 0x0A) ≡ true → units_before (front ++ u ∷ []) ≡ 0
-  units_before-feed is = ap length (in_line ∙ ap (λ b. cond (not b) (u ∷ take_while (λ u. not (u == 0x0A)) (reverse front)) []) is)
-
-  pub units_before-other : (u == 0x0A) ≡ false → units_before (front ++ u ∷ []) ≡ units_before front + 1
-  units_before-other isnt = ap length (in_line ∙ ap (λ b. cond (not b) (u ∷ take_while (λ u. not (u == 0x0A)) (reverse front)) []) isnt) ∙ omega arith
+use Rattle.normalizer_streams.proofs.ErrorLemmas.{count_errors}
 
 -- ---- many bytes more
 
@@ -110,11 +84,6 @@ units_of-nil (Utf16 order) = refl
 pub Watches-none : (scheme : EncodingScheme) (mode : ErrorMode) (cursor : Cursor) → IsCursorAfter [] cursor → Watches scheme mode (record { mode = mode; found = 0; cursor = cursor }) []
 Watches-none scheme Replacement cursor c = (refl, sym (ap (λ ss. counted (count_errors ss)) (steps_by-nil scheme)))
 Watches-none scheme Fatal cursor c = (refl, (refl, All-same IsRight _ _ (steps_by-nil scheme) (All-nil IsRight), subst (λ units. IsCursorAfter units cursor) (sym (units_of-nil scheme)) c))
-
--- a piece is counted
-pub Watches-counted : (scheme : EncodingScheme) (passed piece : List ℕ) (cursor : Cursor) (found count found' : ℕ) → Joins scheme passed piece → found ≡ counted (ill_formed scheme passed)
-    → count ≡ ill_formed scheme piece → found' ≡ min (found + count) (2 ^ 64 - 1) → found' ≡ counted (ill_formed scheme (passed ++ piece))
-Watches-counted scheme passed piece cursor found count found' j was one is = omega (arith, was, one, is, ill_formed-joined scheme passed piece j)
 
 -- a well-formed piece is passed
 pub Watches-passed : (scheme : EncodingScheme) (passed piece : List ℕ) (w w' : Watch) → Joins scheme passed piece → Watches scheme Fatal w passed → IsWellFormedBy scheme piece

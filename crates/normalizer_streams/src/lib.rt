@@ -22,4 +22,3 @@ pub use mismatch::{Comparison, Mismatch, first_mismatch};
 pub use position::Position;
 pub use scheme::{ByteOrder, EncodingScheme};
 pub use stream::write_form;
-pub use watch::text_of;

@@ -159,19 +159,6 @@ impl EncodingScheme {
         }
     }
 
-    /// Returns the units that bytes spell.
-    ///
-    /// # Errors
-    /// If an allocation failed.
-    pub fn units(self, alloc: Global, bytes: &[u8]) -> Result<Vec<u16>, AllocError>
-        ensures { IfOk result (λ units. units.items ≡ units_of self bytes.now) }
-    {
-        match self {
-            EncodingScheme::Utf8 => widened(alloc, bytes),
-            EncodingScheme::Utf16(order) => order.units(alloc, bytes),
-        }
-    }
-
     /// Returns the text that bytes decode to. Each maximal ill-formed subpart reads as U+FFFD.
     ///
     /// # Errors
@@ -215,17 +202,6 @@ fn first_step(units: &[u16]) -> Step
     ensures { result ≡ first_of_utf16 units.now }
 {
     units.step_at(0)
-}
-
-/// Bytes as wider units.
-fn widened(alloc: Global, bytes: &[u8]) -> Result<Vec<u16>, AllocError>
-    ensures { IfOk result (λ units. units.items ≡ bytes.now) }
-{
-    let mut units = Vec::with_capacity(alloc, bytes.len())?;
-    for byte in bytes {
-        units.push(u16::from(*byte))?;
-    }
-    Ok(units)
 }
 
 /// The characters that units decode to.

@@ -1,13 +1,11 @@
 //! What is kept of the bytes whose form was written: how many ill-formed sequences they had, or where they end.
 ghost use Rattle.std.specs.Prelude.{◌≡◌, ◌≤◌, ℕ, List, [], length, IfNone, IfOk, IfSome};
-ghost use Rattle.normalizer_streams.specs.IllFormed.{Ends};
 ghost use Rattle.normalizer_streams.specs.declared.ill_formed.ErrorMode.{ErrorMode};
 ghost use Rattle.normalizer_streams.specs.inner.Watches.{IsNoted, Joins, Watches};
 
 use crate::ill_formed::{Ending, ErrorMode, first_ill_formed, ill_formed_in};
 use crate::position::{Cursor, Position};
 use crate::scheme::EncodingScheme;
-use crate::stream::text_in;
 use std::alloc::{AllocError, Global};
 
 /// What is kept of the bytes whose form was written.
@@ -93,22 +91,4 @@ impl Watch {
             None => Ending::Whole(self.found),
         }
     }
-}
-
-/// Returns the text of bytes that is read, and how it ends: all of it is read or, if ill-formed input is fatal, what
-/// comes before the first ill-formed sequence.
-///
-/// # Errors
-/// If an allocation failed.
-pub fn text_of<'b>(
-    alloc: Global,
-    scheme: EncodingScheme,
-    mode: ErrorMode,
-    bytes: &'b [u8],
-) -> Result<(&'b [u8], Ending), AllocError>
-    ensures { IfOk result (λ read. Ends scheme mode bytes.now read.0.now read.1) }
-{
-    let mut watch = Watch::new(mode);
-    let stop = watch.note(alloc, scheme, bytes)?;
-    Ok((text_in(bytes, stop), watch.ending(stop)))
 }

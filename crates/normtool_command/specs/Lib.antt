@@ -7,6 +7,7 @@ pub mod Outcome
 pub mod RecordSets
 pub mod Replies
 pub mod ReportedFaults
+pub mod Rows
 pub mod Runs
 pub mod SetOutcome
 pub mod Tasks

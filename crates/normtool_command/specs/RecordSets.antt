@@ -4,8 +4,8 @@ use Rattle.icu_normalizer.specs.BuildError.{BuildError}
 use Rattle.icu_normalizer.specs.BuildError.TheVariants.{Memory}
 use Rattle.icu_normalizer.specs.RecordValue.{RecordValue, Uts46RecordValue}
 use Rattle.icu_normalizer.specs.Building.{IsSmallest}
-use Rattle.normalizer_record_set.specs.declared.set_table.TheConstants.{ROWS, MAPPER_ROWS}
-use Rattle.normalizer_record_set.specs.Rows.{entry_of, mapper_entry_of}
+use Rattle.normtool_command.specs.declared.set_table.TheConstants.{ROWS, MAPPER_ROWS}
+use Rattle.normtool_command.specs.Rows.{entry_of, mapper_entry_of}
 use Rattle.normtool_command.specs.declared.arguments.RecordSet.{RecordSet}
 use Rattle.normtool_command.specs.declared.arguments.RecordSet.TheVariants.{Rows, Nothing}
 

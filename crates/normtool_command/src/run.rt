@@ -10,10 +10,10 @@ ghost use Rattle.normtool_command.specs.SetOutcome.{IsOutcomeOver};
 
 use crate::arguments::{Command, RecordSet, USAGE, words};
 use crate::ending::{ToolFault, ending};
+use crate::set::{mapper_records, records};
 use crate::worker::Worker;
 use icu_normalizer::{Built, FormData, MappingData, Records};
 use normalizer_io::{Answer, Source, Target, read_all, write_all};
-use normalizer_record_set::{mapper_records, records};
 use std::alloc::Global;
 
 /// Runs the command that the words after the program's name name. Returns the exit status, and the line for standard

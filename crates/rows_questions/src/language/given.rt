@@ -6,7 +6,7 @@ use crate::language::fault::Fault;
 use crate::language::record_rows::{mapper_record_of, push_records, record_of};
 use crate::language::words::{character, words};
 use icu_normalizer::{Record, Uts46Record};
-use normalizer_record_set::{mapper_records, records};
+use normtool_command::{mapper_records, records};
 use std::alloc::Global;
 
 /// What a row sets.

@@ -1,10 +1,10 @@
 -- What the rows of the tables record.
 use Rattle.std.specs.Prelude.{ℕ, Bool, true, false, List}
-use Rattle.normalizer_records.specs.RecordValue.{RecordValue, Status, Uts46RecordValue, MapsTo, IsIgnored, IsDisallowed}
-use Rattle.normalizer_record_set.specs.declared.row.Kind.{Kind}
-use Rattle.normalizer_record_set.specs.declared.row.Kind.TheVariants.{Unmapped, Canonical, Excluded, Compatibility}
-use Rattle.normalizer_record_set.specs.declared.row.Treatment.{Treatment}
-use Rattle.normalizer_record_set.specs.declared.row.Treatment.TheVariants.{Mapped, Ignored, Disallowed}
+use Rattle.icu_normalizer.specs.RecordValue.{RecordValue, Status, Uts46RecordValue, MapsTo, IsIgnored, IsDisallowed}
+use Rattle.normtool_command.specs.declared.row.Kind.{Kind}
+use Rattle.normtool_command.specs.declared.row.Kind.TheVariants.{Unmapped, Canonical, Excluded, Compatibility}
+use Rattle.normtool_command.specs.declared.row.Treatment.{Treatment}
+use Rattle.normtool_command.specs.declared.row.Treatment.TheVariants.{Mapped, Ignored, Disallowed}
 
 -- the mapping is a compatibility mapping
 abbrev pub is_compatibility : Kind → Bool

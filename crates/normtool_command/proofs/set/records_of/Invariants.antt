@@ -1,6 +1,6 @@
 use Rattle.std.proofs.Common.{◌≡◌, map, take}
-use Rattle.normalizer_record_set.specs.Rows.{entry_of}
-use Rattle.normalizer_record_set.proofs.set.records_of.Given as goal
+use Rattle.normtool_command.specs.Rows.{entry_of}
+use Rattle.normtool_command.proofs.set.records_of.Given as goal
 
 -- the records of the rows so far
 abbrev pub invariant-loop-place : goal.invariant-loop-place

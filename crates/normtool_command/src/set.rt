@@ -1,12 +1,12 @@
 //! The records of the set.
 ghost use Rattle.std.specs.Prelude.{◌≡◌, IfOk, map};
-ghost use Rattle.normalizer_record_set.specs.declared.set_table.TheConstants.{MAPPER_ROWS, ROWS};
-ghost use Rattle.normalizer_record_set.specs.Rows.{entry_of, is_compatibility, is_excluded, mapper_entry_of, status_of};
-ghost use Rattle.normalizer_records.specs.Statuses.{status_of as status_of_record};
+ghost use Rattle.normtool_command.specs.declared.set_table.TheConstants.{MAPPER_ROWS, ROWS};
+ghost use Rattle.normtool_command.specs.Rows.{entry_of, is_compatibility, is_excluded, mapper_entry_of, status_of};
+ghost use Rattle.icu_normalizer.specs.Statuses.{status_of as status_of_record};
 
 use crate::row::{Kind, MapperRow, Row, Treatment};
 use crate::set_table::{MAPPER_ROWS, ROWS};
-use normalizer_records::{Record, Uts46Record, Uts46Status};
+use icu_normalizer::{Record, Uts46Record, Uts46Status};
 use std::alloc::{AllocError, Global};
 
 /// Returns the records of the set, a record for each row.
