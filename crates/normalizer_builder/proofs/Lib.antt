@@ -9,3 +9,5 @@ pub mod PackableEntries
 pub mod ReadableEntries
 pub mod RecordedLaws
 pub mod SameParts
+pub mod RangeSplits
+pub mod SplitRecords

@@ -42,7 +42,7 @@ stable : (a b : ℕ) → (¬ (a < b) → ⊥) → a < b
 stable a b h = grind arith
 
 -- none passes a test that not any passes
-none_passes : {X : Type 0} (p : X → Bool) (xs : List X) → list_any p xs ≡ false → All (λ x. p x ≡ false) xs
+pub none_passes : {X : Type 0} (p : X → Bool) (xs : List X) → list_any p xs ≡ false → All (λ x. p x ≡ false) xs
 none_passes p xs h k d within = false_from_ne_true _ (λ e. true≢false (sym (list_any_at p xs k d within e) ∙ h))
 
 -- what is found by its number is of all, or none is found
@@ -96,7 +96,7 @@ module _ (Q : ℕ → Type 0) (given : (m : ℕ) → 0 < m → Q m) where
   IsSound-order : (d : Reading) (x : List ℕ) → IsSound Q x → IsSound Q (order d x)
   IsSound-order d x h = let same = length-order d x in let some = h.some in record { some = omega arith; all = AllByRecursion-order d Q x h.all }
 
-unfixed_syllable : (c : ℕ) → is_fixed c ≡ false → is_hangul_syllable c ≡ false
+pub unfixed_syllable : (c : ℕ) → is_fixed c ≡ false → is_hangul_syllable c ≡ false
 unfolding is_fixed
 unfixed_syllable c h = (or_parts ((c == 0xFFFD) || is_in_range 0x1100 0x11FF c) (is_hangul_syllable c) h).1
 
@@ -133,11 +133,11 @@ module _ (records : List RecordValue) (uts46 : List Uts46RecordValue) (none : Is
   unfolding IsFirstRefusal HasFault HasOrderFault
   rising i j d below within = stable _ _ (λ falls. none error.Order (λ both. falls (both.0 i j d below within)))
 
-  no_fixed_fault : has_fixed_fault records uts46 ≡ false
+  pub no_fixed_fault : has_fixed_fault records uts46 ≡ false
   unfolding IsFirstRefusal HasFault
   no_fixed_fault = false_from_ne_true _ (none error.Fixed)
 
-  no_mapping_fault : has_mapping_fault records uts46 ≡ false
+  pub no_mapping_fault : has_mapping_fault records uts46 ≡ false
   unfolding IsFirstRefusal HasFault
   no_mapping_fault = false_from_ne_true _ (none error.Mapping)
 
@@ -145,7 +145,7 @@ module _ (records : List RecordValue) (uts46 : List Uts46RecordValue) (none : Is
   unfolding has_fixed_fault
   unfixed_records = none_passes _ records (or_parts _ _ no_fixed_fault).0
 
-  unfixed_statuses : All (λ r. is_fixed_for_mapper r ≡ false) uts46
+  pub unfixed_statuses : All (λ r. is_fixed_for_mapper r ≡ false) uts46
   unfolding has_fixed_fault
   unfixed_statuses = none_passes is_fixed_for_mapper uts46 (or_parts (list_any (λ (r : RecordValue). is_fixed r.c) records) _ no_fixed_fault).1
 

@@ -29,7 +29,7 @@ module _ {X : Type 0} (R : X → X → Type 0) (one_way : (x y : X) → R x y �
   head_or_tail x xs y (zero, within, is) = inl is
   head_or_tail x xs y (suc k, within, is) = inr (k, omega arith, is)
 
-  abbrev HasMembersOf : List X → List X → Type 0
+  abbrev pub HasMembersOf : List X → List X → Type 0
   HasMembersOf xs ys = (x : X) → Contains xs x → Contains ys x
 
   tail_members : (x : X) (xs : List X) (y : X) (ys : List X) → x ≡ y → All (R x) xs → HasMembersOf (x ∷ xs) (y ∷ ys) → HasMembersOf xs ys
@@ -38,7 +38,7 @@ module _ {X : Type 0} (R : X → X → Type 0) (one_way : (x y : X) → R x y �
     | inr later ↦ later
   ]
 
-  same_members : (xs ys : List X) → AllPairs R xs → AllPairs R ys → HasMembersOf xs ys → HasMembersOf ys xs → xs ≡ ys
+  pub same_members : (xs ys : List X) → AllPairs R xs → AllPairs R ys → HasMembersOf xs ys → HasMembersOf ys xs → xs ≡ ys
   same_members [] [] h k to from = refl
   same_members [] (y ∷ ys) h k to from = absurd (omega (arith, (from y (0, omega arith, refl)).1))
   same_members (x ∷ xs) [] h k to from = absurd (omega (arith, (to x (0, omega arith, refl)).1))

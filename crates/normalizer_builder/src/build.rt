@@ -59,7 +59,7 @@ pub(crate) fn packed_of(
     ensures { MatchResult result (PacksCharacters records.now uts46.now) (IsSmallest records.now uts46.now) }
 {
     let ExpandedRecords { entries, pairs } = expanded;
-    match pack(alloc, entries.as_slice(), pairs) {
+    match pack(alloc, entries.as_slice(), &[], pairs) {
         Ok(packed) => Ok(packed),
         Err(PackError::TableFull) => Err(BuildError::TableFull),
         Err(PackError::Memory) => Err(BuildError::Memory),

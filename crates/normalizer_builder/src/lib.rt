@@ -6,6 +6,7 @@ mod build;
 mod built;
 mod demand;
 pub mod laws;
+mod ranges;
 mod unmet;
 
 pub use build::Records;

@@ -1,4 +1,5 @@
 pub mod Caps
+pub mod Disallowed
 pub mod Flags
 pub mod Packing
 pub mod ReadBack

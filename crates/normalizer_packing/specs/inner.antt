@@ -1,4 +1,5 @@
 -- What the contracts of private functions alone cite.
+pub mod Beside
 pub mod Kinds
 pub mod PackedWords
 pub mod Stores

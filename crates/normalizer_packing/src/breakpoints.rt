@@ -1,6 +1,7 @@
 //! The characters at which the word may change: all numbers between two of them have one word.
-ghost use Rattle.std.specs.Prelude.{◌≡◌, IfOk, map};
+ghost use Rattle.std.specs.Prelude.{◌≡◌, ◌++◌, IfOk, OnOk, flat_map};
 ghost use Rattle.normalizer_packing.specs.inner.Breakpoints.{AreBreakpoints, breakpoint_numbers};
+ghost use Rattle.normalizer_packing.specs.inner.Beside.{HasEnds, ends};
 
 use crate::entries::entry_characters;
 use normalizer_tables::entry::Entry;
@@ -14,8 +15,8 @@ const EDGES: [char; 10] = [
     '\u{E000}', '\u{FFFD}',
 ];
 
-/// Returns the characters of which entries, pairs, or the packing of numbers that no entry changes say something, in
-/// their order.
+/// Returns the characters of which entries, pairs, or the packing of numbers that no entry changes say something, and
+/// the ends of ranges, in their order.
 ///
 /// # Errors
 /// [`AllocError`] if an allocation failed.
@@ -23,10 +24,12 @@ pub fn breakpoints_of(
     alloc: Global,
     entries: &[Entry],
     pairs: &[(char, char, char)],
+    ranges: &[(char, char)],
 ) -> Result<Vec<char>, AllocError>
-    ensures { IfOk result (λ v. AreBreakpoints entries.now pairs.now v.items) }
+    ensures listed { IfOk result (λ v. AreBreakpoints entries.now pairs.now v.items) }
+    ensures ends { IfOk result (λ v. HasEnds ranges.now v.items) }
 {
-    let mut breakpoints = unsorted_breakpoints(alloc, entries, pairs)?;
+    let mut breakpoints = unsorted_breakpoints(alloc, entries, pairs, ranges)?;
     breakpoints.sort_unstable();
     breakpoints.dedup();
     Ok(breakpoints)
@@ -36,8 +39,9 @@ fn unsorted_breakpoints(
     alloc: Global,
     entries: &[Entry],
     pairs: &[(char, char, char)],
+    ranges: &[(char, char)],
 ) -> Result<Vec<char>, AllocError>
-    ensures { IfOk result (λ v. v.items ≡ breakpoint_numbers entries.now pairs.now) }
+    ensures { IfOk result (λ v. v.items ≡ breakpoint_numbers entries.now pairs.now ++ flat_map ends ranges.now) }
 {
     let room = pairs.len().saturating_add(EDGES.len());
     let mut breakpoints = entry_characters(alloc, entries, room)?;
@@ -45,5 +49,15 @@ fn unsorted_breakpoints(
         breakpoints.push(pair.0)?;
     }
     breakpoints.extend_from_slice(&EDGES)?;
+    push_ends(&mut breakpoints, ranges)?;
     Ok(breakpoints)
+}
+
+fn push_ends(breakpoints: &mut Vec<char>, ranges: &[(char, char)]) -> Result<(), AllocError>
+    ensures { OnOk result (breakpoints.new.items ≡ breakpoints.old.items ++ flat_map ends ranges.now) }
+{
+    for range in ranges {
+        breakpoints.extend_from_slice(&[range.0, range.1])?;
+    }
+    Ok(())
 }

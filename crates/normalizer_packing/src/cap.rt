@@ -1,26 +1,46 @@
 //! The number below which a composing loop may pass every character without looking up its word.
 ghost use Rattle.std.specs.Prelude.{◌↔◌, ◌<◌, IsTrue};
-ghost use Rattle.normalizer_packing.specs.Caps.{ListHasBoundary, IsCap, IsBelowCap, IsBelowCapWith};
+ghost use Rattle.normalizer_packing.specs.Caps.{ListHasBoundary, IsBelowCap, IsBelowCapWith};
+ghost use Rattle.normalizer_packing.specs.inner.Beside.{IsCapBeside, MayPass};
 
+use crate::disallowed::is_in;
 use crate::entries::Entries;
 use crate::flags::composes_to;
 use normalizer_tables::condition::CAP_LIMIT;
 use normalizer_tables::entry::Kind;
 use normalizer_tables::{CanonicalCompositions, is_never_second};
 
-/// The least character that a composing loop may not pass so, but at most the limit.
-pub fn cap_of(entries: &Entries<'_>, compositions: &CanonicalCompositions, kind: Kind) -> u16
-    ensures { IsCap kind entries.now compositions.now result }
+/// The least character that a composing loop may not pass so, but at most the limit. It may pass none in the ranges.
+pub fn cap_of(
+    entries: &Entries<'_>,
+    compositions: &CanonicalCompositions,
+    replaced: &[(char, char)],
+    kind: Kind,
+) -> u16
+    ensures { IsCapBeside replaced.now kind entries.now compositions.now result }
 {
     for number in 0..CAP_LIMIT {
-        if !is_below_cap(entries, compositions, kind, number) {
+        if !may_pass(entries, compositions, replaced, kind, number) {
             return number;
         }
     }
     CAP_LIMIT
 }
 
-/// Whether a composing loop may pass a number so.
+fn may_pass(
+    entries: &Entries<'_>,
+    compositions: &CanonicalCompositions,
+    replaced: &[(char, char)],
+    kind: Kind,
+    number: u16,
+) -> bool
+    requires { number < 0xD800 }
+    ensures { IsTrue result ↔ MayPass replaced.now kind entries.now compositions.now number }
+{
+    !is_in(replaced, number as u32) && is_below_cap(entries, compositions, kind, number)
+}
+
+/// Whether a composing loop may pass a number so, by the entries.
 #[tactic(auto, unfolding(crate::specs::Caps::IsBelowCap))]
 fn is_below_cap(
     entries: &Entries<'_>,

@@ -3,6 +3,7 @@
 
 mod breakpoints;
 mod cap;
+mod disallowed;
 mod entries;
 mod flags;
 pub mod laws;

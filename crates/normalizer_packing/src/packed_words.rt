@@ -3,14 +3,16 @@
 
 ghost use Rattle.std.specs.Prelude.{◌≡◌, ◌<◌, true};
 ghost use Rattle.normalizer_tables.specs.Conditions.{item_limit};
+ghost use Rattle.normalizer_packing.specs.inner.Beside.{IsReplacedWord, IsWordBeside};
 ghost use Rattle.normalizer_packing.specs.inner.PackedWords.{CanPoint};
 ghost use Rattle.normalizer_packing.specs.Packing.{IsPackedWord};
 ghost use Rattle.normalizer_packing.specs.Stored.{is_among, item_of, listed_in};
 
+use crate::disallowed::is_in;
 use crate::entries::Entries;
 use crate::flags::flagged;
 use crate::pointing::pointing_word;
-use crate::spelling::{Spelling, spell};
+use crate::spelling::{Spelling, final_word, spell};
 use crate::stores::Stores;
 use crate::table_words::Words;
 use normalizer_tables::CanonicalCompositions;
@@ -26,6 +28,8 @@ pub struct PackedWords<'a, 'e> {
     pub compositions: &'a CanonicalCompositions,
     /// The lists in tables.
     pub stores: &'a Stores<'e>,
+    /// The ranges of characters whose list is U+FFFD, whatever their entries say.
+    pub replaced: &'a [(char, char)],
     /// The kind of data.
     pub kind: Kind,
 }
@@ -33,10 +37,11 @@ pub struct PackedWords<'a, 'e> {
 impl Words for PackedWords<'_, '_> {
     ghost is_ready = { λ w. CanPoint w.entries.now w.stores.now };
 
-    ghost is_word = { λ w. IsPackedWord w.kind w.entries.now w.compositions.now };
+    ghost is_word = { λ w. IsWordBeside w.replaced.now w.kind w.entries.now w.compositions.now };
 
     fn word_of(&self, number: u32) -> u32 {
         match char::from_u32(number) {
+            Some(character) if is_in(self.replaced, number) => self.replaced_word(character),
             Some(character) => self.word_of_character(character),
             None => SURROGATE_WORD,
         }
@@ -44,6 +49,22 @@ impl Words for PackedWords<'_, '_> {
 }
 
 impl PackedWords<'_, '_> {
+    /// The word of a character whose list is U+FFFD.
+    fn replaced_word(&self, character: char) -> u32
+        ensures { IsReplacedWord self.now.entries.now self.now.compositions.now character result }
+    {
+        match final_word(character as u32) {
+            Some(word) => word,
+            None => flagged(
+                self.entries,
+                self.compositions,
+                character,
+                &['\u{FFFD}'],
+                0xFFFD,
+            ),
+        }
+    }
+
     fn word_of_character(&self, character: char) -> u32
         requires { CanPoint self.now.entries.now self.now.stores.now }
         ensures { IsPackedWord self.now.kind self.now.entries.now self.now.compositions.now character result }

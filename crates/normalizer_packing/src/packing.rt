@@ -1,9 +1,11 @@
 //! Packs entries and pairs into normalization data.
 ghost use Rattle.std.specs.Prelude.{◌≡◌, ◌<◌, IfOk, IsErrOf};
 ghost use Rattle.normalizer_tables.specs.Conditions.{item_limit};
+ghost use Rattle.normalizer_packing.specs.Disallowed.{PacksBeside};
+ghost use Rattle.normalizer_packing.specs.inner.Beside.{HasEnds, PacksKindBeside, PacksReplaced};
 ghost use Rattle.normalizer_packing.specs.inner.Kinds.{PackKinds};
 ghost use Rattle.normalizer_packing.specs.inner.PackedWords.{CanPoint};
-ghost use Rattle.normalizer_packing.specs.Packing.{ArePackable, Packs, PacksKind};
+ghost use Rattle.normalizer_packing.specs.Packing.{ArePackable};
 ghost use Rattle.normalizer_packing.specs.StepWords.{PacksSteps};
 ghost use Rattle.normalizer_packing.specs.Stored.{needed_items};
 ghost use Rattle.normalizer_packing.specs.inner.Breakpoints.{AreBreakpoints};
@@ -22,23 +24,26 @@ use normalizer_tables::{
 };
 use std::alloc::{AllocError, Global};
 
-/// Packs the entries of characters, and pairs of characters that compose (second, first and result), into data. The
+/// Packs the entries of characters, and pairs of characters that compose (second, first and result), into data. Beside
+/// entries are ranges, from a first to a last character: of these it is only recorded that the mapper disallows them. The
 /// same entries and pairs make the same data: lists are in the tables in the order in which characters first need
 /// them, equal ones once.
 ///
 /// # Errors
 /// `TableFull` if the lists have more items than the limit, 8,191; `Memory` if an allocation failed.
+#[tactic(auto, using(crate::proofs::beside::BesidePacking::packs_beside))]
 pub fn pack(
     alloc: Global,
     entries: &[Entry],
+    disallowed: &[(char, char)],
     pairs: Vec<(char, char, char)>,
 ) -> Result<Packed, PackError>
     requires { ArePackable entries.now }
-    ensures packed { IfOk result (Packs entries.now pairs.items) }
+    ensures packed { IfOk result (PacksBeside disallowed.now entries.now pairs.items) }
     ensures full { IsErrOf result PackError.TableFull → item_limit < needed_items entries.now }
 {
     match Entries::new(alloc, entries) {
-        Ok(entries) => pack_entries(alloc, entries, pairs),
+        Ok(entries) => pack_entries(alloc, entries, disallowed, pairs),
         Err(_) => Err(PackError::Memory),
     }
 }
@@ -46,27 +51,29 @@ pub fn pack(
 fn pack_entries(
     alloc: Global,
     entries: Entries<'_>,
+    disallowed: &[(char, char)],
     pairs: Vec<(char, char, char)>,
 ) -> Result<Packed, PackError>
     requires { ArePackable entries }
-    ensures packed { IfOk result (Packs entries.entry pairs.items) }
+    ensures packed { IfOk result (PacksReplaced disallowed.now entries.entry pairs.items) }
     ensures full { IsErrOf result PackError.TableFull → item_limit < needed_items entries.entry }
 {
     let stores = stores_of(alloc, &entries)?;
-    packed_with(alloc, entries, pairs, stores).map_err(|_| PackError::Memory)
+    packed_with(alloc, entries, disallowed, pairs, stores).map_err(|_| PackError::Memory)
 }
 
 /// The data whose lists are in these stores.
 fn packed_with<'e>(
     alloc: Global,
     entries: Entries<'e>,
+    disallowed: &[(char, char)],
     pairs: Vec<(char, char, char)>,
     stores: Stores<'e>,
 ) -> Result<Packed, AllocError>
     requires { CanPoint entries stores }
-    ensures packed { IfOk result (Packs entries.entry pairs.items) }
+    ensures packed { IfOk result (PacksReplaced disallowed.now entries.entry pairs.items) }
 {
-    let (kinds, compositions, supplement) = parts_of(alloc, &entries, pairs, &stores)?;
+    let (kinds, compositions, supplement) = parts_of(alloc, &entries, disallowed, pairs, &stores)?;
     Ok(Packed {
         canonical: kinds.canonical,
         compatibility: kinds.compatibility,
@@ -82,6 +89,7 @@ fn packed_with<'e>(
 fn parts_of<'e>(
     alloc: Global,
     entries: &Entries<'e>,
+    disallowed: &[(char, char)],
     pairs: Vec<(char, char, char)>,
     stores: &Stores<'e>,
 ) -> Result<
@@ -93,13 +101,20 @@ fn parts_of<'e>(
     AllocError,
 >
     requires { CanPoint entries.now stores.now }
-    ensures kinds { IfOk result (λ parts. PackKinds entries.now pairs.items parts.0) }
+    ensures kinds { IfOk result (λ parts. PackKinds disallowed.now entries.now pairs.items parts.0) }
     ensures pairs { IfOk result (λ parts. parts.1 ≡ pairs.items) }
     ensures steps { IfOk result (λ parts. PacksSteps entries.now parts.2) }
 {
-    let breakpoints = breakpoints_of(alloc, entries.as_slice(), &pairs)?;
+    let breakpoints = breakpoints_of(alloc, entries.as_slice(), &pairs, disallowed)?;
     let compositions = compositions_of(pairs)?;
-    let kinds = kinds_of(alloc, entries, &compositions, stores, &breakpoints)?;
+    let kinds = kinds_of(
+        alloc,
+        entries,
+        disallowed,
+        &compositions,
+        stores,
+        &breakpoints,
+    )?;
     let supplement = supplement_of(alloc, entries, &breakpoints)?;
     Ok((kinds, compositions, supplement))
 }
@@ -115,13 +130,15 @@ struct Kinds {
 fn kinds_of<'e>(
     alloc: Global,
     entries: &Entries<'e>,
+    disallowed: &[(char, char)],
     compositions: &CanonicalCompositions,
     stores: &Stores<'e>,
     breakpoints: &[char],
 ) -> Result<Kinds, AllocError>
     requires stored { CanPoint entries.now stores.now }
     requires breakpoints { AreBreakpoints entries.now compositions.now breakpoints.now }
-    ensures { IfOk result (PackKinds entries.now compositions.now) }
+    requires ends { HasEnds disallowed.now breakpoints.now }
+    ensures { IfOk result (PackKinds disallowed.now entries.now compositions.now) }
 {
     let canonical = data_of(
         alloc,
@@ -129,6 +146,7 @@ fn kinds_of<'e>(
         compositions,
         stores,
         breakpoints,
+        &[],
         Kind::Canonical,
     )?;
     let compatibility = data_of(
@@ -137,6 +155,7 @@ fn kinds_of<'e>(
         compositions,
         stores,
         breakpoints,
+        &[],
         Kind::Compatibility,
     )?;
     let mapper = data_of(
@@ -145,6 +164,7 @@ fn kinds_of<'e>(
         compositions,
         stores,
         breakpoints,
+        disallowed,
         Kind::Mapper,
     )?;
     Ok(Kinds {
@@ -165,28 +185,31 @@ fn compositions_of(pairs: Vec<(char, char, char)>) -> Result<CanonicalCompositio
     }
 }
 
-/// One kind of data.
-#[tactic(auto, using(crate::proofs::constant_words::ConstantWords::packed_alike))]
+/// One kind of data, in which the characters in ranges are replaced.
+#[tactic(auto, using(crate::proofs::beside::BesideWords::words_alike))]
 fn data_of<'a, 'e>(
     alloc: Global,
     entries: &'a Entries<'e>,
     compositions: &'a CanonicalCompositions,
     stores: &'a Stores<'e>,
     breakpoints: &[char],
+    replaced: &'a [(char, char)],
     kind: Kind,
 ) -> Result<DecompositionData, AllocError>
     requires stored { CanPoint entries.now stores.now }
     requires breakpoints { AreBreakpoints entries.now compositions.now breakpoints.now }
-    ensures { IfOk result (PacksKind kind entries.now compositions.now) }
+    requires ends { HasEnds replaced.now breakpoints.now }
+    ensures { IfOk result (PacksKindBeside replaced.now kind entries.now compositions.now) }
 {
     let words = PackedWords {
         entries,
         compositions,
         stores,
+        replaced,
         kind,
     };
     Ok(DecompositionData {
         table: table_of(alloc, &words, breakpoints)?,
-        passthrough_cap: cap_of(entries, compositions, kind),
+        passthrough_cap: cap_of(entries, compositions, replaced, kind),
     })
 }

@@ -4,6 +4,7 @@ pub mod Equal
 pub mod EqualLaws
 pub mod Faults
 pub mod Meaning
+pub mod Ranges
 pub mod Recorded
 pub mod Statuses
 pub mod inner

@@ -3,7 +3,6 @@ pub mod FaultLemmas
 pub mod FieldCounts
 pub mod Heads
 pub mod Loop
-pub mod RangeLemmas
 pub mod RisingLemmas
 pub mod SameRecords
 pub mod SameTables

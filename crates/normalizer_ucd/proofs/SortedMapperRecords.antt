@@ -6,6 +6,7 @@ use Rattle.std.specs.Option.{option_to_list}
 use Rattle.std.specs.List.{flat_map, range_with_len}
 use Rattle.std.proofs.lemmas.Bool.{ltb-false}
 use Rattle.normalizer_records.specs.Faults.{AreMapperRising}
+use Rattle.normalizer_records.proofs.RangeRecords.{AreRanges, character, of_ranges}
 use Rattle.normalizer_records.specs.RecordValue.{Status, Uts46RecordValue}
 use Rattle.normalizer_ucd.specs.declared.error.LineFault.{LineFault}
 use Rattle.normalizer_ucd.specs.declared.error.Place.{Place}
@@ -23,12 +24,6 @@ use Rattle.normalizer_ucd.specs.Versions.{agree, stated_in}
 use Rattle.normalizer_ucd.specs.Wholes.{whole_lines}
 use Rattle.normalizer_ucd.proofs.RisingLemmas.{bound, neither, from_less, joined, parts_of_ok, AreWithin, IsWithin}
 use Rattle.normalizer_ucd.proofs.RisingLemmas.{read_within, rising}
-
-abbrev character : Uts46RecordValue → ℕ
-character r = r.c
-
-abbrev AreRanges : ℕ → ℕ → List RangeStatus → Type 0
-AreRanges = IsWithin (λ r. r.first) (λ r. r.end)
 
 -- where a range ends
 chosen : (wrong early : Bool) (e f : LineFault) (last end : ℕ) →
@@ -94,31 +89,6 @@ line_within choice n covered next line found h =
     blank_or (length (data_of line) == 0) n covered next found
     (read_fields choice (place n) covered.end (data_of line)) h
     (λ end f. fields_within choice (place n) covered.end end (data_of line) f)
-
--- the record of a character, if it is one, and those of what follows
-first_or_none : (scalar : Bool) (status : Status) (c m : ℕ) (later : List Uts46RecordValue) →
-    AreWithin character (c + 1) m later →
-    AreWithin character c m ((if scalar then record { c = c; status = status } ∷ [] else []) ++ later)
-first_or_none true status c m later h = (omega arith, omega arith, h)
-first_or_none false status c m later h = from_less character (λ r. r.c + 1) c (c + 1) m later h (omega arith)
-
-all_within : (status : Status) (count first end : ℕ) → end ≡ first + count →
-    AreWithin character first end (flat_map (entries_at status) (range_with_len first count))
-all_within status zero first end is = omega arith
-all_within status (suc count) first end is =
-    first_or_none (is_scalar_value first) status first end
-    (flat_map (entries_at status) (range_with_len (first + 1) count))
-    (all_within status count (first + 1) end (omega arith))
-
-of_ranges : (n m : ℕ) (ranges : List RangeStatus) → AreRanges n m ranges →
-    AreWithin character n m (flat_map entries_of ranges)
-unfolding entries_of
-of_ranges n m [] h = h
-of_ranges n m (r ∷ ranges) h =
-    joined character (λ e. e.c + 1) n r.end m (entries_of r) (flat_map entries_of ranges)
-    (from_less character (λ e. e.c + 1) n r.first r.end (entries_of r)
-    (all_within r.status (r.end - r.first) r.first r.end (let le : r.first ≤ r.end = h.1 in omega arith)) h.0)
-    (of_ranges r.end m ranges h.2)
 
 of_lines : (choice : Disallowed) (parts : List (List ℕ)) (ranges : List RangeStatus) →
     ranges_in choice parts ≡ Ok ranges → AreMapperRising (flat_map entries_of ranges)

@@ -4,8 +4,10 @@ use Rattle.std.specs.Prelude.{◌∷◌, length, codes}
 use Rattle.std.specs.Prelude.{Option, Some, None, Result, Ok, Err, if◌then◌else◌}
 use Rattle.std.specs.Str.{bytes_eq}
 use Rattle.std.specs.Option.{ok_or, option_and_then, option_map}
-use Rattle.std.specs.List.{flat_map, list_any, before_first, after_first, range_with_len}
+use Rattle.std.specs.List.{flat_map, list_any, before_first, after_first}
 use Rattle.normalizer_records.specs.RecordValue.{Uts46RecordValue, Status, MapsTo, IsIgnored, IsDisallowed}
+pub use Rattle.normalizer_records.specs.Ranges.{RangeStatus, entries_at}
+unfoldable pub use Rattle.normalizer_records.specs.Ranges.{entries_of}
 use Rattle.normalizer_ucd.specs.declared.error.LineFault.{LineFault}
 use Rattle.normalizer_ucd.specs.declared.error.Place.{Place}
 use Rattle.normalizer_ucd.specs.declared.error.Problem.TheVariants as problems
@@ -16,7 +18,7 @@ use Rattle.normalizer_ucd.specs.declared.idna_table.StatusName.{StatusName}
 use Rattle.normalizer_ucd.specs.declared.idna_table.StatusName.TheVariants as names
 use Rattle.normalizer_ucd.specs.FallibleReads.{◌>>=◌, fault, read_each}
 use Rattle.normalizer_ucd.specs.declared.idna_table.Covered.{Covered}
-use Rattle.normalizer_ucd.specs.Fields.{lines, data_of, field, code_point, is_scalar_value, characters}
+use Rattle.normalizer_ucd.specs.Fields.{lines, data_of, field, code_point, characters}
 use Rattle.normalizer_ucd.specs.UnicodeData.{field_of}
 use Rattle.normalizer_ucd.specs.Versions.{agree, stated_in}
 use Rattle.normalizer_ucd.specs.Wholes.{whole_lines}
@@ -92,12 +94,6 @@ status_of choice at line first last names.Mapped = do
   mapping ← mapping_of at line
   Ok (Some (MapsTo mapping))
 
--- the code points from first on, before end, and what is done with them
-pub record RangeStatus : Type 0 where
-  pub first : ℕ
-  pub end : ℕ
-  pub status : Status
-
 abbrev pub range_status : ℕ → ℕ → Option Status → Option RangeStatus
 range_status first end status = option_map (λ s. record { first = first; end = end; status = s }) status
 
@@ -138,14 +134,6 @@ ranges_in choice parts = do
   read ← read_each (read_line choice) 1 start parts
   full ← full_end read.0
   Ok read.1
-
--- a surrogate isn't a character
-abbrev pub entries_at : Status → ℕ → List Uts46RecordValue
-entries_at status c = if is_scalar_value c then record { c = c; status = status } ∷ [] else []
-
--- a record for each character of a range
-unfoldable pub entries_of : RangeStatus → List Uts46RecordValue
-entries_of r = flat_map (entries_at r.status) (range_with_len r.first (r.end - r.first))
 
 -- the range of the first field has the code point
 abbrev pub Lists : List ℕ → ℕ → Type 0

@@ -1,5 +1,5 @@
 //! IdnaMappingTable.txt.
-ghost use Rattle.std.specs.Prelude.{◌≡◌, ◌++◌, ◌==◌, ◌≤◌, map, OnOk, IfOk};
+ghost use Rattle.std.specs.Prelude.{◌≡◌, ◌==◌, ◌≤◌, map, OnOk, IfOk};
 ghost use Rattle.std.specs.Str.{bytes_eq};
 ghost use Rattle.std.specs.Option.{option_map};
 ghost use Rattle.std.specs.List.{flat_map, list_any};
@@ -7,7 +7,6 @@ ghost use Rattle.normalizer_records.specs.Statuses.{status_of as status_of_recor
 ghost use Rattle.normalizer_ucd.specs.IdnaTable.{
   after_stops,
   end_of,
-  entries_at,
   entries_of,
   first_of,
   full_end,
@@ -36,9 +35,8 @@ use crate::lines::{after_first, before_first, characters, code_point, data_of, l
 use crate::stated::agree;
 use crate::unicode_data::field_of;
 use crate::wholes::whole_lines;
-use normalizer_records::{Uts46Record, Uts46Status};
-use std::alloc::{AllocError, Global};
-use std::marker::Model;
+use normalizer_records::{Uts46Range, Uts46Record, Uts46Status, records_of_ranges};
+use std::alloc::Global;
 
 /// Which disallowed characters get a record. Most disallowed characters are unassigned or for private use.
 #[derive(Clone, Copy, PartialEq, Eq, Debug)]
@@ -57,24 +55,6 @@ enum StatusName {
     Ignored,
     Mapped,
     Disallowed,
-}
-
-/// The code points from the first on, before the end, and what is done with them.
-#[derive(Drop)]
-struct RangeStatus {
-    first: u32,
-    end: u32,
-    status: Uts46Status,
-}
-
-impl Model for RangeStatus {
-    ghost use Rattle.normalizer_ucd.specs.IdnaTable.{RangeStatus};
-
-    ghost Value = { RangeStatus };
-
-    ghost use Rattle.normalizer_records.specs.Statuses.{status_of};
-
-    ghost view = { λ r. record { first = r.first; end = r.end; status = status_of r.status } };
 }
 
 /// What the lines before cover: the code points before the end, up to the line of that number.
@@ -107,6 +87,23 @@ pub fn uts46_records_of_idna_table(
     uts46_records_in(alloc, disallowed, &lines)
 }
 
+/// Returns the ranges of the table, of which [`records_of_ranges`] lists those records. Each is of one line.
+///
+/// # Errors
+/// Those of [`uts46_records_of_idna_table`].
+#[tactic(auto, unfolding(crate::specs::IdnaTable::uts46_records_of))]
+pub fn uts46_ranges_of_idna_table(
+    alloc: Global,
+    table: &[u8],
+    disallowed: Disallowed,
+) -> Result<Vec<Uts46Range>, UcdError>
+    ensures records { Gives (λ v. flat_map entries_of v.items) result (uts46_records_of disallowed table.now) }
+    ensures whole { OnOk result (ListsAll (lines table.now)) }
+{
+    let lines = whole_lines(alloc, UcdFile::IdnaMappingTable, table)?;
+    uts46_ranges_in(alloc, disallowed, &lines)
+}
+
 /// Returns the same records, if the table states the version of Unicode that `CompositionExclusions.txt` states, or one
 /// of them states none.
 ///
@@ -129,6 +126,28 @@ pub fn uts46_records_beside_exclusions(
     uts46_records_in(alloc, disallowed, &parts)
 }
 
+/// Returns the ranges of the same records, if the table states the version of Unicode that
+/// `CompositionExclusions.txt` states, or one of them states none.
+///
+/// # Errors
+/// Those of [`uts46_records_beside_exclusions`].
+#[tactic(auto, unfolding(crate::specs::IdnaTable::uts46_records_beside))]
+pub fn uts46_ranges_beside_exclusions(
+    alloc: Global,
+    composition_exclusions: &[u8],
+    table: &[u8],
+    disallowed: Disallowed,
+) -> Result<Vec<Uts46Range>, UcdError>
+    ensures records { Gives (λ v. flat_map entries_of v.items) result
+        (uts46_records_beside composition_exclusions.now disallowed table.now) }
+    ensures whole { OnOk result (ListsAll (lines table.now)) }
+{
+    let parts = whole_lines(alloc, UcdFile::IdnaMappingTable, table)?;
+    let listed = lines(alloc, composition_exclusions)?;
+    agree(alloc, &listed, UcdFile::IdnaMappingTable, &parts)?;
+    uts46_ranges_in(alloc, disallowed, &parts)
+}
+
 /// The records of the lines of a table.
 #[tactic(auto, unfolding(crate::specs::IdnaTable::uts46_records_in))]
 fn uts46_records_in(
@@ -139,58 +158,20 @@ fn uts46_records_in(
     ensures { Gives (λ v. v.items) result (uts46_records_in disallowed (map (λ line. line.now) lines.now)) }
 {
     let ranges = ranges_in(alloc, disallowed, lines)?;
-    Ok(records_of(alloc, &ranges)?)
+    Ok(records_of_ranges(alloc, &ranges)?)
 }
 
-/// A record for each character of the ranges.
-fn records_of(alloc: Global, ranges: &[RangeStatus]) -> Result<Vec<Uts46Record>, AllocError>
-    ensures { IfOk result (λ v. v.items ≡ flat_map entries_of ranges.now) }
-{
-    let mut records = Vec::new(alloc);
-    for range in ranges {
-        push_records(alloc, &mut records, range)?;
-    }
-    Ok(records)
-}
-
-#[tactic(auto, unfolding(crate::specs::IdnaTable::entries_of))]
-fn push_records(
+/// The ranges of the lines of a table, by the records that they list.
+#[tactic(auto, unfolding(crate::specs::IdnaTable::uts46_records_in))]
+fn uts46_ranges_in(
     alloc: Global,
-    records: &mut Vec<Uts46Record>,
-    range: &RangeStatus,
-) -> Result<(), AllocError>
-    ensures { OnOk result (records.new.items ≡ records.old.items ++ entries_of range.now) }
+    disallowed: Disallowed,
+    lines: &[&[u8]],
+) -> Result<Vec<Uts46Range>, UcdError>
+    ensures { Gives (λ v. flat_map entries_of v.items) result
+        (uts46_records_in disallowed (map (λ line. line.now) lines.now)) }
 {
-    for code in range.first..range.end {
-        push_record(alloc, records, code, &range.status)?;
-    }
-    Ok(())
-}
-
-/// Adds the record of a character; a surrogate is none.
-fn push_record(
-    alloc: Global,
-    records: &mut Vec<Uts46Record>,
-    code: u32,
-    status: &Uts46Status,
-) -> Result<(), AllocError>
-    ensures { OnOk result (records.new.items ≡ records.old.items ++ entries_at (status_of_record status.now) code) }
-{
-    if let Some(c) = char::from_u32(code) {
-        let status = copied(alloc, status)?;
-        records.push(Uts46Record { c, status })?;
-    }
-    Ok(())
-}
-
-fn copied(alloc: Global, status: &Uts46Status) -> Result<Uts46Status, AllocError>
-    ensures { IfOk result (λ s. status_of_record s ≡ status_of_record status.now) }
-{
-    match status {
-        Uts46Status::Mapped(mapping) => Ok(Uts46Status::Mapped(mapping.to_vec(alloc)?)),
-        Uts46Status::Ignored => Ok(Uts46Status::Ignored),
-        Uts46Status::Disallowed => Ok(Uts46Status::Disallowed),
-    }
+    ranges_in(alloc, disallowed, lines)
 }
 
 #[tactic(auto, unfolding(crate::specs::IdnaTable::ranges_in))]
@@ -198,7 +179,7 @@ fn ranges_in(
     alloc: Global,
     disallowed: Disallowed,
     lines: &[&[u8]],
-) -> Result<Vec<RangeStatus>, UcdError>
+) -> Result<Vec<Uts46Range>, UcdError>
     ensures { Gives (λ v. v.items) result (ranges_in disallowed (map (λ line. line.now) lines.now)) }
 {
     let mut ranges = Vec::new(alloc);
@@ -238,7 +219,7 @@ fn read_line(
     number: usize,
     covered: Covered,
     line: &[u8],
-) -> Result<(Covered, Option<RangeStatus>), UcdError>
+) -> Result<(Covered, Option<Uts46Range>), UcdError>
     ensures { Gives (λ x. x) result (read_line disallowed number covered line.now) }
 {
     let data = data_of(line);
@@ -256,7 +237,7 @@ fn read_fields(
     place: Place,
     next: u32,
     line: &[u8],
-) -> Result<(u32, Option<RangeStatus>), UcdError>
+) -> Result<(u32, Option<Uts46Range>), UcdError>
     ensures { Gives (λ x. x) result (read_fields disallowed place next line.now) }
 {
     let first = first_of(place, line)?;
@@ -267,11 +248,11 @@ fn read_fields(
     Ok((end, range_status(first, end, status)))
 }
 
-fn range_status(first: u32, end: u32, status: Option<Uts46Status>) -> Option<RangeStatus>
+fn range_status(first: u32, end: u32, status: Option<Uts46Status>) -> Option<Uts46Range>
     ensures { result ≡ range_status first end (option_map status_of_record status) }
 {
     let status = status?;
-    Some(RangeStatus { first, end, status })
+    Some(Uts46Range { first, end, status })
 }
 
 fn has_stop(text: &[u8]) -> bool

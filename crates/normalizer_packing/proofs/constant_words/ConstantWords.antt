@@ -34,7 +34,7 @@ listed-missing pairs first n missing = elim (find-tells {X = Pair} (λ p. is_of 
   | inr some ↦ absurd (missing (subst (Contains (map (λ p. p.0) pairs)) (eqb-true _ _ (and_parts _ _ some.3).0) (Contains-map (λ (p : Pair). p.0) pairs some.0 some.2)))
 ]
 
-compose-alone : (d : Reading) (n : ℕ) → compose d (n ∷ []) ≡ n ∷ []
+pub compose-alone : (d : Reading) (n : ℕ) → compose d (n ∷ []) ≡ n ∷ []
 unfolding compose compose_from visit
 compose-alone d n = refl
 
@@ -44,13 +44,13 @@ plain (Some w) = Final w
 plain None = Short 0
 
 -- what is known of n if data say nothing of it
-record IsUnlisted (entries : List EntryValue) (pairs : List Pair) (n : ℕ) : Type 0 where
-  entry : entry_of entries n ≡ None
-  listed : (first : ℕ) → listed_result pairs first n ≡ None
-  apart : AllByRecursion (λ e. e ≢ n) edges
+pub record IsUnlisted (entries : List EntryValue) (pairs : List Pair) (n : ℕ) : Type 0 where
+  pub entry : entry_of entries n ≡ None
+  pub listed : (first : ℕ) → listed_result pairs first n ≡ None
+  pub apart : AllByRecursion (λ e. e ≢ n) edges
 
 module _ (entries : List EntryValue) (pairs : List Pair) (breakpoints : List ℕ) (lists : AreBreakpoints entries pairs breakpoints) where
-  IsUnlisted-missing : (n : ℕ) → (Contains breakpoints n → ⊥) → IsUnlisted entries pairs n
+  pub IsUnlisted-missing : (n : ℕ) → (Contains breakpoints n → ⊥) → IsUnlisted entries pairs n
   unfolding entry_of
   IsUnlisted-missing n unlisted = record {
     entry = find-missing {X = EntryValue} (λ e. e.character) entries n (λ k. unlisted (lists.all n (Contains-append_left _ edges n (Contains-append_left _ _ n k))));
@@ -76,7 +76,7 @@ module _ (entries : List EntryValue) (pairs : List Pair) (n : ℕ) (one : IsUnli
       let trailing : is_trailing_consonant n ≡ is_trailing_consonant (n + 1) = grind (arith, nat_tests, next.apart) in
       let any : is_vowel_or_trailing_jamo n ≡ is_vowel_or_trailing_jamo (n + 1) = grind (arith, nat_tests, next.apart) in cc
 
-  same_final : final_word n ≡ final_word (n + 1)
+  pub same_final : final_word n ≡ final_word (n + 1)
   unfolding final_word is_hangul_syllable is_surrogate
   same_final = grind (arith, nat_tests, one.apart, next.apart)
 

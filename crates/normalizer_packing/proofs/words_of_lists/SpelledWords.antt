@@ -47,7 +47,7 @@ given_among f (y ∷ entries) e x (suc k, within, is) some = elim (f y) as (λ o
 ]
 
 -- the character alone needs no table
-alone_spelled : (class : ℕ → ℕ) (n : ℕ) → spelling class n (Some (n ∷ [])) ≡ Listed → ⊥
+pub alone_spelled : (class : ℕ → ℕ) (n : ℕ) → spelling class n (Some (n ∷ [])) ≡ Listed → ⊥
 unfolding spelling spelling_or_ignored spelling_by_list
 alone_spelled class n is = let same = eq_list (n ∷ []) (n ∷ []) refl in absurd (grind arith)
 

@@ -1,8 +1,8 @@
 use Rattle.std.proofs.Common.{◌≡◌, ◌++◌}
 use Rattle.std.specs.List.{flat_map}
-use Rattle.normalizer_ucd.specs.IdnaTable.{entries_at, entries_of}
-use Rattle.normalizer_ucd.proofs.RangeLemmas.{numbers}
-use Rattle.normalizer_ucd.proofs.idna_table.push_records.Given as goal
+use Rattle.normalizer_records.specs.Ranges.{entries_at, entries_of}
+use Rattle.normalizer_records.proofs.RangeLemmas.{numbers}
+use Rattle.normalizer_records.proofs.ranges.push_records.Given as goal
 
 abbrev pub invariant-loop-code : goal.invariant-loop-code
 invariant-loop-code l =

@@ -1,7 +1,7 @@
 use Rattle.std.proofs.Common.{◌≡◌, ◌++◌, refl}
-use Rattle.normalizer_ucd.specs.IdnaTable.{entries_at, entries_of}
-use Rattle.normalizer_ucd.proofs.RangeLemmas.{one_more, no_more}
-use Rattle.normalizer_ucd.proofs.idna_table.push_records.Goals as goal
+use Rattle.normalizer_records.specs.Ranges.{entries_at, entries_of}
+use Rattle.normalizer_records.proofs.RangeLemmas.{one_more, no_more}
+use Rattle.normalizer_records.proofs.ranges.push_records.Goals as goal
 
 pub loop-code-init : goal.loop-code-init
 unfolding entries_of
