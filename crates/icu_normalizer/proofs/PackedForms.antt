@@ -4,14 +4,14 @@ use Rattle.normal_forms.specs.Forms.{normal_form}
 use Rattle.normal_forms.proofs.forms.AlikeReadings.{nfc-alike, nfd-alike}
 use Rattle.normalizer_builder.specs.Building.{MeansRecords}
 use Rattle.normalizer_builder.specs.RecordedReading.{recorded_reading}
-use Rattle.normalizer_conditions.specs.Refusals.{RefusesFirstFailing}
-use Rattle.normalizer_conditions.specs.RequiredConditions.{composing_conditions, decomposing_conditions}
+use Rattle.normalizer_check.specs.Refusals.{RefusesFirstFailing}
+use Rattle.normalizer_check.specs.RequiredConditions.{composing_conditions, decomposing_conditions}
 use Rattle.normalizer_packing.specs.ReadBack.{characters_of}
 use Rattle.normalizer_packing.specs.declared.Packed.{Packed}
 use Rattle.normalizer_records.specs.RecordValue.{RecordValue, Uts46RecordValue}
 use Rattle.normalizer_records.specs.declared.records.Mappings.TheVariants as mappings
-use Rattle.normalizer_tables.specs.Conditions.{IsMet}
-use Rattle.normalizer_tables.specs.Loaded.{characters_alone, characters_and_pairs, Loaded}
+use Rattle.normalizer_tables.specs.conditions.Conditions.{IsMet}
+use Rattle.normalizer_tables.specs.conditions.Loaded.{characters_alone, characters_and_pairs, Loaded}
 use Rattle.normalizer_tables.specs.Readings.{reading_by}
 use Rattle.normalizer_tables.specs.declared.characters.IgnoredCharacters.TheVariants.{Dropped, Replaced}
 use Rattle.normalizer_tables.specs.declared.condition.Condition.{Condition}

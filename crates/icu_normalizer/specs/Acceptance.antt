@@ -4,13 +4,13 @@ use Rattle.normalizer_tables.specs.declared.condition.Bounds.{Bounds}
 use Rattle.normalizer_tables.specs.declared.provider.DataError.{DataError}
 use Rattle.normalizer_tables.specs.declared.provider.DataMarkerInfo.{DataMarkerInfo}
 use Rattle.normalizer_tables.specs.declared.provider.DataMarkerInfo.TheVariants as marker
-use Rattle.normalizer_conditions.specs.RequiredConditions.{decomposing_conditions}
-use Rattle.normalizer_tables.specs.Conditions.{IsMet}
-use Rattle.normalizer_tables.specs.Loaded.{bounds_of_cap, characters_alone}
+use Rattle.normalizer_check.specs.RequiredConditions.{decomposing_conditions}
+use Rattle.normalizer_tables.specs.conditions.Conditions.{IsMet}
+use Rattle.normalizer_tables.specs.conditions.Loaded.{bounds_of_cap, characters_alone}
 use Rattle.normalizer_tables.specs.Characters.{Characters, characters_from}
 use Rattle.normalizer_tables.specs.Data.{Decompositions, Lists}
 pub use Rattle.normalizer_tables.specs.Held.{AcceptsHeld, RefusesHeld, AnswersHeld}
-use Rattle.normalizer_conditions.specs.Refusals.{RefusesFirstFailing}
+use Rattle.normalizer_check.specs.Refusals.{RefusesFirstFailing}
 
 -- below which numbers characters are passthrough
 abbrev pub bounds_of : Decompositions → Bounds

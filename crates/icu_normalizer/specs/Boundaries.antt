@@ -1,7 +1,7 @@
 -- Which characters a normalizer takes for the beginning of a part of a text.
 use Rattle.std.specs.Prelude.{ℕ, Bool, not}
 use Rattle.normalizer_tables.specs.Characters.{has_class_form}
-use Rattle.normalizer_tables.specs.PairConditions.{is_taken_as_boundary}
+use Rattle.normalizer_tables.specs.conditions.PairConditions.{is_taken_as_boundary}
 use Rattle.icu_normalizer.specs.declared.borrowed.NormalizerBorrowed.{NormalizerBorrowed}
 use Rattle.icu_normalizer.specs.declared.composing_form.ComposingForm.{ComposingForm}
 use Rattle.icu_normalizer.specs.declared.decomposing_form.DecomposingForm.{DecomposingForm}

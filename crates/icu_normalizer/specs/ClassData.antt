@@ -2,13 +2,13 @@
 use Rattle.std.specs.Prelude.{◌≡◌, ℕ, false, true, None, All}
 use Rattle.normalizer_tables.specs.declared.provider.DataError.{DataError}
 use Rattle.normalizer_tables.specs.declared.provider.DataMarkerInfo.{DataMarkerInfo}
-use Rattle.normalizer_conditions.specs.RequiredConditions.{class_conditions}
-use Rattle.normalizer_tables.specs.CharacterConditions.{is_surrogate}
+use Rattle.normalizer_check.specs.RequiredConditions.{class_conditions}
+use Rattle.normalizer_tables.specs.conditions.CharacterConditions.{is_surrogate}
 use Rattle.normalizer_tables.specs.Characters.{class_of, characters_from}
-use Rattle.normalizer_tables.specs.Conditions.{IsMet}
+use Rattle.normalizer_tables.specs.conditions.Conditions.{IsMet}
 use Rattle.normalizer_tables.specs.Data.{Decompositions, lists_or_none}
-use Rattle.normalizer_tables.specs.Loaded.{classes_loaded}
-use Rattle.normalizer_conditions.specs.Refusals.{RefusesFirstFailing}
+use Rattle.normalizer_tables.specs.conditions.Loaded.{classes_loaded}
+use Rattle.normalizer_check.specs.Refusals.{RefusesFirstFailing}
 use Rattle.normalizer_tables.specs.Table.{word_at}
 use Rattle.normalizer_tables.specs.Words.{is_class_form}
 

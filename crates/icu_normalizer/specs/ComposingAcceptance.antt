@@ -3,12 +3,12 @@ use Rattle.std.specs.Prelude.{List, Option, Some, None, Result, Ok, Err, All}
 use Rattle.normalizer_tables.specs.declared.provider.DataError.{DataError}
 use Rattle.normalizer_tables.specs.declared.provider.DataMarkerInfo.{DataMarkerInfo}
 use Rattle.normalizer_tables.specs.declared.provider.DataMarkerInfo.TheVariants as marker
-use Rattle.normalizer_conditions.specs.RequiredConditions.{composing_conditions}
-use Rattle.normalizer_tables.specs.Conditions.{IsMet}
-use Rattle.normalizer_tables.specs.Loaded.{characters_and_pairs}
+use Rattle.normalizer_check.specs.RequiredConditions.{composing_conditions}
+use Rattle.normalizer_tables.specs.conditions.Conditions.{IsMet}
+use Rattle.normalizer_tables.specs.conditions.Loaded.{characters_and_pairs}
 use Rattle.normalizer_tables.specs.Characters.{Characters}
 use Rattle.normalizer_tables.specs.Pairs.{Pair}
-use Rattle.normalizer_conditions.specs.Refusals.{RefusesFirstFailing}
+use Rattle.normalizer_check.specs.Refusals.{RefusesFirstFailing}
 
 -- data with pairs that meet all conditions for composing text
 abbrev pub SuitsComposing : Characters × List Pair → Type 0

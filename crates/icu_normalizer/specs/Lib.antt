@@ -37,7 +37,7 @@ pub use Rattle.normalizer_builder.specs.Building
 pub use Rattle.normalizer_builder.specs.Built
 pub use Rattle.normalizer_builder.specs.RecordedClasses
 pub use Rattle.normalizer_builder.specs.RecordedReading
-pub use Rattle.normalizer_conditions.specs.Refusals
+pub use Rattle.normalizer_check.specs.Refusals
 pub use Rattle.normalizer_iterators.specs.Items
 pub use Rattle.normalizer_iterators.specs.declared.error.NormalizeError
 pub use Rattle.normalizer_packing.specs.ReadBack
@@ -52,8 +52,8 @@ pub use Rattle.normalizer_tables.specs.Characters
 pub use Rattle.normalizer_tables.specs.Data
 pub use Rattle.normalizer_tables.specs.Held
 pub use Rattle.normalizer_tables.specs.Ignored
-pub use Rattle.normalizer_tables.specs.NfdData
-pub use Rattle.normalizer_tables.specs.PairConditions
+pub use Rattle.normalizer_tables.specs.conditions.NfdData
+pub use Rattle.normalizer_tables.specs.conditions.PairConditions
 pub use Rattle.normalizer_tables.specs.Pairs
 pub use Rattle.normalizer_tables.specs.Readings
 pub use Rattle.normalizer_tables.specs.Words

@@ -4,10 +4,10 @@ use Rattle.std.specs.Char.{IsScalar}
 use Rattle.normal_forms.specs.Order.{order}
 use Rattle.normal_forms.specs.declared.Form.TheVariants.{Decomposing, Composing}
 use Rattle.normalizer_tables.specs.declared.condition.Bounds.{Bounds}
-use Rattle.normalizer_conditions.specs.RequiredConditions.{SuitsTexts}
+use Rattle.normalizer_check.specs.RequiredConditions.{SuitsTexts}
 use Rattle.normalizer_tables.specs.Characters.{Characters, has_class_form, list_of}
 use Rattle.normalizer_tables.specs.Pairs.{Pair}
-use Rattle.normalizer_tables.specs.PairConditions.{is_taken_as_boundary}
+use Rattle.normalizer_tables.specs.conditions.PairConditions.{is_taken_as_boundary}
 use Rattle.normalizer_tables.specs.Readings.{reading_by}
 use Rattle.normalizer_tables.specs.Passthrough.{IsPassthroughBelow}
 use Rattle.normalizer_tables.specs.declared.characters.IgnoredCharacters.TheVariants.{Dropped}

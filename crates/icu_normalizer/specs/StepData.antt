@@ -3,12 +3,12 @@ use Rattle.std.specs.Prelude.{Option, Some, None, Result, Ok, Err, All}
 use Rattle.normalizer_tables.specs.declared.provider.DataError.{DataError}
 use Rattle.normalizer_tables.specs.declared.provider.DataMarkerInfo.{DataMarkerInfo}
 use Rattle.normalizer_tables.specs.declared.provider.DataMarkerInfo.TheVariants as marker
-use Rattle.normalizer_conditions.specs.RequiredConditions.{step_conditions}
-use Rattle.normalizer_tables.specs.Conditions.{IsMet}
-use Rattle.normalizer_tables.specs.Loaded.{Loaded, nfd_bounds}
+use Rattle.normalizer_check.specs.RequiredConditions.{step_conditions}
+use Rattle.normalizer_tables.specs.conditions.Conditions.{IsMet}
+use Rattle.normalizer_tables.specs.conditions.Loaded.{Loaded, nfd_bounds}
 use Rattle.normalizer_tables.specs.Characters.{Characters, characters_from}
 use Rattle.normalizer_tables.specs.Data.{Decompositions, Lists, Supplement}
-use Rattle.normalizer_conditions.specs.Refusals.{RefusesFirstFailing}
+use Rattle.normalizer_check.specs.Refusals.{RefusesFirstFailing}
 
 -- canonical data and the supplement
 abbrev pub StepData : Type 0

@@ -4,7 +4,7 @@ use Rattle.std.specs.Prelude.{List, Option, Some, None, Result, Ok, Err, true, [
 use Rattle.normalizer_tables.specs.declared.condition.Bounds.{Bounds}
 use Rattle.normalizer_tables.specs.declared.provider.DataMarkerInfo.{DataMarkerInfo}
 use Rattle.normalizer_tables.specs.declared.provider.DataMarkerInfo.TheVariants as marker
-use Rattle.normalizer_conditions.specs.RequiredConditions.{SuitsMapper}
+use Rattle.normalizer_check.specs.RequiredConditions.{SuitsMapper}
 use Rattle.normalizer_tables.specs.Characters.{Characters, has_class_form}
 use Rattle.normalizer_tables.specs.Data.{Decompositions, Lists}
 use Rattle.normalizer_tables.specs.declared.characters.IgnoredCharacters.{IgnoredCharacters}

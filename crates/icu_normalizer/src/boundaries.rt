@@ -1,7 +1,7 @@
 //! Characters before which a text may be divided.
 ghost use Rattle.std.specs.Prelude.{◌≡◌, true};
 ghost use Rattle.normal_forms.specs.declared.Form.TheVariants.{Composing, Decomposing};
-ghost use Rattle.normalizer_tables.specs.PairConditions.{is_taken_as_boundary};
+ghost use Rattle.normalizer_tables.specs.conditions.PairConditions.{is_taken_as_boundary};
 ghost use Rattle.icu_normalizer.specs.BoundaryBefore.{HasBoundaryBefore};
 ghost use Rattle.icu_normalizer.specs.Boundaries.{has_composing_boundary, has_decomposing_boundary};
 ghost use Rattle.icu_normalizer.specs.Forms.{composed_by, decomposed_by};
@@ -37,7 +37,7 @@ impl<'a> NormalizerBorrowed<ComposingForm<'a>> {
 }
 
 /// Whether a character isn't flagged as backward combining, or is below the bound.
-#[tactic(auto, unfolding(normalizer_tables::specs::PairConditions::is_taken_as_boundary))]
+#[tactic(auto, unfolding(normalizer_tables::specs::conditions::PairConditions::is_taken_as_boundary))]
 pub(crate) fn is_taken_as_boundary(
     characters: &CharacterData<'_>,
     bounds: Bounds,

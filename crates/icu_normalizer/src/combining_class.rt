@@ -8,8 +8,8 @@ ghost use Rattle.icu_normalizer.specs.ClassData.{
   SuitsClasses,
 };
 
-use normalizer_conditions::check::check;
-use normalizer_conditions::loaded::LoadedData;
+use normalizer_check::check::check;
+use normalizer_check::loaded::LoadedData;
 use normalizer_tables::characters::CharacterData;
 use normalizer_tables::condition::{CLASSES, GREATEST_BOUNDS};
 use normalizer_tables::word::class_of_word;

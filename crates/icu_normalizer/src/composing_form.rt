@@ -4,8 +4,8 @@ ghost use Rattle.std.specs.Iterator.{IsFinite};
 ghost use Rattle.normal_forms.specs.Forms.{nfc};
 ghost use Rattle.normalizer_tables.specs.Ignored.{ignored_list};
 ghost use Rattle.normalizer_tables.specs.Characters.{word_of};
-ghost use Rattle.normalizer_tables.specs.PairConditions.{is_composing_passthrough, is_taken_as_boundary};
-ghost use Rattle.normalizer_tables.specs.PairConditions.{HasOrderedLists};
+ghost use Rattle.normalizer_tables.specs.conditions.PairConditions.{is_composing_passthrough, is_taken_as_boundary};
+ghost use Rattle.normalizer_tables.specs.conditions.PairConditions.{HasOrderedLists};
 ghost use Rattle.normalizer_tables.specs.declared.characters.IgnoredCharacters.TheVariants.{Dropped};
 ghost use Rattle.normalizer_iterators.specs.Iterating.{YieldsFormBy};
 ghost use Rattle.icu_normalizer.specs.Serving.{ServesComposing};
@@ -56,7 +56,7 @@ impl<'a> ComposingForm<'a> {
     }
 
     /// The same, by its word.
-    #[tactic(auto, unfolding(normalizer_tables::specs::PairConditions::is_composing_passthrough))]
+    #[tactic(auto, unfolding(normalizer_tables::specs::conditions::PairConditions::is_composing_passthrough))]
     #[inline(always)]
     pub(crate) fn passes_by(&self, character: char, word: u32) -> bool
         requires { word ≡ word_of self.now.characters character }
@@ -67,7 +67,7 @@ impl<'a> ComposingForm<'a> {
     }
 
     /// Whether a character is taken to begin a new part, by its word.
-    #[tactic(auto, unfolding(normalizer_tables::specs::PairConditions::is_taken_as_boundary))]
+    #[tactic(auto, unfolding(normalizer_tables::specs::conditions::PairConditions::is_taken_as_boundary))]
     #[inline(always)]
     pub(crate) fn begins_by(&self, character: char, word: u32) -> bool
         requires { word ≡ word_of self.now.characters character }

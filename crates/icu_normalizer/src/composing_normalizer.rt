@@ -13,8 +13,8 @@ ghost use Rattle.icu_normalizer.specs.Serving.{ServesComposing};
 use crate::borrowed::{ComposingNormalizerBorrowed, NormalizerBorrowed};
 use crate::composing_form::ComposingForm;
 use crate::decomposing_normalizer::DecomposingNormalizer;
-use normalizer_conditions::check::check;
-use normalizer_conditions::loaded::LoadedData;
+use normalizer_check::check::check;
+use normalizer_check::loaded::LoadedData;
 use normalizer_tables::condition::{Bounds, COMPOSING};
 use normalizer_tables::owned::OwnedCharacterData;
 use normalizer_tables::{

@@ -1,12 +1,12 @@
 //! The pairs of characters that compose (The Unicode Standard, D114).
 ghost use Rattle.std.specs.Prelude.{◌≡◌, IfErr, IfOk};
 ghost use Rattle.normalizer_tables.specs.Held.{held_or, AnswersHeld};
-ghost use Rattle.normalizer_tables.specs.PairConditions.{AreSoundPairs};
+ghost use Rattle.normalizer_tables.specs.conditions.PairConditions.{AreSoundPairs};
 ghost use Rattle.normalizer_tables.specs.Pairs.{pair_of};
 ghost use Rattle.icu_normalizer.specs.PairData.{RefusesPairs};
 
-use normalizer_conditions::pair_check::are_sound_pairs;
-use normalizer_conditions::refusal::refusal_of;
+use normalizer_check::pair_check::are_sound_pairs;
+use normalizer_check::refusal::refusal_of;
 use normalizer_tables::condition::Condition;
 use normalizer_tables::{
     CanonicalCompositions, DataError, DataMarkerInfo, DataProvider, NormalizerNfcV1, compose,

@@ -13,8 +13,8 @@ ghost use Rattle.icu_normalizer.specs.Serving.{ServesDecomposing};
 
 use crate::borrowed::{DecomposingNormalizerBorrowed, NormalizerBorrowed};
 use crate::decomposing_form::DecomposingForm;
-use normalizer_conditions::check::check;
-use normalizer_conditions::loaded::LoadedData;
+use normalizer_check::check::check;
+use normalizer_check::loaded::LoadedData;
 use normalizer_tables::condition::{Bounds, DECOMPOSING};
 use normalizer_tables::owned::OwnedCharacterData;
 use normalizer_tables::{

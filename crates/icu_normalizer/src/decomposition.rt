@@ -11,8 +11,8 @@ ghost use Rattle.icu_normalizer.specs.StepData.{
 };
 ghost use Rattle.icu_normalizer.specs.StepMeaning.{HasSteps, MeansInLists};
 
-use normalizer_conditions::check::check;
-use normalizer_conditions::loaded::LoadedData;
+use normalizer_check::check::check;
+use normalizer_check::loaded::LoadedData;
 use normalizer_tables::characters::CharacterData;
 use normalizer_tables::condition::{GREATEST_BOUNDS, STEPPING};
 use normalizer_tables::step::{Step as Decomposed, step_of};

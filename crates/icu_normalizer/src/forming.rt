@@ -6,9 +6,10 @@ ghost use Rattle.std.specs.Char.{IsScalar};
 ghost use Rattle.normalizer_sets.specs.CharacterSets.{has};
 ghost use Rattle.normal_forms.specs.Decomposition.{expand};
 ghost use Rattle.normal_forms.specs.ShortRuns.{buffer_limit};
-ghost use Rattle.normalizer_conditions.specs.RequiredConditions.{SuitsTexts};
-ghost use Rattle.normalizer_tables.specs.Characters.{class_of, class_of_itself, has_class_form, list_of, reading_of_word, word_of};
-ghost use Rattle.normalizer_tables.specs.PairConditions.{is_taken_as_boundary};
+ghost use Rattle.normalizer_check.specs.RequiredConditions.{SuitsTexts};
+ghost use Rattle.normalizer_tables.specs.Characters.{class_of, class_of_itself, has_class_form, list_of};
+ghost use Rattle.normalizer_tables.specs.Characters.{reading_of_word, word_of};
+ghost use Rattle.normalizer_tables.specs.conditions.PairConditions.{is_taken_as_boundary};
 ghost use Rattle.normalizer_text.specs.Encodings.{decoded_in, first_in};
 ghost use Rattle.normalizer_iterators.specs.CharactersLeft.{characters_left};
 ghost use Rattle.normalizer_iterators.specs.Segment.{text};
@@ -281,7 +282,7 @@ impl<'a> Forming for ComposingForm<'a> {
         }
     }
 
-    #[tactic(auto, unfolding(crate::specs::inner::PassthroughRuns::composing_class, normalizer_tables::specs::PairConditions::is_composing_passthrough, normalizer_tables::specs::TableSets::has_no_flag))]
+    #[tactic(auto, unfolding(crate::specs::inner::PassthroughRuns::composing_class, normalizer_tables::specs::conditions::PairConditions::is_composing_passthrough, normalizer_tables::specs::TableSets::has_no_flag))]
     fn passing(&self) -> &CharacterSet {
         self.characters.unflagged()
     }

@@ -3,7 +3,7 @@ ghost use Rattle.std.specs.Prelude.{◌≡◌, ◌≢◌, ◌<◌, ◌≤◌, dr
 ghost use Rattle.normalizer_text.specs.Encodings.{first_in};
 ghost use Rattle.normal_forms.specs.declared.Form.TheVariants.{Composing};
 ghost use Rattle.normalizer_tables.specs.Characters.{word_of};
-ghost use Rattle.normalizer_tables.specs.PairConditions.{is_taken_as_boundary};
+ghost use Rattle.normalizer_tables.specs.conditions.PairConditions.{is_taken_as_boundary};
 ghost use Rattle.normalizer_tables.specs.Readings.{reading_by};
 ghost use Rattle.normalizer_tables.specs.declared.characters.IgnoredCharacters.TheVariants.{Dropped};
 ghost use Rattle.icu_normalizer.specs.inner.Kept.{IsFirstOfTwo, IsKeptCharacter, IsKeptStarter};

@@ -2,7 +2,7 @@
 //! law.
 ghost use Rattle.std.specs.Prelude.{◌≡◌};
 ghost use Rattle.normal_forms.specs.declared.Form.TheVariants.{Composing, Decomposing};
-ghost use Rattle.normalizer_conditions.specs.RequiredConditions.{SuitsTexts};
+ghost use Rattle.normalizer_check.specs.RequiredConditions.{SuitsTexts};
 ghost use Rattle.icu_normalizer.specs.Forms.{composed_by, decomposed_by};
 
 use crate::composing_form::ComposingForm;

@@ -71,7 +71,7 @@ pub use decomposing_normalizer::DecomposingNormalizer;
 pub use held_forms::{FormData, MappingData};
 pub use mapping::{is_valid, mapped};
 pub use normalizer_builder::{Built, Records, laws as record_laws};
-pub use normalizer_conditions::check_nfd_data;
+pub use normalizer_check::check_nfd_data;
 pub use normalizer_iterators::{
     Composition, Decomposition, NormalizeError, collected, laws as iterator_laws,
 };

@@ -1,6 +1,6 @@
 //! Normalizers over canonical data that their caller has checked. No memory is taken for the data.
 ghost use Rattle.std.specs.Prelude.{◌≡◌, None};
-ghost use Rattle.normalizer_tables.specs.NfdData.{IsSoundNfdData};
+ghost use Rattle.normalizer_tables.specs.conditions.NfdData.{IsSoundNfdData};
 ghost use Rattle.normalizer_tables.specs.Characters.{characters_from};
 
 use crate::borrowed::NormalizerBorrowed;
@@ -14,7 +14,7 @@ impl<'a> NormalizerBorrowed<DecomposingForm<'a>> {
 
     /// Makes a normalizer to NFD over canonical data that the caller has checked. Nothing is copied or checked.
     ///
-    /// The caller owes that [`check_nfd_data`](normalizer_conditions::check_nfd_data) returned `Ok` for exactly these
+    /// The caller owes that [`check_nfd_data`](normalizer_check::check_nfd_data) returned `Ok` for exactly these
     /// values.
     ///
     /// # Examples

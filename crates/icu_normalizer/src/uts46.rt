@@ -10,8 +10,8 @@ ghost use Rattle.icu_normalizer.specs.ComposingAcceptance.{RefusesToCompose, Sui
 ghost use Rattle.normalizer_iterators.specs.Iterating.{YieldsFormBy};
 ghost use Rattle.icu_normalizer.specs.Uts46.{uts46_data, ServesMapper};
 
-use normalizer_conditions::check::check;
-use normalizer_conditions::loaded::LoadedData;
+use normalizer_check::check::check;
+use normalizer_check::loaded::LoadedData;
 use normalizer_iterators::composition::composed;
 use normalizer_iterators::{Composition, NormalizeError};
 use normalizer_tables::characters::{CharacterData, IgnoredCharacters};

@@ -6,16 +6,16 @@ use Rattle.normalizer_tables.specs.declared.condition.Condition.{Condition}
 use Rattle.normalizer_tables.specs.declared.condition.Condition.TheVariants.{ItemLimit, Surrogates, PastTheEnd, Hangul, Words, Members, Order, Pairs, FdfaForms, Steps}
 use Rattle.normalizer_tables.specs.declared.provider.DataError.{DataError}
 use Rattle.normalizer_tables.specs.declared.provider.DataMarkerInfo.{DataMarkerInfo}
-use Rattle.normalizer_conditions.specs.RequiredConditions.{AreAcceptedPairs, class_conditions, composing_conditions, decomposing_conditions, IsAccepted, step_conditions}
-use Rattle.normalizer_tables.specs.Conditions.{IsMet, says}
-use Rattle.normalizer_tables.specs.Loaded.{Loaded, bounds_of_cap, characters_alone, characters_and_pairs, characters_loaded, classes_loaded, pairs_loaded}
-use Rattle.normalizer_tables.specs.PairConditions.{AreSoundPairs}
+use Rattle.normalizer_check.specs.RequiredConditions.{AreAcceptedPairs, class_conditions, composing_conditions, decomposing_conditions, IsAccepted, step_conditions}
+use Rattle.normalizer_tables.specs.conditions.Conditions.{IsMet, says}
+use Rattle.normalizer_tables.specs.conditions.Loaded.{Loaded, bounds_of_cap, characters_alone, characters_and_pairs, characters_loaded, classes_loaded, pairs_loaded}
+use Rattle.normalizer_tables.specs.conditions.PairConditions.{AreSoundPairs}
 use Rattle.normalizer_tables.specs.Characters.{Characters}
 use Rattle.normalizer_tables.specs.Pairs.{Pair}
-use Rattle.normalizer_conditions.specs.Refusals.{RefusesFirstFailing}
+use Rattle.normalizer_check.specs.Refusals.{RefusesFirstFailing}
 use Rattle.normalizer_tables.proofs.conditions.ListedConditions.{met}
-use Rattle.normalizer_conditions.proofs.conditions.FailingLemmas.{IsFirstFailing-not_all}
-use Rattle.normalizer_conditions.proofs.conditions.LoadedLemmas.{All-front, IsMet-unsupplemented, parts_met}
+use Rattle.normalizer_check.proofs.conditions.FailingLemmas.{IsFirstFailing-not_all}
+use Rattle.normalizer_check.proofs.conditions.LoadedLemmas.{All-front, IsMet-unsupplemented, parts_met}
 use Rattle.normalizer_packing.specs.declared.Packed.{Packed}
 use Rattle.normalizer_tables.specs.declared.entry.Kind.TheVariants.{Canonical, Compatibility, Mapper}
 use Rattle.normalizer_packing.specs.ReadBack.{characters_of}

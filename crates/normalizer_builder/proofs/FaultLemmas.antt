@@ -10,7 +10,7 @@ use Rattle.normalizer_tables.specs.declared.condition.Condition.{Condition}
 use Rattle.normalizer_tables.specs.declared.condition.Condition.TheVariants.{Pairs}
 use Rattle.normalizer_tables.specs.declared.entry.Kind.{Kind}
 use Rattle.normalizer_tables.specs.declared.provider.DataMarkerInfo.{DataMarkerInfo}
-use Rattle.normalizer_conditions.specs.EachCharacter.{IsFirstBreaking}
+use Rattle.normalizer_check.specs.EachCharacter.{IsFirstBreaking}
 use Rattle.normalizer_packing.specs.declared.Packed.{Packed}
 use Rattle.normalizer_builder.specs.AtFault.{IsFirstAtFault, IsFirstOfKind}
 use Rattle.normalizer_builder.specs.Building.{IsSmallest}

@@ -7,12 +7,12 @@ use Rattle.std.proofs.lemmas.List.Elements.{All-append, All-cons, All-contains, 
 use Rattle.std.specs.Option.{option_map}
 use Rattle.normalizer_tables.specs.declared.condition.Condition.{Condition}
 use Rattle.normalizer_tables.specs.declared.condition.Condition.TheVariants.{FdfaForms, Results, Steps}
-use Rattle.normalizer_tables.specs.Conditions.{IsFirstFailing, IsMet, number_of}
+use Rattle.normalizer_tables.specs.conditions.Conditions.{IsFirstFailing, IsMet, number_of}
 use Rattle.normalizer_tables.specs.Steps.{step_to}
 use Rattle.normalizer_tables.specs.declared.entry.Kind.{Kind}
 use Rattle.normalizer_tables.specs.declared.entry.Kind.TheVariants.{Canonical, Compatibility, Mapper}
-use Rattle.normalizer_conditions.proofs.conditions.FailingLemmas.{IsFirstFailing-here, IsFirstFailing-next}
-use Rattle.normalizer_conditions.proofs.conditions.LoadedLemmas.{All-behind, All-front}
+use Rattle.normalizer_check.proofs.conditions.FailingLemmas.{IsFirstFailing-here, IsFirstFailing-next}
+use Rattle.normalizer_check.proofs.conditions.LoadedLemmas.{All-behind, All-front}
 use Rattle.normalizer_packing.specs.declared.Packed.{Packed}
 use Rattle.normalizer_packing.proofs.entry_data.EntryLemmas.{find-tells}
 use Rattle.normalizer_records.specs.RecordValue.{RecordValue}

@@ -1,7 +1,7 @@
 -- Records have at most one smallest refusal, memory aside, and none if they build data.
 use Rattle.std.proofs.Common.{◌≡◌, ◌≢◌, inl, inr, ◌≤◌, List, Option, Some, None, refl, ap, sym, subst, arith}
 use Rattle.std.proofs.lemmas.Bool.{cases_order}
-use Rattle.normalizer_tables.specs.Conditions.{item_limit}
+use Rattle.normalizer_tables.specs.conditions.Conditions.{item_limit}
 use Rattle.normalizer_packing.specs.declared.Packed.{Packed}
 use Rattle.normalizer_tables.specs.Entries.{EntryValue}
 use Rattle.normalizer_packing.specs.Stored.{needed_items}

@@ -1,7 +1,7 @@
 -- What is loaded of built data if a constructor doesn't load all of one kind.
 use Rattle.std.specs.Prelude.{None, Some}
-use Rattle.normalizer_tables.specs.Loaded.{Loaded}
-use Rattle.normalizer_tables.specs.NfdData.{nfd_bounds}
+use Rattle.normalizer_tables.specs.conditions.Loaded.{Loaded}
+use Rattle.normalizer_tables.specs.conditions.NfdData.{nfd_bounds}
 use Rattle.normalizer_packing.specs.declared.Packed.{Packed}
 use Rattle.normalizer_tables.specs.declared.entry.Kind.TheVariants.{Canonical}
 use Rattle.normalizer_packing.specs.ReadBack.{characters_of}

@@ -5,7 +5,7 @@ use Rattle.normalizer_tables.specs.declared.condition.Condition.{Condition}
 use Rattle.normalizer_tables.specs.declared.condition.Condition.TheVariants.{Pairs}
 use Rattle.normalizer_tables.specs.declared.entry.Kind.{Kind}
 use Rattle.normalizer_tables.specs.declared.entry.Kind.TheVariants.{Canonical, Compatibility, Mapper}
-use Rattle.normalizer_conditions.specs.EachCharacter.{IsFirstBreaking, IsFirstUncomposable}
+use Rattle.normalizer_check.specs.EachCharacter.{IsFirstBreaking, IsFirstUncomposable}
 use Rattle.normalizer_packing.specs.declared.Packed.{Packed}
 use Rattle.normalizer_records.specs.declared.at_fault.RecordAtFault.{RecordAtFault}
 use Rattle.normalizer_records.specs.declared.at_fault.RecordAtFault.TheVariants.{OfCharacter, OfMapper}

@@ -2,7 +2,7 @@
 use Rattle.std.specs.Prelude.{◌≡◌, ℕ, ◌<◌, List, [], Some, None, unwrap_or}
 use Rattle.std.specs.List.Sorted.{IsPermutation}
 use Rattle.normalizer_tables.specs.Characters.{class_of, list_of}
-use Rattle.normalizer_tables.specs.Conditions.{item_limit}
+use Rattle.normalizer_tables.specs.conditions.Conditions.{item_limit}
 use Rattle.normalizer_tables.specs.Pairs.{Pair, pair_of, AreRising as ArePairsRising}
 use Rattle.normalizer_packing.specs.declared.Packed.{Packed}
 use Rattle.normalizer_tables.specs.declared.entry.Kind.TheVariants.{Canonical, Compatibility, Mapper}

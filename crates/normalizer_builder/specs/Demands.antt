@@ -4,11 +4,11 @@ use Rattle.normalizer_tables.specs.declared.condition.Condition.{Condition}
 use Rattle.normalizer_tables.specs.declared.condition.Condition.TheVariants.{FdfaForms, Results, Steps}
 use Rattle.normalizer_tables.specs.declared.provider.DataMarkerInfo.{DataMarkerInfo}
 use Rattle.normalizer_tables.specs.declared.provider.DataMarkerInfo.TheVariants as marker
-use Rattle.normalizer_conditions.specs.RequiredConditions.{composing_conditions}
-use Rattle.normalizer_tables.specs.Conditions.{IsFirstFailing, IsMet, number_of}
-use Rattle.normalizer_tables.specs.Loaded.{bounds_of_cap, Loaded}
+use Rattle.normalizer_check.specs.RequiredConditions.{composing_conditions}
+use Rattle.normalizer_tables.specs.conditions.Conditions.{IsFirstFailing, IsMet, number_of}
+use Rattle.normalizer_tables.specs.conditions.Loaded.{bounds_of_cap, Loaded}
 use Rattle.normalizer_tables.specs.Data.{Supplement}
-use Rattle.normalizer_conditions.specs.Refusals.{marker_of}
+use Rattle.normalizer_check.specs.Refusals.{marker_of}
 use Rattle.normalizer_tables.specs.Steps.{step_of}
 use Rattle.normalizer_tables.specs.declared.entry.Kind.{Kind}
 use Rattle.normalizer_tables.specs.declared.entry.Kind.TheVariants.{Canonical, Compatibility, Mapper}

@@ -18,7 +18,7 @@ ghost use Rattle.normalizer_builder.specs.Demands.{KeepsMapping};
 use crate::build::{Records, packed_of};
 use crate::demand::Demand;
 use crate::unmet::{characters_of, first_unmet, keeps_mapping, loaded_of};
-use normalizer_conditions::check::breaking::{first_breaking, first_uncomposable};
+use normalizer_check::check::breaking::{first_breaking, first_uncomposable};
 use normalizer_packing::Packed;
 use normalizer_records::{
     BuildError, Record, RecordAtFault, Uts46Record, expanded, first_at_fault,

@@ -3,7 +3,7 @@ ghost use Rattle.std.specs.Prelude.{◌≡◌};
 ghost use Rattle.normalizer_builder.specs.Demands.{error_of, marker_of_kind, reported_marker, reported_number};
 ghost use Rattle.normalizer_builder.specs.inner.Earlier.{earlier};
 
-use normalizer_conditions::refusal::marker_of;
+use normalizer_check::refusal::marker_of;
 use normalizer_records::BuildError;
 use normalizer_tables::DataMarkerInfo;
 use normalizer_tables::condition::Condition;

@@ -6,7 +6,7 @@ ghost use Rattle.normal_forms.specs.Hypotheses.{HasNonemptyLists, SuitsForm};
 ghost use Rattle.normalizer_tables.specs.declared.condition.Condition.{Condition};
 ghost use Rattle.normalizer_tables.specs.declared.provider.DataError.{DataError};
 ghost use Rattle.normalizer_tables.specs.declared.provider.DataMarkerInfo.{DataMarkerInfo};
-ghost use Rattle.normalizer_conditions.specs.RequiredConditions.{
+ghost use Rattle.normalizer_check.specs.RequiredConditions.{
   AreAcceptedPairs,
   class_conditions,
   composing_conditions,
@@ -15,17 +15,17 @@ ghost use Rattle.normalizer_conditions.specs.RequiredConditions.{
   step_conditions,
 };
 ghost use Rattle.normalizer_tables.specs.Characters.{Characters};
-ghost use Rattle.normalizer_tables.specs.Conditions.{IsMet};
-ghost use Rattle.normalizer_tables.specs.Loaded.{
+ghost use Rattle.normalizer_tables.specs.conditions.Conditions.{IsMet};
+ghost use Rattle.normalizer_tables.specs.conditions.Loaded.{
   bounds_of_cap,
   characters_alone,
   characters_and_pairs,
   classes_loaded,
   Loaded,
 };
-ghost use Rattle.normalizer_tables.specs.PairConditions.{AreSoundPairs};
+ghost use Rattle.normalizer_tables.specs.conditions.PairConditions.{AreSoundPairs};
 ghost use Rattle.normalizer_tables.specs.Pairs.{Pair};
-ghost use Rattle.normalizer_conditions.specs.Refusals.{RefusesFirstFailing};
+ghost use Rattle.normalizer_check.specs.Refusals.{RefusesFirstFailing};
 ghost use Rattle.normalizer_packing.specs.declared.Packed.{Packed};
 ghost use Rattle.normalizer_tables.specs.declared.entry.Kind.TheVariants.{Canonical, Compatibility, Mapper};
 ghost use Rattle.normalizer_packing.specs.ReadBack.{characters_of};
@@ -38,10 +38,10 @@ ghost use Rattle.normalizer_builder.specs.Building.{Builds, IsSmallest, PacksRec
 ghost use Rattle.normalizer_builder.specs.RecordedReading.{recorded_reading};
 
 use normal_forms::laws::alike_readings_make_the_same_forms;
-use normalizer_conditions::laws::accepted::{
+use normalizer_check::laws::accepted::{
     accepted_data_have_sound_classes, accepted_data_suit_texts, accepted_pairs_are_sound,
 };
-use normalizer_conditions::laws::lists_are_nonempty;
+use normalizer_check::laws::lists_are_nonempty;
 
 /// All data that pack the same records are equal, so that the records alone decide which condition fails.
 pub fn packed_records_are_one()

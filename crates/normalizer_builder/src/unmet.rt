@@ -2,7 +2,7 @@
 #![tactic(auto, using(crate::proofs::FirstUnmet::mappings_unkept, crate::proofs::FirstUnmet::asked_unmet, crate::proofs::FirstUnmet::all_met, crate::proofs::FirstUnmet::of_all_kinds), unfolding(crate::specs::Demands::KeepsMapping))]
 
 ghost use Rattle.std.specs.Prelude.{◌≡◌, ◌↔◌, All, IsTrue, List, option_map};
-ghost use Rattle.normalizer_tables.specs.Conditions.{IsFirstFailing, IsMet};
+ghost use Rattle.normalizer_tables.specs.conditions.Conditions.{IsFirstFailing, IsMet};
 ghost use Rattle.normalizer_records.specs.RecordValue.{RecordValue};
 ghost use Rattle.normalizer_records.specs.Faults.{AreRising};
 ghost use Rattle.normalizer_builder.specs.Demands.{
@@ -17,8 +17,8 @@ ghost use Rattle.normalizer_builder.specs.declared.demand.Demand.TheVariants.{As
 ghost use Rattle.normalizer_builder.specs.inner.Earlier.{asked_of, conditions_of};
 
 use crate::demand::{Demand, earlier};
-use normalizer_conditions::check::first_failing;
-use normalizer_conditions::loaded::LoadedData;
+use normalizer_check::check::first_failing;
+use normalizer_check::loaded::LoadedData;
 use normalizer_packing::Packed;
 use normalizer_records::{Record, recorded_step};
 use normalizer_tables::characters::CharacterData;

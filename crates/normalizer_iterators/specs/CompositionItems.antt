@@ -7,7 +7,7 @@ use Rattle.normal_forms.specs.CompositionByStarters.{compose_after}
 use Rattle.normal_forms.specs.Order.{order}
 use Rattle.normalizer_tables.specs.Characters.{Characters, list_of}
 use Rattle.normalizer_tables.specs.Ignored.{ignored_list}
-use Rattle.normalizer_tables.specs.PairConditions.{HasOrderedLists}
+use Rattle.normalizer_tables.specs.conditions.PairConditions.{HasOrderedLists}
 use Rattle.normalizer_tables.specs.Pairs.{Pair}
 use Rattle.normalizer_tables.specs.Readings.{reading_by}
 use Rattle.normalizer_tables.specs.declared.characters.IgnoredCharacters.{IgnoredCharacters}

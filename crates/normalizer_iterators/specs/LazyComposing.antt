@@ -9,7 +9,7 @@ use Rattle.normal_forms.specs.ShortRuns.{continues}
 use Rattle.normalizer_tables.specs.declared.characters.IgnoredCharacters.{IgnoredCharacters}
 use Rattle.normalizer_tables.specs.declared.condition.Bounds.{Bounds}
 use Rattle.normalizer_tables.specs.Characters.{Characters, has_class_form}
-use Rattle.normalizer_tables.specs.PairConditions.{is_composing_passthrough}
+use Rattle.normalizer_tables.specs.conditions.PairConditions.{is_composing_passthrough}
 use Rattle.normalizer_tables.specs.Pairs.{Pair}
 use Rattle.normalizer_tables.specs.Readings.{reading_by}
 use Rattle.normalizer_tables.specs.declared.characters.IgnoredCharacters.TheVariants.{Dropped}

@@ -6,7 +6,7 @@ ghost use Rattle.std.specs.Iterator.{at_most, IsFinite, MakesProgress};
 ghost use Rattle.normal_forms.specs.Forms.{nfd};
 ghost use Rattle.normal_forms.specs.ShortRuns.{continues};
 ghost use Rattle.normalizer_tables.specs.Characters.{class_of, has_class_form, characters_from};
-ghost use Rattle.normalizer_tables.specs.NfdData.{IsSoundNfdData};
+ghost use Rattle.normalizer_tables.specs.conditions.NfdData.{IsSoundNfdData};
 ghost use Rattle.normalizer_tables.specs.Readings.{reading_by};
 ghost use Rattle.normalizer_tables.specs.declared.characters.IgnoredCharacters.TheVariants.{Dropped};
 ghost use Rattle.normalizer_text.specs.DecodingSteps.{Spells};
@@ -64,7 +64,7 @@ impl<'data, I: Iterator<Item = char> + Drop> Decomposition<'data, I> {
 
     /// Returns an iterator over the NFD of what `delegate` yields, using canonical data that the caller has checked.
     ///
-    /// The caller must have checked that `check_nfd_data` of `normalizer_conditions` returned `Ok` for exactly these
+    /// The caller must have checked that `check_nfd_data` of `normalizer_check` returned `Ok` for exactly these
     /// values.
     ///
     /// # Errors

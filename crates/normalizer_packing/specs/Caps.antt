@@ -1,7 +1,7 @@
 -- The number below which a composing loop may pass every character without looking up its word.
 use Rattle.std.specs.Prelude.{◌≡◌, ℕ, ◌<◌, ◌≤◌, List, [], ◌∷◌, Option, Some, None}
 use Rattle.normal_forms.specs.Composition.{compose}
-use Rattle.normalizer_tables.specs.Conditions.{cap_limit}
+use Rattle.normalizer_tables.specs.conditions.Conditions.{cap_limit}
 use Rattle.normalizer_tables.specs.Pairs.{Pair, IsNeverSecond}
 use Rattle.normalizer_tables.specs.declared.entry.Kind.{Kind}
 use Rattle.normalizer_tables.specs.Entries.{EntryValue, class_in, list_in, reading_of_entries}

@@ -1,6 +1,6 @@
 -- Data that pack entries: any two that pack the same are equal.
 use Rattle.std.specs.Prelude.{◌≡◌, ℕ, ◌≤◌, List, All}
-use Rattle.normalizer_tables.specs.Conditions.{item_limit}
+use Rattle.normalizer_tables.specs.conditions.Conditions.{item_limit}
 use Rattle.normalizer_tables.specs.Data.{Decompositions}
 use Rattle.normalizer_tables.specs.Pairs.{Pair}
 use Rattle.normalizer_packing.specs.declared.Packed.{Packed}

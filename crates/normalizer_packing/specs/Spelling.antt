@@ -2,7 +2,7 @@
 use Rattle.std.specs.Prelude.{ℕ, ◌+◌, ◌*◌, ◌<◌, ◌^◌, Bool, false, not, ◌&&◌, ◌==◌, nat_eq, nat_lt, nat_le, List, []}
 use Rattle.std.specs.Prelude.{◌∷◌, Option, Some, None, if◌then◌else◌}
 use Rattle.std.specs.Cmp.Lexicographic.{pointwise}
-use Rattle.normalizer_tables.specs.Conditions.{is_surrogate}
+use Rattle.normalizer_tables.specs.conditions.Conditions.{is_surrogate}
 use Rattle.normalizer_tables.specs.Hangul.{is_hangul_syllable}
 use Rattle.normalizer_tables.specs.SpecialLists.{fixed_list_of, fdfa_list}
 use Rattle.normalizer_tables.specs.Words.{ignored_marker, has_high_zeros, has_low_zeros}

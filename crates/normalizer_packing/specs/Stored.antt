@@ -2,7 +2,7 @@
 use Rattle.std.specs.Prelude.{ℕ, ◌+◌, ◌-◌, ◌*◌, ◌<◌, ◌≤◌, Bool, true, false, not, ◌&&◌, nat_lt, nat_le, List, [], ◌∷◌}
 use Rattle.std.specs.Prelude.{◌++◌, length, drop, filter, if◌then◌else◌, Option, None, filter_map}
 use Rattle.std.specs.List.{before_first, concat, list_all, list_any}
-use Rattle.normalizer_tables.specs.Conditions.{item_count}
+use Rattle.normalizer_tables.specs.conditions.Conditions.{item_count}
 use Rattle.normalizer_tables.specs.Data.{Lists}
 use Rattle.normalizer_tables.specs.declared.entry.Kind.{Kind}
 use Rattle.normalizer_tables.specs.declared.entry.Kind.TheVariants.{Canonical, Compatibility, Mapper}

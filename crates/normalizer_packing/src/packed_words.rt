@@ -2,7 +2,7 @@
 #![tactic(auto, using(crate::proofs::words_of_lists::SpelledWords::packed_words, crate::proofs::lists::ListPlaces::listed_places), unfolding(normalizer_tables::specs::Entries::kept_list))]
 
 ghost use Rattle.std.specs.Prelude.{◌≡◌, ◌<◌, true};
-ghost use Rattle.normalizer_tables.specs.Conditions.{item_limit};
+ghost use Rattle.normalizer_tables.specs.conditions.Conditions.{item_limit};
 ghost use Rattle.normalizer_packing.specs.inner.Beside.{IsReplacedWord, IsWordBeside};
 ghost use Rattle.normalizer_packing.specs.inner.PackedWords.{CanPoint};
 ghost use Rattle.normalizer_packing.specs.Packing.{IsPackedWord};

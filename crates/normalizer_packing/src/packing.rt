@@ -1,6 +1,6 @@
 //! Packs entries and pairs into normalization data.
 ghost use Rattle.std.specs.Prelude.{◌≡◌, ◌<◌, IfOk, IsErrOf};
-ghost use Rattle.normalizer_tables.specs.Conditions.{item_limit};
+ghost use Rattle.normalizer_tables.specs.conditions.Conditions.{item_limit};
 ghost use Rattle.normalizer_packing.specs.Disallowed.{PacksBeside};
 ghost use Rattle.normalizer_packing.specs.inner.Beside.{HasEnds, PacksKindBeside, PacksReplaced};
 ghost use Rattle.normalizer_packing.specs.inner.Kinds.{PackKinds};

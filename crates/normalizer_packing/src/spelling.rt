@@ -1,12 +1,12 @@
 //! How the word of a character spells its list.
-#![tactic(auto, unfolding(crate::specs::Spelling::spelling, crate::specs::Spelling::spelling_or_ignored, crate::specs::Spelling::final_word, normalizer_tables::specs::Conditions::is_surrogate, crate::specs::Spelling::spelling_by_list, crate::specs::Spelling::has_fixed_list, crate::specs::Spelling::spelling_of_list, crate::specs::Spelling::spells_two, normalizer_tables::specs::Words::has_high_zeros, normalizer_tables::specs::Words::has_low_zeros))]
+#![tactic(auto, unfolding(crate::specs::Spelling::spelling, crate::specs::Spelling::spelling_or_ignored, crate::specs::Spelling::final_word, normalizer_tables::specs::conditions::Conditions::is_surrogate, crate::specs::Spelling::spelling_by_list, crate::specs::Spelling::has_fixed_list, crate::specs::Spelling::spelling_of_list, crate::specs::Spelling::spells_two, normalizer_tables::specs::Words::has_high_zeros, normalizer_tables::specs::Words::has_low_zeros))]
 
 ghost use Rattle.std.specs.Prelude.{◌≡◌, option_copied};
 ghost use Rattle.normalizer_tables.specs.Entries.{class_in};
 ghost use Rattle.normalizer_packing.specs.Spelling.{HasRoomForFlags, final_word, has_fixed_list, have_classes};
 ghost use Rattle.normalizer_packing.specs.Spelling.{spelling, spelling_by_list, spelling_of_list};
 ghost use Rattle.normalizer_packing.specs.Spelling.{spelling_of_two};
-ghost use Rattle.normalizer_tables.specs.Conditions.{is_surrogate};
+ghost use Rattle.normalizer_tables.specs.conditions.Conditions.{is_surrogate};
 
 use crate::entries::Entries;
 use normalizer_tables::members::fdfa_list;

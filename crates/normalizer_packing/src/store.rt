@@ -3,7 +3,7 @@
 
 ghost use Rattle.std.specs.Prelude.{◌≡◌, ◌++◌, nat_le, [], ◌∷◌, true, OnOk, IfOk, length, option_copied};
 ghost use Rattle.std.specs.List.{list_all};
-ghost use Rattle.normalizer_tables.specs.Conditions.{item_count};
+ghost use Rattle.normalizer_tables.specs.conditions.Conditions.{item_count};
 ghost use Rattle.normalizer_tables.specs.Entries.{class_in};
 ghost use Rattle.normalizer_packing.specs.Stored.{is_narrow, item_at, listed_in, listed_of};
 ghost use Rattle.normalizer_packing.specs.inner.Stores.{stored_place, tables_in, Holds, HoldsLists, HoldsMore};

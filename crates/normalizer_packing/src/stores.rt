@@ -1,6 +1,6 @@
 //! The stores of the lists that no word spells.
 ghost use Rattle.std.specs.Prelude.{◌↔◌, ◌+◌, ◌<◌, ◌≤◌, IfOk, OnOk, IsErrOf, IsTrue};
-ghost use Rattle.normalizer_tables.specs.Conditions.{item_count, item_limit};
+ghost use Rattle.normalizer_tables.specs.conditions.Conditions.{item_count, item_limit};
 ghost use Rattle.normalizer_packing.specs.Stored.{needed_items};
 ghost use Rattle.normalizer_packing.specs.inner.Stores.{tables_in, AreStored};
 

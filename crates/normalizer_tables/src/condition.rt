@@ -1,7 +1,7 @@
 //! The written conditions on all that is loaded: decomposition data, pairs and the supplement.
 ghost use Rattle.std.specs.Prelude.{◌≡◌};
-ghost use Rattle.normalizer_tables.specs.Conditions.{number_of};
-ghost use Rattle.normalizer_tables.specs.Loaded.{bounds_of_cap};
+ghost use Rattle.normalizer_tables.specs.conditions.Conditions.{number_of};
+ghost use Rattle.normalizer_tables.specs.conditions.Loaded.{bounds_of_cap};
 
 /// The most items that all tables may have together.
 pub const ITEM_LIMIT: usize = 0x1FFF;

@@ -3,13 +3,13 @@ use Rattle.std.proofs.Common.{◌≡◌, ◌⊎◌, ◌++◌, List, [], ◌∷�
 use Rattle.std.specs.Prelude.{All}
 use Rattle.std.proofs.lemmas.List.Elements.{All-cons, All-from_recursion, All-head, All-nil, All-tail}
 use Rattle.normal_forms.specs.declared.Form.TheVariants.{Composing, Decomposing}
-use Rattle.normalizer_conditions.specs.RequiredConditions.{decomposing_conditions, pair_conditions}
-use Rattle.normalizer_conditions.proofs.conditions.FailingLemmas.{IsFirstFailing-here, IsFirstFailing-next}
-use Rattle.normalizer_conditions.proofs.conditions.LoadedLemmas.{IsMet-alone, parts_met}
+use Rattle.normalizer_check.specs.RequiredConditions.{decomposing_conditions, pair_conditions}
+use Rattle.normalizer_check.proofs.conditions.FailingLemmas.{IsFirstFailing-here, IsFirstFailing-next}
+use Rattle.normalizer_check.proofs.conditions.LoadedLemmas.{IsMet-alone, parts_met}
 use Rattle.normalizer_tables.specs.Characters.{Characters}
-use Rattle.normalizer_tables.specs.Conditions.{IsFirstFailing, IsMet, says}
+use Rattle.normalizer_tables.specs.conditions.Conditions.{IsFirstFailing, IsMet, says}
 use Rattle.normalizer_tables.specs.Held.{AcceptsHeld}
-use Rattle.normalizer_tables.specs.Loaded.{characters_alone, characters_and_pairs}
+use Rattle.normalizer_tables.specs.conditions.Loaded.{characters_alone, characters_and_pairs}
 use Rattle.normalizer_tables.specs.Pairs.{Pair}
 use Rattle.normalizer_tables.specs.declared.provider.DataError.{DataError}
 use Rattle.normalizer_tables.specs.declared.provider.DataError.TheVariants.{Memory}

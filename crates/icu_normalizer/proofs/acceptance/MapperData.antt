@@ -8,11 +8,11 @@ use Rattle.normalizer_tables.specs.declared.characters.IgnoredCharacters.{Ignore
 use Rattle.normalizer_tables.specs.declared.characters.IgnoredCharacters.TheVariants.{Dropped, Replaced}
 use Rattle.normalizer_tables.specs.Ignored.{ignored_list}
 use Rattle.normalizer_tables.specs.Pairs.{Pair, pair_of}
-use Rattle.normalizer_tables.specs.SoundData.{IsSoundData}
+use Rattle.normalizer_tables.specs.conditions.SoundData.{IsSoundData}
 use Rattle.normalizer_tables.specs.Readings.{reading_by}
-use Rattle.normalizer_conditions.proofs.conditions.AcceptedLaws.{IsSoundData-accepted, IsPassthroughBelow-accepted, SuitsMapper-accepted}
+use Rattle.normalizer_check.proofs.conditions.AcceptedLaws.{IsSoundData-accepted, IsPassthroughBelow-accepted, SuitsMapper-accepted}
 use Rattle.normalizer_tables.proofs.lists.ListLengths.{length-list_of}
-use Rattle.normalizer_conditions.proofs.conditions.LoadedLemmas.{parts_met}
+use Rattle.normalizer_check.proofs.conditions.LoadedLemmas.{parts_met}
 use Rattle.normalizer_tables.proofs.lists.SoundLists.{BeginsWithStarter-list_of}
 use Rattle.normalizer_iterators.specs.LazyReading.{SuitsLazyReading}
 use Rattle.icu_normalizer.specs.Acceptance.{bounds_of}

@@ -5,21 +5,21 @@ use Rattle.std.specs.Char.{IsScalar}
 use Rattle.normal_forms.specs.Order.{order}
 use Rattle.normal_forms.specs.declared.Form.TheVariants.{Composing}
 use Rattle.normalizer_tables.specs.declared.condition.Condition.TheVariants.{Order, Results}
-use Rattle.normalizer_conditions.specs.RequiredConditions.{AreAcceptedPairs, decomposing_conditions, pair_conditions}
-use Rattle.normalizer_tables.specs.Conditions.{IsMet, says}
-use Rattle.normalizer_tables.specs.Loaded.{characters_alone, characters_loaded, pairs_loaded}
-use Rattle.normalizer_tables.specs.PairConditions.{HasOrderedLists}
+use Rattle.normalizer_check.specs.RequiredConditions.{AreAcceptedPairs, decomposing_conditions, pair_conditions}
+use Rattle.normalizer_tables.specs.conditions.Conditions.{IsMet, says}
+use Rattle.normalizer_tables.specs.conditions.Loaded.{characters_alone, characters_loaded, pairs_loaded}
+use Rattle.normalizer_tables.specs.conditions.PairConditions.{HasOrderedLists}
 use Rattle.normalizer_tables.specs.declared.condition.Bounds.{Bounds}
 use Rattle.normalizer_tables.specs.Characters.{Characters, characters_from, list_of}
 use Rattle.normalizer_tables.specs.Data.{Decompositions, Lists}
-use Rattle.normalizer_tables.specs.NfdData.{IsSoundNfdData, nfd_bounds, nfd_conditions, nfd_loaded}
+use Rattle.normalizer_tables.specs.conditions.NfdData.{IsSoundNfdData, nfd_bounds, nfd_conditions, nfd_loaded}
 use Rattle.normalizer_tables.specs.Pairs.{Pair}
 use Rattle.normalizer_tables.specs.Readings.{reading_by}
 use Rattle.normalizer_tables.specs.declared.characters.IgnoredCharacters.TheVariants.{Dropped}
 use Rattle.normalizer_tables.proofs.conditions.ListedConditions.{met}
-use Rattle.normalizer_conditions.proofs.conditions.LoadedLemmas.{parts_met}
-use Rattle.normalizer_conditions.proofs.conditions.AcceptedLaws.{SuitsTexts-accepted, SuitsTexts-accepted_pairs, SuitsTexts-handed_in}
-use Rattle.normalizer_conditions.proofs.conditions.AcceptedLaws.{IsPassthroughBelow-accepted}
+use Rattle.normalizer_check.proofs.conditions.LoadedLemmas.{parts_met}
+use Rattle.normalizer_check.proofs.conditions.AcceptedLaws.{SuitsTexts-accepted, SuitsTexts-accepted_pairs, SuitsTexts-handed_in}
+use Rattle.normalizer_check.proofs.conditions.AcceptedLaws.{IsPassthroughBelow-accepted}
 use Rattle.normalizer_tables.proofs.words.PassthroughBound.{IsPassthroughBelow-handed_in}
 use Rattle.icu_normalizer.specs.Acceptance.{bounds_of, SuitsDecomposing}
 use Rattle.icu_normalizer.specs.ComposingAcceptance.{SuitsComposing}

@@ -5,15 +5,15 @@ use Rattle.std.proofs.lemmas.List.Elements.{All-nil}
 use Rattle.normal_forms.specs.Boundary.{BeginsAtBoundary}
 use Rattle.normal_forms.specs.Reading.{Reading, IsStarter}
 use Rattle.normalizer_tables.specs.declared.condition.Condition.TheVariants.{Hangul, Words, Order, Pairs, RoundTrip, SafeBeginning}
-use Rattle.normalizer_conditions.specs.RequiredConditions.{AreAcceptedPairs, decomposing_conditions, IsAccepted, pair_conditions}
-use Rattle.normalizer_tables.specs.Loaded.{characters_loaded, pairs_loaded}
+use Rattle.normalizer_check.specs.RequiredConditions.{AreAcceptedPairs, decomposing_conditions, IsAccepted, pair_conditions}
+use Rattle.normalizer_tables.specs.conditions.Loaded.{characters_loaded, pairs_loaded}
 use Rattle.normalizer_tables.specs.Characters.{Characters, list_of}
 use Rattle.normalizer_tables.specs.Ignored.{ignored_list}
-use Rattle.normalizer_tables.specs.PairConditions.{HasOrderedLists}
+use Rattle.normalizer_tables.specs.conditions.PairConditions.{HasOrderedLists}
 use Rattle.normalizer_tables.specs.Pairs.{Pair}
 use Rattle.normalizer_tables.specs.Readings.{reading_by}
 use Rattle.normalizer_tables.proofs.conditions.ListedConditions.{met}
-use Rattle.normalizer_conditions.proofs.composites.PairLaws.{HasFaithfulResults-reading_of, HasStarterResults-reading_of, IsNormalized-passed, BeginsAtBoundary-passed, are_nonempty-passed}
+use Rattle.normalizer_check.proofs.composites.PairLaws.{HasFaithfulResults-reading_of, HasStarterResults-reading_of, IsNormalized-passed, BeginsAtBoundary-passed, are_nonempty-passed}
 use Rattle.icu_normalizer.specs.Acceptance.{bounds_of}
 use Rattle.normalizer_iterators.specs.LazyComposing.{SuitsLazyComposing}
 use Rattle.normalizer_iterators.proofs.passthrough.PassthroughClasses.{no_class_form-passed}

@@ -22,11 +22,11 @@ use Rattle.normal_forms.proofs.ordering.OrderLemmas.{order-at_starter}
 use Rattle.normalizer_tables.specs.declared.characters.IgnoredCharacters.TheVariants.{Dropped}
 use Rattle.normalizer_tables.specs.declared.condition.Bounds.{Bounds}
 use Rattle.normalizer_tables.specs.declared.condition.Condition.TheVariants.{SafeBeginning}
-use Rattle.normalizer_conditions.specs.RequiredConditions.{AreAcceptedPairs, pair_conditions}
-use Rattle.normalizer_tables.specs.Loaded.{pairs_loaded}
+use Rattle.normalizer_check.specs.RequiredConditions.{AreAcceptedPairs, pair_conditions}
+use Rattle.normalizer_tables.specs.conditions.Loaded.{pairs_loaded}
 use Rattle.normalizer_tables.proofs.conditions.ListedConditions.{met}
-use Rattle.normalizer_tables.specs.Conditions.{says}
-use Rattle.normalizer_tables.specs.PairConditions.{is_composing_passthrough, is_taken_as_boundary, KeepsBoundary}
+use Rattle.normalizer_tables.specs.conditions.Conditions.{says}
+use Rattle.normalizer_tables.specs.conditions.PairConditions.{is_composing_passthrough, is_taken_as_boundary, KeepsBoundary}
 use Rattle.normalizer_tables.specs.Characters.{Characters, class_of, class_of_itself, has_class_form, list_of, list_read, named_list, reading_of_word, word_of}
 use Rattle.normalizer_tables.specs.declared.word.WordReading.{WordReading}
 use Rattle.normalizer_tables.specs.declared.word.WordReading.TheVariants.{Ignored, Itself, ClassForm, SpecialForm}

@@ -2,15 +2,15 @@
 use Rattle.std.proofs.Common.{◌≡◌, ℕ, ◌≤◌, inl, inr, Bool, true, false, refl, ap, ◌∙◌}
 use lib.Utf8.{scalar}
 use Rattle.normalizer_tables.specs.Characters.{class_of, word_of}
-use Rattle.normalizer_tables.specs.Conditions.{says}
+use Rattle.normalizer_tables.specs.conditions.Conditions.{says}
 use Rattle.normalizer_tables.specs.declared.condition.Condition.TheVariants.{SurrogateClasses, PastTheEnd}
 use Rattle.normalizer_tables.specs.Data.{Decompositions}
 use Rattle.normalizer_tables.specs.Table.{word_at, code_points}
 use Rattle.normalizer_tables.specs.Words.{class_of_word, is_class_form}
 use Rattle.normalizer_tables.proofs.conditions.ConditionLemmas.{no_scalar}
 use Rattle.normalizer_tables.proofs.conditions.ListedConditions.{met}
-use Rattle.normalizer_conditions.specs.RequiredConditions.{class_conditions}
-use Rattle.normalizer_tables.specs.Loaded.{classes_loaded}
+use Rattle.normalizer_check.specs.RequiredConditions.{class_conditions}
+use Rattle.normalizer_tables.specs.conditions.Loaded.{classes_loaded}
 use Rattle.icu_normalizer.specs.ClassData.{combining_class, HasNoClassesElsewhere, SuitsClasses}
 
 no_class : (w : ℕ) → is_class_form w ≡ false → class_of_word w ≡ 0

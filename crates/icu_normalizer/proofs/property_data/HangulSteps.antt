@@ -8,9 +8,9 @@ use Rattle.normal_forms.specs.Order.{order}
 use Rattle.normalizer_tables.specs.declared.condition.Condition.TheVariants.{Hangul}
 use Rattle.normalizer_tables.specs.declared.step.Step.TheVariants.{Expansion}
 use Rattle.normalizer_tables.specs.Characters.{Characters, as_text, list_of}
-use Rattle.normalizer_tables.specs.Conditions.{IsMet}
-use Rattle.normalizer_tables.specs.Loaded.{characters_loaded}
-use Rattle.normalizer_tables.specs.PairConditions.{HasOrderedLists}
+use Rattle.normalizer_tables.specs.conditions.Conditions.{IsMet}
+use Rattle.normalizer_tables.specs.conditions.Loaded.{characters_loaded}
+use Rattle.normalizer_tables.specs.conditions.PairConditions.{HasOrderedLists}
 use Rattle.normalizer_tables.specs.Data.{Supplement}
 use Rattle.normalizer_tables.specs.Hangul.{is_hangul_syllable, hangul_decomposition}
 use Rattle.normalizer_tables.specs.Pairs.{pair_of, is_vowel_or_trailing_jamo}
@@ -18,7 +18,7 @@ use Rattle.normalizer_tables.specs.declared.condition.Bounds.{Bounds}
 use Rattle.normalizer_tables.specs.Steps.{hangul_mapping, step_by, step_of, step_to}
 use Rattle.normalizer_tables.specs.Readings.{reading_by}
 use Rattle.normalizer_tables.specs.declared.characters.IgnoredCharacters.TheVariants.{Dropped}
-use Rattle.normalizer_conditions.proofs.composites.PairLaws.{HasFaithfulResults-reading_of, apart-syllable, list_of-syllable, sound_hangul, three-composed, two-composed}
+use Rattle.normalizer_check.proofs.composites.PairLaws.{HasFaithfulResults-reading_of, apart-syllable, list_of-syllable, sound_hangul, three-composed, two-composed}
 use Rattle.normalizer_tables.proofs.lists.SoundLists.{order-own}
 
 -- the two characters that a syllable maps to, which compose to it

@@ -8,9 +8,9 @@ use Rattle.normalizer_tables.specs.declared.condition.Condition.TheVariants.{Han
 use Rattle.normalizer_tables.specs.declared.step.Step.{Step}
 use Rattle.normalizer_tables.specs.declared.step.Step.TheVariants.{Default, Singleton, Expansion}
 use Rattle.normalizer_tables.specs.Characters.{Characters, list_of}
-use Rattle.normalizer_tables.specs.Conditions.{IsMet, says}
-use Rattle.normalizer_tables.specs.Loaded.{characters_loaded, nfd_bounds}
-use Rattle.normalizer_tables.specs.StepConditions.{HasSoundStep, IsInOrder, IsSoundStep}
+use Rattle.normalizer_tables.specs.conditions.Conditions.{IsMet, says}
+use Rattle.normalizer_tables.specs.conditions.Loaded.{characters_loaded, nfd_bounds}
+use Rattle.normalizer_tables.specs.conditions.StepConditions.{HasSoundStep, IsInOrder, IsSoundStep}
 use Rattle.normalizer_tables.specs.Data.{Supplement}
 use Rattle.normalizer_tables.specs.Hangul.{is_hangul_syllable}
 use Rattle.normalizer_tables.specs.declared.condition.Bounds.{Bounds}
@@ -20,7 +20,7 @@ use Rattle.normalizer_tables.specs.declared.characters.IgnoredCharacters.TheVari
 use Rattle.normalizer_tables.proofs.words.CharacterLemmas.{list_of-default}
 use Rattle.normalizer_tables.proofs.lists.SoundLists.{list_read-elsewhere}
 use Rattle.normalizer_tables.proofs.conditions.ListedConditions.{met}
-use Rattle.normalizer_conditions.specs.RequiredConditions.{step_conditions}
+use Rattle.normalizer_check.specs.RequiredConditions.{step_conditions}
 use Rattle.icu_normalizer.specs.StepData.{StepData, steps_loaded, SuitsSteps}
 use Rattle.icu_normalizer.specs.StepMeaning.{HasSteps, MeansInLists}
 use Rattle.icu_normalizer.proofs.property_data.HangulSteps.{IsHangulMapping, has_mapping, list_of-hangul, list_of-hangul_apart, step_of-hangul}

@@ -13,7 +13,7 @@ use Rattle.normal_forms.specs.Offence.{IsFirst}
 use Rattle.normal_forms.specs.ShortRuns.{HasShortRuns}
 use Rattle.normal_forms.proofs.boundaries.ChunkLemmas.{HasShortRuns-rest}
 use Rattle.normal_forms.proofs.forms.TextLemmas.{IsText-normal_form}
-use Rattle.normalizer_conditions.specs.RequiredConditions.{SuitsTexts}
+use Rattle.normalizer_check.specs.RequiredConditions.{SuitsTexts}
 use Rattle.icu_normalizer.specs.inner.Offences.{IsCutUnlessNormalized}
 use Rattle.icu_normalizer.specs.inner.WrittenParts.{Target, WasRefusedPiece, WritesText}
 use Rattle.normalizer_text.specs.CheckSinks.{Expectation, ChangesNothing, ExpectsTheSame, IsUnexpected}

@@ -9,7 +9,7 @@ use Rattle.normal_forms.specs.Forms.{nfd, normal_form, IsNormalized}
 use Rattle.normal_forms.proofs.forms.TextLemmas.{IsText-normal_form}
 use Rattle.normal_forms.proofs.forms.EquivalenceLemmas.{equivalent_texts}
 use Rattle.normal_forms.proofs.forms.LawLemmas.{nfd-nfc, normal_form-normal_form}
-use Rattle.normalizer_conditions.specs.RequiredConditions.{SuitsTexts}
+use Rattle.normalizer_check.specs.RequiredConditions.{SuitsTexts}
 use Rattle.icu_normalizer.specs.inner.WriteUnlessOwn.{WroteUnlessOwn}
 use Rattle.normalizer_text.specs.Encodings.{Encoding, encoded_in, decoded_in}
 use Rattle.normalizer_text.proofs.rules.EncodingLemmas.{DecodesBack-in, encoded-decoded, encoded_in-append}

@@ -14,7 +14,7 @@ use Rattle.normal_forms.specs.Cut.{IsCut}
 use Rattle.normal_forms.specs.ShortRuns.{HasShortRuns}
 use Rattle.normal_forms.proofs.cuts.OffenceLemmas.{continued_offence, found_differs}
 use Rattle.normal_forms.proofs.forms.TextLemmas.{IsText-normal_form}
-use Rattle.normalizer_conditions.specs.RequiredConditions.{SuitsTexts}
+use Rattle.normalizer_check.specs.RequiredConditions.{SuitsTexts}
 use Rattle.normalizer_text.specs.Encodings.{Encoding}
 use Rattle.normalizer_text.specs.DecodingSteps.{IsWellFormed}
 use Rattle.normalizer_text.specs.Utf8.{decoded_utf8, first_of_utf8}

@@ -11,7 +11,7 @@ use Rattle.normal_forms.specs.Cut.{IsFront}
 use Rattle.normal_forms.specs.Order.{EndsUpTo}
 use Rattle.normalizer_tables.specs.declared.condition.Bounds.{Bounds}
 use Rattle.normalizer_tables.specs.Characters.{Characters, class_of_itself, reading_of_word}
-use Rattle.normalizer_tables.specs.PairConditions.{is_composing_passthrough}
+use Rattle.normalizer_tables.specs.conditions.PairConditions.{is_composing_passthrough}
 use Rattle.normalizer_tables.specs.Pairs.{Pair, may_be_second}
 use Rattle.normalizer_text.specs.declared.decoding_step.Step.{Step}
 use Rattle.normalizer_text.specs.Encodings.{Encoding, first_in, encoded_in, decoded_in}

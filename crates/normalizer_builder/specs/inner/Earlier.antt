@@ -3,7 +3,7 @@ use Rattle.std.specs.Prelude.{nat_lt, List, map, Option, Some, None, true, false
 use Rattle.normalizer_tables.specs.declared.condition.Condition.{Condition}
 use Rattle.normalizer_tables.specs.declared.entry.Kind.{Kind}
 use Rattle.normalizer_tables.specs.declared.entry.Kind.TheVariants.{Canonical, Compatibility, Mapper}
-use Rattle.normalizer_conditions.specs.RequiredConditions.{composing_conditions}
+use Rattle.normalizer_check.specs.RequiredConditions.{composing_conditions}
 use Rattle.normalizer_builder.specs.declared.demand.Demand.{Demand}
 use Rattle.normalizer_builder.specs.declared.demand.Demand.TheVariants.{Asks}
 use Rattle.normalizer_builder.specs.Demands.{every, reported_number}

@@ -13,7 +13,7 @@ use Rattle.normal_forms.proofs.composing.VisitLemmas.{compose_is_by_starters}
 use Rattle.normalizer_tables.specs.declared.characters.IgnoredCharacters.{IgnoredCharacters}
 use Rattle.normalizer_tables.specs.Characters.{Characters, list_of}
 use Rattle.normalizer_tables.specs.Ignored.{ignored_list}
-use Rattle.normalizer_tables.specs.PairConditions.{HasOrderedLists}
+use Rattle.normalizer_tables.specs.conditions.PairConditions.{HasOrderedLists}
 use Rattle.normalizer_tables.proofs.lists.SoundLists.{order-own}
 use Rattle.normalizer_tables.proofs.composites.PairLemmas.{All-listed_result}
 use Rattle.normalizer_tables.specs.HangulComposition.{compose_hangul}

@@ -9,10 +9,10 @@ use Rattle.normalizer_tables.specs.declared.condition.Condition.TheVariants.{Wor
 use Rattle.normalizer_tables.specs.declared.word.WordReading.{WordReading}
 use Rattle.normalizer_tables.specs.declared.word.WordReading.TheVariants.{Ignored, Itself, ClassForm, SpecialForm}
 use Rattle.normalizer_tables.specs.Characters.{Characters, word_of, reading_of_word, named_list, list_of, class_of, has_class_form}
-use Rattle.normalizer_tables.specs.CharacterConditions.{IsSoundWord}
-use Rattle.normalizer_tables.specs.Conditions.{IsMet, says}
-use Rattle.normalizer_tables.specs.Loaded.{characters_loaded}
-use Rattle.normalizer_tables.specs.PairConditions.{is_composing_passthrough}
+use Rattle.normalizer_tables.specs.conditions.CharacterConditions.{IsSoundWord}
+use Rattle.normalizer_tables.specs.conditions.Conditions.{IsMet, says}
+use Rattle.normalizer_tables.specs.conditions.Loaded.{characters_loaded}
+use Rattle.normalizer_tables.specs.conditions.PairConditions.{is_composing_passthrough}
 use Rattle.normalizer_tables.specs.Pairs.{Pair}
 use Rattle.normalizer_tables.specs.SpecialLists.{FixedList, fixed_list_of}
 use Rattle.normalizer_tables.specs.Words.{ignored_marker, class_of_word, is_plain, is_class_form, is_ordinary_class_form, is_special_class_form, is_backward_combining, is_non_round_trip}

@@ -8,12 +8,12 @@ use Rattle.normalizer_tables.specs.declared.condition.Bounds.{Bounds}
 use Rattle.normalizer_tables.specs.declared.condition.Condition.TheVariants.{Order}
 use Rattle.normalizer_tables.specs.Characters.{Characters, list_read, list_of, class_of, has_class_form, characters_from}
 use Rattle.normal_forms.specs.Boundary.{BeginsWithStarter}
-use Rattle.normalizer_tables.specs.Conditions.{IsMet, says}
-use Rattle.normalizer_tables.specs.Loaded.{characters_loaded}
+use Rattle.normalizer_tables.specs.conditions.Conditions.{IsMet, says}
+use Rattle.normalizer_tables.specs.conditions.Loaded.{characters_loaded}
 use Rattle.normalizer_tables.specs.Data.{Decompositions, Lists}
 use Rattle.normalizer_tables.proofs.words.CharacterLemmas.{list_of-default}
 use Rattle.normalizer_tables.proofs.lists.ListLengths.{length-list_of}
-use Rattle.normalizer_tables.specs.NfdData.{IsSoundNfdData, nfd_bounds, nfd_conditions, nfd_loaded}
+use Rattle.normalizer_tables.specs.conditions.NfdData.{IsSoundNfdData, nfd_bounds, nfd_conditions, nfd_loaded}
 use Rattle.normalizer_tables.proofs.conditions.ListedConditions.{met}
 use Rattle.normalizer_tables.specs.Readings.{reading_by}
 use Rattle.normalizer_iterators.specs.LazyReading.{SuitsLazyReading}

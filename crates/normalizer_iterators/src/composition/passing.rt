@@ -84,7 +84,7 @@ fn are_passthrough(
 }
 
 /// Whether a composing loop passes a character: it lies below the bound, or its word has neither flag.
-#[tactic(auto, unfolding(normalizer_tables::specs::PairConditions::is_composing_passthrough))]
+#[tactic(auto, unfolding(normalizer_tables::specs::conditions::PairConditions::is_composing_passthrough))]
 #[inline(always)]
 fn is_composing_passthrough(
     characters: &CharacterData<'_>,

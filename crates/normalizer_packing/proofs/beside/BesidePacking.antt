@@ -4,11 +4,11 @@ use Rattle.std.specs.Char.{IsScalar}
 use Rattle.std.proofs.lemmas.Bool.{cases_Bool, true≢false}
 use Rattle.std.proofs.lemmas.Bool.Decides.{nat_tests}
 use Rattle.normal_forms.specs.Composition.{compose}
-use Rattle.normalizer_tables.specs.Conditions.{cap_limit}
+use Rattle.normalizer_tables.specs.conditions.Conditions.{cap_limit}
 use Rattle.normalizer_tables.specs.Data.{Decompositions}
 use Rattle.normalizer_tables.specs.Entries.{EntryValue, class_in, kept_list, list_in, reading_of_entries}
 use Rattle.normalizer_tables.specs.Hangul.{is_hangul_syllable}
-use Rattle.normalizer_tables.specs.CharacterConditions.{is_surrogate}
+use Rattle.normalizer_tables.specs.conditions.CharacterConditions.{is_surrogate}
 use Rattle.normalizer_tables.specs.Pairs.{Pair, pair_of}
 use Rattle.normalizer_tables.specs.Table.{code_points, word_at}
 use Rattle.normalizer_tables.specs.declared.entry.Kind.{Kind}

@@ -7,7 +7,7 @@ use Rattle.std.proofs.lemmas.Bool.Decides.{nat_tests}
 use Rattle.std.proofs.lemmas.List.Elements.{All-cons, All-head, All-nil, All-tail, Contains-append_right}
 use Rattle.normal_forms.specs.Composition.{compose, compose_from, visit}
 use Rattle.normal_forms.specs.Reading.{Reading}
-use Rattle.normalizer_tables.specs.CharacterConditions.{is_surrogate}
+use Rattle.normalizer_tables.specs.conditions.CharacterConditions.{is_surrogate}
 use Rattle.normalizer_tables.specs.Entries.{EntryValue, reading_of_entries}
 use Rattle.normalizer_tables.specs.Hangul.{is_hangul_syllable}
 use Rattle.normalizer_tables.specs.Pairs.{Pair}

@@ -7,7 +7,7 @@ use Rattle.std.proofs.lemmas.Bool.Decides.{nat_tests}
 use Rattle.std.proofs.lemmas.List.Elements.{Contains-append_left, Contains-append_right, recursion_from_All}
 use Rattle.normal_forms.specs.Composition.{compose, compose_from, visit}
 use Rattle.normal_forms.specs.Reading.{Reading}
-use Rattle.normalizer_tables.specs.CharacterConditions.{is_surrogate}
+use Rattle.normalizer_tables.specs.conditions.CharacterConditions.{is_surrogate}
 use Rattle.normalizer_tables.specs.Hangul.{is_hangul_syllable}
 use Rattle.normalizer_tables.specs.HangulComposition.{compose_hangul, is_trailing_consonant, is_vowel}
 use Rattle.normalizer_tables.specs.Pairs.{Pair, IsNeverSecond, is_of, is_vowel_or_trailing_jamo, listed_result, pair_of}

@@ -5,7 +5,7 @@ use Rattle.std.proofs.lemmas.Bool.{cases_Bool, or_cases, or_left, or_right}
 use Rattle.std.proofs.lemmas.List.Elements.{All-head, All-tail}
 use Rattle.std.specs.Option.{is_some}
 use Rattle.normalizer_tables.specs.Characters.{Characters, as_text, items_at, listed_at, listed_in as listed_from, narrow_at, placed_in, wide_at}
-use Rattle.normalizer_tables.specs.Conditions.{item_count, item_limit}
+use Rattle.normalizer_tables.specs.conditions.Conditions.{item_count, item_limit}
 use Rattle.normalizer_tables.specs.Data.{Lists}
 use Rattle.normalizer_tables.specs.declared.entry.Kind.{Kind}
 use Rattle.normalizer_tables.specs.declared.entry.Kind.TheVariants.{Canonical, Compatibility, Mapper}

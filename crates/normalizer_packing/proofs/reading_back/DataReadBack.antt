@@ -9,7 +9,7 @@ use Rattle.normal_forms.specs.Boundary.{BeginsWithStarter}
 use Rattle.normalizer_tables.specs.declared.word.WordReading.{WordReading}
 use Rattle.normalizer_tables.specs.declared.word.WordReading.TheVariants as reading
 use Rattle.normalizer_tables.specs.Characters.{Characters, class_of, has_class_form, list_read, named_list, reading_of_word, word_of}
-use Rattle.normalizer_tables.specs.CharacterConditions.{is_surrogate}
+use Rattle.normalizer_tables.specs.conditions.CharacterConditions.{is_surrogate}
 use Rattle.normalizer_tables.specs.Hangul.{is_hangul_syllable}
 use Rattle.normalizer_tables.specs.Pairs.{Pair}
 use Rattle.normalizer_tables.specs.SpecialLists.{fdfa_list}

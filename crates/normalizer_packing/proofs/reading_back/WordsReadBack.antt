@@ -10,7 +10,7 @@ use Rattle.std.proofs.lemmas.Nat.{and_mask}
 use Rattle.std.proofs.lemmas.Nat.Bits.{and_high}
 use Rattle.normalizer_tables.specs.declared.word.WordReading.{WordReading}
 use Rattle.normalizer_tables.specs.declared.word.WordReading.TheVariants.{Ignored, Itself, ClassForm, SpecialForm, TwoCharacters, HangulSyllable, Fdfa, OneCharacter, Listed}
-use Rattle.normalizer_tables.specs.Conditions.{item_limit}
+use Rattle.normalizer_tables.specs.conditions.Conditions.{item_limit}
 use Rattle.normalizer_tables.specs.Characters.{as_text}
 use Rattle.normalizer_tables.specs.Hangul.{hangul_decomposition, is_hangul_syllable, l_base, n_count, s_base, t_base, t_count, v_base}
 use Rattle.normalizer_tables.specs.SpecialLists.{fixed_list_of}

@@ -1,6 +1,6 @@
 -- Data of entries, if characters in ranges are replaced by U+FFFD whatever the entries say.
 use Rattle.std.specs.Prelude.{◌≡◌, ℕ, ◌<◌, ◌≤◌, true, false, List, [], ◌∷◌, All, Contains, Some, None}
-use Rattle.normalizer_tables.specs.Conditions.{cap_limit, item_limit}
+use Rattle.normalizer_tables.specs.conditions.Conditions.{cap_limit, item_limit}
 use Rattle.normalizer_tables.specs.Data.{Decompositions}
 use Rattle.normalizer_tables.specs.Entries.{EntryValue, reading_of_entries}
 use Rattle.normalizer_tables.specs.Pairs.{Pair}

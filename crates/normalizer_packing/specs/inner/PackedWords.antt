@@ -1,6 +1,6 @@
 -- What words can be made of: entries, and stores of the lists that no word spells.
 use Rattle.std.specs.Prelude.{◌≤◌, List}
-use Rattle.normalizer_tables.specs.Conditions.{item_limit}
+use Rattle.normalizer_tables.specs.conditions.Conditions.{item_limit}
 use Rattle.normalizer_packing.specs.declared.stores.Stores.{Stores}
 use Rattle.normalizer_tables.specs.Entries.{EntryValue}
 use Rattle.normalizer_packing.specs.Packing.{ArePackable}

@@ -9,8 +9,8 @@ use Rattle.std.proofs.lemmas.List.Elements.{All-cons, All-nil}
 use Rattle.std.proofs.lemmas.Nat.{and_assoc}
 use Rattle.normal_forms.specs.Order.{order, insert}
 use Rattle.normalizer_tables.specs.declared.word.WordReading.TheVariants.{Itself}
-use Rattle.normalizer_tables.specs.CharacterConditions.{is_composing_jamo, is_surrogate, IsOrderedList, IsSoundClass, IsSoundWord, KeepsPromise, ReadsToItself}
-use Rattle.normalizer_tables.specs.StepConditions.{HasSoundStep, IsSoundStep}
+use Rattle.normalizer_tables.specs.conditions.CharacterConditions.{is_composing_jamo, is_surrogate, IsOrderedList, IsSoundClass, IsSoundWord, KeepsPromise, ReadsToItself}
+use Rattle.normalizer_tables.specs.conditions.StepConditions.{HasSoundStep, IsSoundStep}
 use Rattle.normalizer_tables.specs.Data.{Supplement}
 use Rattle.normalizer_tables.specs.Table.{code_points}
 use Rattle.normalizer_tables.specs.Steps.{step_of, step_of_reading}

@@ -5,8 +5,8 @@ use Rattle.std.proofs.lemmas.List.Elements.{All-contains}
 use Rattle.std.proofs.lemmas.List.Folds.{find_at}
 use Rattle.std.proofs.lemmas.Option.{slice_get_within, get_or_from_slice_get}
 use Rattle.normalizer_tables.specs.declared.condition.Condition.{Condition}
-use Rattle.normalizer_tables.specs.Conditions.{IsMet, number_of}
-use Rattle.normalizer_tables.specs.Loaded.{Loaded}
+use Rattle.normalizer_tables.specs.conditions.Conditions.{IsMet, number_of}
+use Rattle.normalizer_tables.specs.conditions.Loaded.{Loaded}
 
 -- the first of the conditions with this number
 abbrev pub first_numbered : ℕ → List Condition → Option Condition

@@ -12,10 +12,10 @@ use Rattle.normalizer_tables.specs.declared.word.WordReading.{WordReading}
 use Rattle.normalizer_tables.specs.declared.word.WordReading.TheVariants.{Ignored}
 use Rattle.normalizer_tables.specs.Words.{class_of_word}
 use Rattle.normalizer_tables.specs.Characters.{Characters, reading_of_word, named_list, list_read, list_of, class_of, has_class_form}
-use Rattle.normalizer_tables.specs.CharacterConditions.{IsFlaggedReplacement, IsPlainStarter, ReadsToItself}
-use Rattle.normalizer_tables.specs.Conditions.{says}
+use Rattle.normalizer_tables.specs.conditions.CharacterConditions.{IsFlaggedReplacement, IsPlainStarter, ReadsToItself}
+use Rattle.normalizer_tables.specs.conditions.Conditions.{says}
 use Rattle.normalizer_tables.specs.Ignored.{IgnoredCharacters, Dropped, Replaced, ignored_list}
-use Rattle.normalizer_tables.specs.SoundData.{Bounds, IsSoundData}
+use Rattle.normalizer_tables.specs.conditions.SoundData.{Bounds, IsSoundData}
 use Rattle.normalizer_tables.specs.Readings.{reading_by, reading_of}
 use Rattle.normalizer_tables.proofs.words.CharacterLemmas.{list_read-scalar, list_of-reads, list_of-default}
 use Rattle.normalizer_tables.proofs.lists.OrderedLists.{rising-order, order-rising, order-short}

@@ -3,12 +3,12 @@ use Rattle.std.proofs.Common.{◌≡◌, ℕ, false, None, refl, arith}
 use Rattle.std.specs.Char.{IsScalar}
 use Rattle.normalizer_tables.specs.declared.condition.Bounds.{Bounds}
 use Rattle.normalizer_tables.specs.declared.condition.Condition.TheVariants as condition
-use Rattle.normalizer_tables.specs.CharacterConditions.{IsPlainStarter, IsSoundWord, ReadsToItself}
-use Rattle.normalizer_tables.specs.Conditions.{IsMet, says}
-use Rattle.normalizer_tables.specs.Loaded.{characters_loaded}
+use Rattle.normalizer_tables.specs.conditions.CharacterConditions.{IsPlainStarter, IsSoundWord, ReadsToItself}
+use Rattle.normalizer_tables.specs.conditions.Conditions.{IsMet, says}
+use Rattle.normalizer_tables.specs.conditions.Loaded.{characters_loaded}
 use Rattle.normalizer_tables.specs.Characters.{Characters, word_of, reading_of_word, named_list, list_read, class_of, has_class_form, characters_from}
 use Rattle.normalizer_tables.specs.Data.{Decompositions, Lists}
-use Rattle.normalizer_tables.specs.NfdData.{IsSoundNfdData, nfd_bounds, nfd_conditions, nfd_loaded}
+use Rattle.normalizer_tables.specs.conditions.NfdData.{IsSoundNfdData, nfd_bounds, nfd_conditions, nfd_loaded}
 use Rattle.normalizer_tables.specs.Passthrough.{IsPassthroughBelow}
 use Rattle.normalizer_tables.specs.Words.{class_of_word, is_class_form}
 use Rattle.normalizer_tables.specs.Words.{read}

@@ -9,7 +9,7 @@ use Rattle.normal_forms.specs.declared.Form.TheVariants.{Decomposing, Composing}
 use Rattle.normal_forms.specs.Forms.{nfd, nfc, normal_form, IsNormalized}
 use Rattle.normalizer_tables.specs.Characters.{Characters, word_of, list_of}
 use Rattle.normalizer_tables.specs.Words.{is_plain}
-use Rattle.normalizer_tables.specs.CharacterConditions.{ReadsToItself}
+use Rattle.normalizer_tables.specs.conditions.CharacterConditions.{ReadsToItself}
 use Rattle.normalizer_tables.proofs.conditions.ConditionLemmas.{class_of-plain, list_read-plain, plain-no_class_form}
 use Rattle.normalizer_tables.proofs.lists.SoundLists.{reads_as_itself}
 use Rattle.normalizer_tables.specs.Readings.{reading_of}

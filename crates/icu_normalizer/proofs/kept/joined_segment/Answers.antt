@@ -1,5 +1,5 @@
 use Rattle.std.proofs.Common.{◌+◌, arith, ap, sym, ◌∙◌}
-use Rattle.normalizer_tables.specs.PairConditions.{is_taken_as_boundary}
+use Rattle.normalizer_tables.specs.conditions.PairConditions.{is_taken_as_boundary}
 use Rattle.normalizer_text.proofs.steps.StepBoundaries.{step-some}
 use Rattle.icu_normalizer.proofs.segments.KeptLemmas.{IsSeenSegment-joined}
 use Rattle.icu_normalizer.proofs.kept.joined_segment.Goals as goal

@@ -1,5 +1,5 @@
 use Rattle.std.proofs.Common.{arith, sym, ap, ◌∙◌}
-use Rattle.normalizer_tables.specs.PairConditions.{is_taken_as_boundary}
+use Rattle.normalizer_tables.specs.conditions.PairConditions.{is_taken_as_boundary}
 use Rattle.normalizer_text.proofs.steps.StepBoundaries.{step-some}
 use Rattle.icu_normalizer.proofs.segments.KeptLemmas.{kept_itself, mark_joins, mark_stays, not_none, KeptMarks-first, KeptMarks-more, KeptMarks-own}
 use Rattle.icu_normalizer.proofs.kept.seen_segment.Goals as goal

@@ -1,8 +1,8 @@
 use Rattle.std.proofs.Common.{subst, sym}
 use Rattle.normalizer_tables.specs.declared.condition.Condition.{Condition}
 use Rattle.normalizer_tables.specs.Characters.{Characters}
-use Rattle.normalizer_tables.specs.Loaded.{Loaded}
-use Rattle.normalizer_conditions.specs.EachCharacter.{IsFirstBreaking, IsFirstUncomposable}
+use Rattle.normalizer_tables.specs.conditions.Loaded.{Loaded}
+use Rattle.normalizer_check.specs.EachCharacter.{IsFirstBreaking, IsFirstUncomposable}
 use Rattle.normalizer_builder.specs.AtFault.{IsFirstOfKind}
 use Rattle.normalizer_builder.proofs.FaultLemmas.{of_each_character}
 use Rattle.normalizer_builder.proofs.at_fault.first_of_kind.Goals as goal

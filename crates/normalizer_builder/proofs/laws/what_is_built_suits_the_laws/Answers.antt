@@ -1,7 +1,7 @@
 use Rattle.std.proofs.Common.{inl, refl}
 use Rattle.normal_forms.specs.Hypotheses.{HasNonemptyLists, SuitsForm}
 use Rattle.normalizer_tables.specs.declared.characters.IgnoredCharacters.TheVariants.{Dropped}
-use Rattle.normalizer_tables.specs.Loaded.{bounds_of_cap}
+use Rattle.normalizer_tables.specs.conditions.Loaded.{bounds_of_cap}
 use Rattle.normalizer_tables.specs.Pairs.{pair_of}
 use Rattle.normalizer_tables.specs.declared.entry.Kind.TheVariants as kind
 use Rattle.normalizer_packing.specs.ReadBack.{characters_of}

@@ -2,7 +2,7 @@ use Rattle.std.proofs.Common.{◌≡◌, All, List, sym, subst}
 use Rattle.std.proofs.lemmas.Result.{IfOk-weaker}
 use Rattle.normalizer_tables.specs.Characters.{Characters}
 use Rattle.normalizer_tables.specs.Ignored.{ignored_list}
-use Rattle.normalizer_tables.specs.PairConditions.{HasOrderedLists}
+use Rattle.normalizer_tables.specs.conditions.PairConditions.{HasOrderedLists}
 use Rattle.normalizer_tables.specs.Pairs.{Pair}
 use Rattle.normalizer_tables.specs.declared.characters.IgnoredCharacters.TheVariants.{Dropped}
 use Rattle.icu_normalizer.proofs.composing_form.NormalizerBorrowed+ComposingForm.normalize_iter.Goals as goal

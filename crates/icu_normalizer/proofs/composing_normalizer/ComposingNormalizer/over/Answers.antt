@@ -1,7 +1,7 @@
 use Rattle.std.proofs.Common.{◌≡◌, Err, refl, rules}
 use Rattle.std.specs.Prelude.{false}
 use Rattle.normalizer_tables.specs.Owned.{characters_owned}
-use Rattle.normalizer_conditions.proofs.conditions.LoadedLemmas.{parts_met}
+use Rattle.normalizer_check.proofs.conditions.LoadedLemmas.{parts_met}
 use Rattle.icu_normalizer.specs.ComposingAcceptance.{SuitsComposing}
 use Rattle.icu_normalizer.proofs.acceptance.NormalizerData.{ServesComposing-met, ServesDecomposing-met}
 use Rattle.icu_normalizer.proofs.composing_normalizer.ComposingNormalizer.over.Goals as goal

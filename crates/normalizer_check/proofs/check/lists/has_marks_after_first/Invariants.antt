@@ -1,0 +1,9 @@
+use Rattle.std.proofs.Common.{[]}
+use Rattle.std.specs.List.{AllWithin}
+use Rattle.normal_forms.specs.Reading.{IsMark}
+use Rattle.normalizer_tables.specs.Readings.{reading_by}
+use Rattle.normalizer_tables.specs.declared.characters.IgnoredCharacters.TheVariants.{Dropped}
+use Rattle.normalizer_check.proofs.check.lists.has_marks_after_first.Given as goal
+
+abbrev pub invariant-loop-place : goal.invariant-loop-place
+invariant-loop-place l = AllWithin (IsMark (reading_by l.data Dropped [])) l.list 1 l.place

@@ -1,8 +1,0 @@
-use Rattle.std.proofs.Common.{ℕ, ◌<◌}
-use Rattle.std.specs.Char.{IsScalar}
-use Rattle.normalizer_tables.specs.Conditions.{says}
-use Rattle.normalizer_conditions.proofs.check.breaking.first_breaking.Given as goal
-
--- no character so far breaks the condition
-abbrev pub invariant-loop-number : goal.invariant-loop-number
-invariant-loop-number l = (n : ℕ) → n < l.number → IsScalar n → (says l.data l.condition).of_each n

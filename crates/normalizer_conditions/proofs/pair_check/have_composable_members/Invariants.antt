@@ -1,6 +1,0 @@
-use Rattle.std.specs.List.{AllWithin}
-use Rattle.normalizer_tables.specs.PairConditions.{IsComposablePair}
-use Rattle.normalizer_conditions.proofs.pair_check.have_composable_members.Given as goal
-
-abbrev pub invariant-loop-place : goal.invariant-loop-place
-invariant-loop-place l = AllWithin (IsComposablePair l.data) l.compositions 0 l.place
