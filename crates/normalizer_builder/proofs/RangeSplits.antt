@@ -1,19 +1,18 @@
 -- The records that ranges list are split into ranges that stay ranges, and the records of the others.
-use Rattle.std.proofs.Common.{◌≡◌, ◌∙◌, ◌⊎◌, inl, inr, ℕ, zero, suc, ◌+◌, ◌-◌, ◌<◌, ◌≤◌, ◌==◌, Bool, true, false, not, cond, ◌&&◌, ◌||◌, nat_lt, nat_le, List, [], ◌∷◌, ◌++◌, filter, filter_map, find, map, All, AllPairs, Contains, Option, take, get_or, length}
-use Rattle.std.proofs.Common.{Some, None, refl, sym, ap, subst, arith, flat_map, eqb-true}
+use Rattle.std.proofs.Common.{◌≡◌, ◌∙◌, ◌⊎◌, inl, inr, ℕ, suc, ◌+◌, ◌-◌, ◌<◌, ◌≤◌, ◌==◌, Bool, true, false, not, cond, ◌&&◌, ◌||◌, nat_lt, nat_le, List, [], ◌∷◌, ◌++◌, filter, filter_map, find, All, Contains, Option, take, get_or, length}
+use Rattle.std.proofs.Common.{Some, None, refl, sym, ap, subst, arith, flat_map}
 use Rattle.std.specs.Char.{IsScalar}
 use Rattle.std.specs.Int.{is_in_range}
-use Rattle.std.specs.List.{list_any, cons_option}
+use Rattle.std.specs.List.{cons_option}
 use Rattle.std.proofs.lemmas.Bool.{and_parts, cases_Bool, false_from_ne_true, not-true, true≢false}
 use Rattle.std.proofs.lemmas.Bool.Decides.{nat_tests}
 use Rattle.std.proofs.Math.Seq.{take-suc}
 use Rattle.std.proofs.lemmas.List.{append-nil}
 use Rattle.std.proofs.lemmas.List.Concat.{flat_map-append}
-use Rattle.std.proofs.lemmas.List.Elements.{All-append, All-contains, All-head, All-nil, All-tail, Contains-append_left, Contains-append_right, filter-append, filter_map-append}
+use Rattle.std.proofs.lemmas.List.Elements.{All-append, All-head, All-nil, All-tail, Contains-append_left, Contains-append_right, filter-append, filter_map-append}
 use Rattle.normalizer_tables.specs.Hangul.{is_hangul_syllable}
 use Rattle.normalizer_packing.specs.Disallowed.{is_in}
-use Rattle.normalizer_packing.proofs.entry_data.EntryLemmas.{find-none}
-use Rattle.normalizer_records.specs.Faults.{AreMapperRising, is_disallowed, is_fixed}
+use Rattle.normalizer_records.specs.Faults.{is_disallowed, is_fixed}
 use Rattle.normalizer_records.specs.Meaning.{entry_of}
 use Rattle.normalizer_records.specs.Ranges.{RangeStatus, entries_of}
 use Rattle.normalizer_records.specs.RecordValue.{IsDisallowed, IsIgnored, MapsTo, RecordValue, Status, Uts46RecordValue}

@@ -1,36 +1,35 @@
 -- Records of the mapper of which some are ranges beside the others: no refusal holds of all, and all entries are those of
 -- the others and those of the ranges.
-use Rattle.std.proofs.Common.{◌≡◌, ◌∙◌, ◌⊎◌, inl, inr, ℕ, zero, suc, ◌+◌, ◌<◌, ◌≤◌, ◌==◌, Bool, true, false, not, cond, ◌||◌, nat_lt, List, [], ◌∷◌, ◌++◌, filter, find, map, length, All, AllPairs, Contains, IsPermutation, Option}
+use Rattle.std.proofs.Common.{◌≡◌, ◌∙◌, ◌⊎◌, inl, inr, ℕ, zero, suc, ◌+◌, ◌<◌, ◌==◌, Bool, true, false, not, cond, nat_lt, List, [], ◌∷◌, filter, find, map, All, AllPairs, Contains, Option}
 use Rattle.std.proofs.Common.{Some, None, refl, sym, ap, subst, arith, eqb-true, eq-eqb, unwrap_or, IfSome, IsSomeAnd, if◌then◌else◌}
 use Rattle.std.specs.Char.{IsScalar}
 use Rattle.std.specs.List.{list_any}
 use Rattle.std.specs.List.Sorted.{IsStrictlyIncreasing}
-use Rattle.std.specs.Option.{option_map, option_map_or}
-use Rattle.std.proofs.lemmas.Bool.{cases_Bool, cases_order, false_from_ne_true, not-false, not-true, or_parts, true≢false}
+use Rattle.std.specs.Option.{option_map}
+use Rattle.std.proofs.lemmas.Bool.{cases_Bool, false_from_ne_true, not-false, not-true, or_parts, true≢false}
 use Rattle.std.proofs.lemmas.Bool.Decides.{nat_tests}
-use Rattle.std.proofs.lemmas.List.{get_or-map, length-map}
-use Rattle.std.proofs.lemmas.List.Elements.{All-append, All-cons, All-contains, All-contains_itself, All-filter, All-head, All-map, All-nil, All-tail, Contains-append_cases, Contains-append_left, Contains-append_right, filter_passes}
+use Rattle.std.proofs.lemmas.List.Elements.{All-cons, All-contains, All-contains_itself, All-filter, All-head, All-map, All-nil, All-tail, Contains-append_cases, Contains-append_left, Contains-append_right, filter_passes}
 use Rattle.std.proofs.lemmas.List.Folds.{list_any_none}
 use Rattle.std.proofs.lemmas.List.Kept.{AllPairs-cons, AllPairs-filter, AllPairs-from_increasing}
 use Rattle.normalizer_tables.specs.Entries.{EntryValue}
 use Rattle.normalizer_tables.specs.Pairs.{Pair}
 use Rattle.normalizer_tables.specs.declared.step.Step.TheVariants.{Default}
 use Rattle.normalizer_tables.specs.Steps.{step_to}
-use Rattle.normalizer_tables.specs.Hangul.{is_hangul_syllable, hangul_decomposition}
+use Rattle.normalizer_tables.specs.Hangul.{hangul_decomposition}
 use Rattle.normalizer_packing.specs.declared.Packed.{Packed}
 use Rattle.normalizer_packing.specs.Disallowed.{AreBeside, PacksBeside, disallowed_entry, is_in}
-use Rattle.normalizer_packing.proofs.entry_data.EntryLemmas.{Contains-map, find-missing, find-tells}
+use Rattle.normalizer_packing.proofs.entry_data.EntryLemmas.{Contains-map, find-tells}
 use Rattle.normalizer_packing.proofs.beside.BesideLemmas.{find-filter}
 use Rattle.normalizer_packing.proofs.beside.BesidePacking.{packs_all}
 use Rattle.normalizer_records.specs.declared.records.Mappings.{Mappings}
 use Rattle.normalizer_records.specs.declared.records.Mappings.TheVariants.{Canonical, All as AllMappings}
 use Rattle.normalizer_records.specs.declared.records.BuildError.{BuildError}
 use Rattle.normalizer_records.specs.declared.records.BuildError.TheVariants as error
-use Rattle.normalizer_records.specs.RecordValue.{RecordValue, Uts46RecordValue, Status, MapsTo, IsIgnored, IsDisallowed}
+use Rattle.normalizer_records.specs.RecordValue.{RecordValue, Uts46RecordValue, IsDisallowed}
 use Rattle.normalizer_records.specs.Faults.{HasClassFault, HasFault, HasLengthFault, HasLongList, HasOrderFault, HasWrongClass, IsAsked, IsFirstRefusal, IsTooLong, IsWrong, has_fixed_fault, has_mapping_fault, is_bad_mapping}
-use Rattle.normalizer_records.specs.Faults.{begins_with_mark, is_bad_status, is_fixed, is_fixed_for_mapper, mapped_to}
-use Rattle.normalizer_records.specs.Meaning.{canonical_list, canonical_mapping_of, class_of, compatibility_list, entry_of, full_list, list_of_status, mapped_list, mapper_list, mapping_among, status_of}
-use Rattle.normalizer_records.specs.Recorded.{AreExpanded, AreMadeOf, IsOfCharacters, ListsCharacters, entry_for, recorded_characters, recorded_step}
+use Rattle.normalizer_records.specs.Faults.{is_bad_status, is_fixed, is_fixed_for_mapper}
+use Rattle.normalizer_records.specs.Meaning.{canonical_list, canonical_mapping_of, class_of, compatibility_list, entry_of, full_list, list_of_status, mapped_list, mapper_list, status_of}
+use Rattle.normalizer_records.specs.Recorded.{AreExpanded, AreMadeOf, IsOfCharacters, entry_for, recorded_characters, recorded_step}
 use Rattle.normalizer_builder.specs.Building.{Builds}
 use Rattle.normalizer_builder.specs.Built.{data_in}
 use Rattle.normalizer_builder.specs.declared.built.Built.{Built}

@@ -1,5 +1,6 @@
 //! Passing over characters that are all in a set.
-ghost use Rattle.std.specs.Prelude.{◌≡◌, ◌+◌, ◌<◌, ◌≤◌, if◌then◌else◌, ℕ, List, length, take, drop, slice_index, min, nat_lt, IsTrue};
+ghost use Rattle.std.specs.Prelude.{◌≡◌, ◌+◌, ◌<◌, ◌≤◌, if◌then◌else◌, ℕ, min, nat_lt, IsTrue};
+ghost use Rattle.std.specs.Prelude.{List, length, take, drop, slice_index};
 ghost use Rattle.std.specs.ControlFlow.{ForContinue, MatchControlFlow};
 ghost use Rattle.std.specs.List.{prefix_len};
 ghost use Rattle.normalizer_sets.specs.CharacterSets.{has};
@@ -141,8 +142,8 @@ fn passed_members_led_by<M: Members>(
     ControlFlow::Continue(end)
 }
 
-/// Passes over members of one unit, then of four, or else over one step of any width. It breaks off at the end, and at a
-/// step that is no member.
+/// Passes over members of one unit, then of four, or else over one step of any width. It breaks off at the end, and at
+/// a step that is no member.
 #[inline(always)]
 fn passed_others<M: Members>(
     units: M,
@@ -225,7 +226,7 @@ impl<'a> Members for &'a str {
 
     #[inline(always)]
     fn is_lead_at(self, position: usize, lead: Lead) -> bool {
-        lead.is(self.as_bytes()[position])
+        lead.matches(self.as_bytes()[position])
     }
 
     #[inline(always)]
@@ -268,7 +269,7 @@ impl<'a> Members for &'a [u8] {
 
     #[inline(always)]
     fn is_lead_at(self, position: usize, lead: Lead) -> bool {
-        lead.is(self[position])
+        lead.matches(self[position])
     }
 
     #[inline(always)]

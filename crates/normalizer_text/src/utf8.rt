@@ -1,5 +1,6 @@
 //! Decoding bytes that may not be UTF-8, with U+FFFD for ill-formed sequences (The Unicode Standard, section 3.9).
-ghost use Rattle.std.specs.Prelude.{◌≡◌, ◌+◌, ◌<◌, ◌≤◌, if◌then◌else◌, IsTrue, length, option_map, slice_index, slice_index_or};
+ghost use Rattle.std.specs.Prelude.{◌≡◌, ◌+◌, ◌<◌, ◌≤◌, if◌then◌else◌, IsTrue};
+ghost use Rattle.std.specs.Prelude.{length, option_map, slice_index, slice_index_or};
 ghost use Rattle.std.specs.Str.{continuation_len};
 ghost use Rattle.normalizer_sets.specs.CharacterSets.{has};
 ghost use Rattle.normalizer_text.specs.Scans.{low_byte, width_in};
@@ -48,7 +49,7 @@ impl Lead {
 
     /// Whether a byte is such a lead.
     #[inline(always)]
-    pub(crate) fn is(self, byte: u8) -> bool
+    pub(crate) fn matches(self, byte: u8) -> bool
         ensures { IsTrue result → IsLead self byte }
     {
         match self {
@@ -404,8 +405,8 @@ fn has_two(bytes: &[u8], set: &CharacterSet) -> bool
     set.has_at((bytes[0] - 0xC0) as usize, (bytes[1] % 64) as u32)
 }
 
-/// The same of the leads of three. No set has surrogates, and the blocks below 32 have no sequence of three, so that the
-/// first two bytes need no further tests.
+/// The same of the leads of three. No set has surrogates, and the blocks below 32 have no sequence of three, so that
+/// the first two bytes need no further tests.
 #[inline(always)]
 fn has_three(bytes: &[u8], set: &CharacterSet) -> bool
     requires room { 3 ≤ length bytes.now }

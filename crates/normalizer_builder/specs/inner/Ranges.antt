@@ -1,9 +1,9 @@
 -- Which ranges of the mapper stay ranges, and what private contracts say of them and of the other records.
 use Rattle.std.specs.Prelude.{◌≡◌, ℕ, ◌-◌, Bool, true, false, not, ◌&&◌, ◌||◌, nat_lt, nat_le, List, [], ◌∷◌, All, Contains}
-use Rattle.std.specs.Prelude.{filter, filter_map, Option, Some, None, if◌then◌else◌}
+use Rattle.std.specs.Prelude.{filter, Option, Some, None, if◌then◌else◌}
 use Rattle.std.specs.Char.{IsScalar}
 use Rattle.std.specs.Int.{is_in_range}
-use Rattle.std.specs.List.{flat_map, list_any}
+use Rattle.std.specs.List.{list_any}
 use Rattle.normalizer_packing.specs.Disallowed.{is_in}
 use Rattle.normalizer_records.specs.Faults.{AreMapperRising, is_disallowed, is_fixed}
 use Rattle.normalizer_records.specs.Meaning.{entry_of}

@@ -1,5 +1,5 @@
 -- Data in which the characters of ranges are replaced pack all entries.
-use Rattle.std.proofs.Common.{◌≡◌, ◌∙◌, ◌⊎◌, inl, inr, ℕ, ◌<◌, Bool, true, false, not, List, [], ◌∷◌, filter, Option, Some, None, refl, sym, ap, subst, arith}
+use Rattle.std.proofs.Common.{◌≡◌, ◌∙◌, inl, inr, ℕ, ◌<◌, true, false, not, List, [], ◌∷◌, filter, Option, Some, None, refl, sym, ap, subst, arith}
 use Rattle.std.specs.Char.{IsScalar}
 use Rattle.std.proofs.lemmas.Bool.{cases_Bool, true≢false}
 use Rattle.std.proofs.lemmas.Bool.Decides.{nat_tests}
@@ -16,13 +16,12 @@ use Rattle.normalizer_tables.specs.declared.entry.Kind.TheVariants.{Canonical, C
 use Rattle.normalizer_packing.specs.declared.Packed.{Packed}
 use Rattle.normalizer_packing.specs.declared.spelling.Spelling.{Spelling}
 use Rattle.normalizer_packing.specs.declared.spelling.Spelling.TheVariants.{Final, Short, Listed}
-use Rattle.normalizer_packing.specs.Caps.{IsBelowCap, IsBelowCapIf, IsCap, ListHasBoundary}
+use Rattle.normalizer_packing.specs.Caps.{IsBelowCap, IsBelowCapIf, ListHasBoundary}
 use Rattle.normalizer_packing.specs.Disallowed.{AreBeside, PacksBeside, is_in}
 use Rattle.normalizer_packing.specs.Packing.{HasFlags, IsPackedWord, IsSpelled, Packs, PacksKind}
 use Rattle.normalizer_packing.specs.Spelling.{final_word, spelling, spelling_or_ignored}
-use Rattle.normalizer_packing.specs.StepWords.{PacksSteps, step_in, step_lists, word_of_step}
-use Rattle.normalizer_packing.specs.Stored.{item_of, pointing_word, tables_of}
-use Rattle.normalizer_packing.specs.inner.Beside.{IsCapBeside, IsReplacedWord, IsWordBeside, PacksKindBeside, PacksReplaced}
+use Rattle.normalizer_packing.specs.Stored.{item_of, tables_of}
+use Rattle.normalizer_packing.specs.inner.Beside.{IsReplacedWord, IsWordBeside, PacksKindBeside, PacksReplaced}
 use Rattle.normalizer_packing.proofs.beside.BesideLemmas.{canonical-same, canonical_lists-same, classes, compatibility-same, item_of-same, list-apart, list-replaced, needed_items-same}
 use Rattle.normalizer_packing.proofs.beside.BesideLemmas.{replacement_spelled, step_in-same, step_lists-same, supplementary_lists-same}
 use Rattle.normalizer_packing.proofs.beside.BesideWords.{not_composed}

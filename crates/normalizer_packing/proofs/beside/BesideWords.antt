@@ -1,11 +1,9 @@
 -- The words of characters in ranges: neighbours in one range have the same.
-use Rattle.std.proofs.Common.{◌≡◌, ◌≢◌, ◌∙◌, ◌⊎◌, inl, inr, ℕ, ◌+◌, ◌<◌, ◌≤◌, Bool, true, false, ◌&&◌, ◌||◌, nat_le, List, [], ◌∷◌, flat_map, All, Contains, Option, Some, None, refl, sym, ap, subst, arith}
+use Rattle.std.proofs.Common.{◌≡◌, ◌≢◌, ◌∙◌, ℕ, ◌+◌, ◌<◌, ◌&&◌, nat_le, List, [], ◌∷◌, flat_map, Contains, Some, None, refl, sym, subst, arith}
 use Rattle.std.specs.Char.{OutOfScalarRange}
-use Rattle.std.specs.List.{list_any}
-use Rattle.std.proofs.lemmas.Bool.{cases_Bool, true≢false}
 use Rattle.std.proofs.lemmas.Bool.Decides.{nat_tests}
 use Rattle.std.proofs.lemmas.List.Elements.{All-cons, All-head, All-nil, All-tail, Contains-append_right}
-use Rattle.normal_forms.specs.Composition.{compose, compose_from, visit}
+use Rattle.normal_forms.specs.Composition.{compose}
 use Rattle.normal_forms.specs.Reading.{Reading}
 use Rattle.normalizer_tables.specs.conditions.CharacterConditions.{is_surrogate}
 use Rattle.normalizer_tables.specs.Entries.{EntryValue, reading_of_entries}
@@ -15,11 +13,10 @@ use Rattle.normalizer_tables.specs.Table.{code_points}
 use Rattle.normalizer_tables.specs.declared.entry.Kind.{Kind}
 use Rattle.normalizer_packing.specs.Disallowed.{is_in}
 use Rattle.normalizer_packing.specs.Flags.{IsFlagged}
-use Rattle.normalizer_packing.specs.Packing.{IsPackedWord}
 use Rattle.normalizer_packing.specs.Spelling.{final_word}
 use Rattle.normalizer_packing.specs.inner.Beside.{HasEnds, ends, IsReplacedWord, IsWordBeside}
 use Rattle.normalizer_packing.specs.inner.Breakpoints.{AreBreakpoints, IsConstantBetween}
-use Rattle.normalizer_packing.proofs.constant_words.ConstantWords.{IsUnlisted, IsUnlisted-missing, compose-alone, packed_alike, same_final}
+use Rattle.normalizer_packing.proofs.constant_words.ConstantWords.{IsUnlisted-missing, compose-alone, packed_alike, same_final}
 use Rattle.normalizer_packing.proofs.words_of_lists.SpelledWords.{surrogate_packs}
 
 -- neighbours of which neither is an end are in the same ranges

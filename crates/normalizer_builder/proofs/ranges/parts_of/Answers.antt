@@ -1,4 +1,3 @@
-use Rattle.std.proofs.Common.{arith}
 use Rattle.std.proofs.lemmas.List.{get_or_read}
 use Rattle.normalizer_builder.specs.inner.Ranges.{listed_of, whole_range}
 use Rattle.normalizer_builder.proofs.RangeSplits.{filter_map-step, flat_map-step}

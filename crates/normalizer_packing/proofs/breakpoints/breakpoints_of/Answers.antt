@@ -1,4 +1,4 @@
-use Rattle.std.proofs.Common.{ℕ, ◌∙◌, ◌++◌, Contains, nat_eq, flat_map, List, subst}
+use Rattle.std.proofs.Common.{ℕ, ◌++◌, nat_eq, flat_map, List, subst}
 use Rattle.std.specs.List.Sorted.{IsPermutation}
 use Rattle.std.proofs.lemmas.List.Elements.{Contains-append_left, Contains-append_right}
 use Rattle.std.proofs.lemmas.List.Filters.{dedup_is}
