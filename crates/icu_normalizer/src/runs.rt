@@ -1,5 +1,5 @@
 //! The ends of runs of characters that are passed on as they are, and of the segments between them.
-ghost use Rattle.std.specs.Prelude.{◌≡◌, ◌≢◌, ◌<◌, ◌≤◌, drop, length, take, IfSome, MatchOption};
+ghost use Rattle.std.specs.Prelude.{◌≡◌, ◌≢◌, ◌<◌, drop, false, length, take, IfSome, IsTrue, MatchOption};
 ghost use Rattle.normalizer_text.specs.Encodings.{first_in};
 ghost use Rattle.normalizer_text.specs.InputCut.{IsInputNormalized};
 ghost use Rattle.normalizer_text.specs.DecodingSteps.{IsBoundary};
@@ -69,22 +69,18 @@ const NEAR: usize = 6;
 /// Characters below this, as Latin letters, are mostly followed by others like them.
 const LOW: u32 = 0xC0;
 
-/// Returns how many starters in a row are looked up one by one after marks, if so many units were passed over together
-/// before them: where letters and marks alternate, each change between the two kinds of loop is a branch that isn't
-/// foreseen.
+/// Whether letters and marks alternate, if so many units were passed over together between marks. Then they are looked
+/// up one by one: each change between the two kinds of loop is a branch that isn't foreseen.
 #[inline(always)]
-fn patience_after(passed: usize) -> usize
-    ensures some { 0 < result }
-    ensures few { result ≤ 6 }
-{
-    if passed < NEAR { PATIENCE } else { 1 }
+fn alternates_after(passed: usize) -> bool {
+    passed < NEAR
 }
 
 /// Returns how many starters are at the end, after a character of a class. A low one counts as many.
 #[inline(always)]
 fn starters_after(starters: usize, class: u8, character: char) -> usize
-    requires { starters ≤ 6 }
-    ensures starters { 0 < result → class ≡ 0 }
+    requires { starters < 6 }
+    ensures { 0 < result → class ≡ 0 }
 {
     let count = if (character as u32) < LOW {
         PATIENCE
@@ -103,6 +99,21 @@ fn marks_after(marks: usize, class: u8, end: usize) -> usize
     if class == 0 { end } else { marks }
 }
 
+/// Whether what follows a character of a class is looked up together: after a starter, or where letters and marks
+/// alternate after many.
+#[inline(always)]
+fn begins_members(alternates: bool, starters: usize, class: u8) -> bool
+    requires { 0 < starters → class ≡ 0 }
+    ensures starter { IsTrue result → class ≡ 0 }
+    ensures few { result ≡ false → starters < 6 }
+{
+    if alternates {
+        starters >= PATIENCE
+    } else {
+        class == 0
+    }
+}
+
 /// Returns the run of characters that are passed on as they are: marks as long as their classes don't fall.
 #[inline(always)]
 fn run_end<U: Units, N: Forming>(normalizer: &N, units: U) -> Run
@@ -115,7 +126,7 @@ fn run_end<U: Units, N: Forming>(normalizer: &N, units: U) -> Run
     let mut marks = end;
     let mut last = 0;
     let mut starters = 0;
-    let mut patience = patience_after(end);
+    let mut alternates = alternates_after(end);
     while end < units.len() {
         let step = units.step_at(end);
         let Some(class) = next_class(normalizer, last, step) else {
@@ -129,12 +140,12 @@ fn run_end<U: Units, N: Forming>(normalizer: &N, units: U) -> Run
         marks = marks_after(marks, class, end);
         starters = starters_after(starters, class, step.character);
         last = class;
-        if starters >= patience {
+        if begins_members(alternates, starters, class) {
             let from = end;
             end = units.end_of_members(from, passing);
             marks = end;
             starters = 0;
-            patience = patience_after(end - from);
+            alternates = alternates_after(end - from);
         }
     }
     Run {

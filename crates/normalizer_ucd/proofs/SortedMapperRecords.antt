@@ -1,9 +1,9 @@
 -- The mapper's records of IdnaMappingTable.txt are sorted by character.
-use Rattle.std.proofs.Common.{◌≡◌, ℕ, zero, suc, ◌+◌, ◌-◌, ◌≤◌, List, [], ◌∷◌, ◌++◌, Bool, true, false}
+use Rattle.std.proofs.Common.{◌≡◌, ℕ, ◌+◌, ◌≤◌, List, Bool, true, false}
 use Rattle.std.proofs.Common.{Option, Some, None, Result, Ok, Err, refl, subst, arith}
 use Rattle.std.specs.Prelude.{if◌then◌else◌, nat_lt, ◌==◌, ◌||◌, length}
 use Rattle.std.specs.Option.{option_to_list}
-use Rattle.std.specs.List.{flat_map, range_with_len}
+use Rattle.std.specs.List.{flat_map}
 use Rattle.std.proofs.lemmas.Bool.{ltb-false}
 use Rattle.normalizer_records.specs.Faults.{AreMapperRising}
 use Rattle.normalizer_records.proofs.RangeRecords.{AreRanges, character, of_ranges}
@@ -15,14 +15,14 @@ use Rattle.normalizer_ucd.specs.declared.error.UcdFile.TheVariants as files
 use Rattle.normalizer_ucd.specs.declared.idna_table.Covered.{Covered}
 use Rattle.normalizer_ucd.specs.declared.idna_table.Disallowed.{Disallowed}
 use Rattle.normalizer_ucd.specs.FallibleReads.{◌>>=◌, fault, read_each}
-use Rattle.normalizer_ucd.specs.Fields.{data_of, is_scalar_value, lines}
-use Rattle.normalizer_ucd.specs.IdnaTable.{RangeStatus, end_of, entries_at, entries_of, first_of, full_end, last_of}
+use Rattle.normalizer_ucd.specs.Fields.{data_of, lines}
+use Rattle.normalizer_ucd.specs.IdnaTable.{RangeStatus, end_of, entries_of, first_of, full_end, last_of}
 use Rattle.normalizer_ucd.specs.IdnaTable.{name_of}
 use Rattle.normalizer_ucd.specs.IdnaTable.{place, range_status, ranges_in, read_fields, read_line, start, status_of}
 use Rattle.normalizer_ucd.specs.IdnaTable.{uts46_records_beside, uts46_records_in, uts46_records_of}
 use Rattle.normalizer_ucd.specs.Versions.{agree, stated_in}
 use Rattle.normalizer_ucd.specs.Wholes.{whole_lines}
-use Rattle.normalizer_ucd.proofs.RisingLemmas.{bound, neither, from_less, joined, parts_of_ok, AreWithin, IsWithin}
+use Rattle.normalizer_ucd.proofs.RisingLemmas.{bound, neither, parts_of_ok}
 use Rattle.normalizer_ucd.proofs.RisingLemmas.{read_within, rising}
 
 -- where a range ends

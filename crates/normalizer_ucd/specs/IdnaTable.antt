@@ -1,6 +1,6 @@
 -- IdnaMappingTable.txt: what is done with the characters of each range (Unicode Technical Standard #46, section 5).
 use Rattle.std.specs.Prelude.{ℕ, ◌+◌, ◌-◌, ◌==◌, ◌||◌, ◌<◌, ◌≤◌, Contains, IsSomeAnd, nat_lt, Bool, true, List, []}
-use Rattle.std.specs.Prelude.{◌∷◌, length, codes}
+use Rattle.std.specs.Prelude.{length, codes}
 use Rattle.std.specs.Prelude.{Option, Some, None, Result, Ok, Err, if◌then◌else◌}
 use Rattle.std.specs.Str.{bytes_eq}
 use Rattle.std.specs.Option.{ok_or, option_and_then, option_map}

@@ -13,45 +13,39 @@ pub loop-end-init : goal.loop-end-init
 loop-end-init g c = (
   IsRun-starters _ _ _ _
       (IsPassthroughTo-members _ _ _ (has c.passing-passing.result.now) (λ n is. ((has-IsCandidate c.passing-passing.result.now n is).other, c.passing-passing.ensures n is)) _ _ c.end_of_members-end.ensures (IsPassthroughTo-none _ _ _)),
-  c.patience_after-patience.ensures.some,
-  c.patience_after-patience.ensures.few,
-  c.patience_after-patience.ensures.some,
+  omega arith,
 )
 
 pub overflow_add-end : goal.overflow_add-end
 overflow_add-end g c =
     omega (arith, c.len.ensures, step-some g.U.Units.encoding (g.U.Units.units c.args.units) c.loop-end.end c.step_at-step.result (omega (arith, c.len.ensures)) c.step_at-step.ensures)
 
-pub end_of_members-end-requires-then-starters-patience : goal.end_of_members-end-requires-then-starters-patience
-end_of_members-end-requires-then-starters-patience g c =
+pub end_of_members-end-requires-then-begins_members : goal.end_of_members-end-requires-then-begins_members
+end_of_members-end-requires-then-begins_members g c =
     boundary-more g.U.Units.encoding (g.U.Units.units c.args.units) c.loop-end.end c.step_at-step.result c.loop-end.invariant.0.to_end.boundary (omega (arith, c.len.ensures)) c.step_at-step.ensures
 
-pub loop-end-preserved-then-starters-patience : goal.loop-end-preserved-then-starters-patience
-loop-end-preserved-then-starters-patience g c =
+pub loop-end-preserved-then-begins_members : goal.loop-end-preserved-then-begins_members
+loop-end-preserved-then-begins_members g c =
     let passed = g.N.Forming.passthrough_class c.args.normalizer.now in
     let units = g.U.Units.units c.args.units in
-    let starter = c.starters_after-starters.ensures.starters (omega (arith, c.loop-end.invariant.1, c.if-starters-patience.true)) in
+    let starter = c.begins_members.ensures.starter c.if-begins_members.true in
     let run = IsRun-next _ _ _ _ _ c.step_at-step.ensures (omega (arith, c.len.ensures)) _ _ _ _ c.loop-end.invariant.0 (sym c.in-Some.ensures) c.marks_after-marks.ensures.starter c.marks_after-marks.ensures.mark in
     let more = IsRun-starters _ _ _ _
-    (IsPassthroughTo-members _ _ _ (has c.passing-passing.result.now) (λ n is. ((has-IsCandidate c.passing-passing.result.now n is).other, c.passing-passing.ensures n is)) _ _ c.end_of_members-end-then-starters-patience.ensures
+    (IsPassthroughTo-members _ _ _ (has c.passing-passing.result.now) (λ n is. ((has-IsCandidate c.passing-passing.result.now n is).other, c.passing-passing.ensures n is)) _ _ c.end_of_members-end-then-begins_members.ensures
     (subst (IsPassthroughTo passed g.U.Units.encoding units (c.loop-end.end + c.step_at-step.result.width)) starter run.to_end)) in (
-      subst (λ k. IsRun passed g.U.Units.encoding units c.end_of_members-end-then-starters-patience.result c.end_of_members-end-then-starters-patience.result k) (sym starter) more,
-      c.patience_after-patience-then-starters-patience.ensures.some,
-      c.patience_after-patience-then-starters-patience.ensures.few,
-      c.patience_after-patience-then-starters-patience.ensures.some,
+      subst (λ k. IsRun passed g.U.Units.encoding units c.end_of_members-end-then-begins_members.result c.end_of_members-end-then-begins_members.result k) (sym starter) more,
+      omega arith,
     )
 
 pub loop-end-preserved : goal.loop-end-preserved
 loop-end-preserved g c = (
   IsRun-next _ _ _ _ _ c.step_at-step.ensures (omega (arith, c.len.ensures)) _ _ _ _ c.loop-end.invariant.0 (sym c.in-Some.ensures) c.marks_after-marks.ensures.starter c.marks_after-marks.ensures.mark,
-  c.loop-end.invariant.1,
-  c.loop-end.invariant.2,
-  omega (arith, c.if-starters-patience.false),
+  c.begins_members.ensures.few c.if-begins_members.false,
 )
 
-pub loop-end-smaller-then-starters-patience : goal.loop-end-smaller-then-starters-patience
-loop-end-smaller-then-starters-patience g c =
-    omega (arith, c.len.ensures, c.end_of_members-end-then-starters-patience.ensures, step-some g.U.Units.encoding (g.U.Units.units c.args.units) c.loop-end.end c.step_at-step.result (omega (arith, c.len.ensures)) c.step_at-step.ensures)
+pub loop-end-smaller-then-begins_members : goal.loop-end-smaller-then-begins_members
+loop-end-smaller-then-begins_members g c =
+    omega (arith, c.len.ensures, c.end_of_members-end-then-begins_members.ensures, step-some g.U.Units.encoding (g.U.Units.units c.args.units) c.loop-end.end c.step_at-step.result (omega (arith, c.len.ensures)) c.step_at-step.ensures)
 
 pub loop-end-smaller : goal.loop-end-smaller
 loop-end-smaller g c =
