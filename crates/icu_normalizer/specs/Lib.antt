@@ -43,6 +43,7 @@ pub use Rattle.normalizer_iterators.specs.declared.error.NormalizeError
 pub use Rattle.normalizer_packing.specs.ReadBack
 pub use Rattle.normalizer_packing.specs.declared.Packed
 pub use Rattle.normalizer_records.specs.Meaning
+pub use Rattle.normalizer_records.specs.Ranges as MapperRanges
 pub use Rattle.normalizer_records.specs.RecordValue
 pub use Rattle.normalizer_records.specs.Statuses
 pub use Rattle.normalizer_records.specs.declared.at_fault.RecordAtFault

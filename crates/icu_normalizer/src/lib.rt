@@ -75,7 +75,9 @@ pub use normalizer_check::check_nfd_data;
 pub use normalizer_iterators::{
     Composition, Decomposition, NormalizeError, collected, laws as iterator_laws,
 };
-pub use normalizer_records::{BuildError, Record, RecordAtFault, Uts46Record, Uts46Status};
+pub use normalizer_records::{
+    BuildError, Record, RecordAtFault, Uts46Range, Uts46Record, Uts46Status, records_of_ranges,
+};
 pub use normalizer_tables::characters::IgnoredCharacters;
 pub use normalizer_tables::{
     CanonicalCompositions, CodePointTable, DataError, DataMarker, DataMarkerInfo, DataProvider,

@@ -1,9 +1,11 @@
 //! The data of a directory of Unicode's files.
 ghost use Rattle.std.specs.Prelude.{◌≡◌, List, [], ⊤, IfOk, IfErr, IfSome, OnOk, string_bytes, unwrap_or};
+ghost use Rattle.std.specs.List.{flat_map};
 ghost use Rattle.std.specs.Option.{option_and_then, option_map};
 ghost use Rattle.icu_normalizer.specs.AtFault.{IsFirstAtFault};
 ghost use Rattle.icu_normalizer.specs.Building.{IsSmallest};
 ghost use Rattle.icu_normalizer.specs.Built.{data_in};
+ghost use Rattle.icu_normalizer.specs.MapperRanges.{entries_of};
 ghost use Rattle.normalizer_ucd.specs.RecordPlaces.{place_of_record};
 ghost use Rattle.normalizer_command.specs.UnicodeFiles.{
   AreBuiltOf,
@@ -26,11 +28,13 @@ ghost use Rattle.normalizer_ucd.specs.FallibleReads.{Gives};
 use crate::devices::Inputs;
 use crate::fault::{Fault, RecordsFault};
 use crate::worker::Command;
-use icu_normalizer::{BuildError, Built, Record, Records, Uts46Record};
+use icu_normalizer::{
+    BuildError, Built, Record, Records, Uts46Range, Uts46Record, records_of_ranges,
+};
 use normalizer_io::read_all;
 use normalizer_ucd::{
     Disallowed, Place, UcdError, UcdFile, place_of_record, records_of_unicode_data,
-    uts46_records_beside_exclusions,
+    uts46_ranges_beside_exclusions,
 };
 use std::alloc::{AllocError, Global};
 
@@ -157,10 +161,32 @@ pub(crate) fn built(alloc: Global, files: &DataFiles) -> Result<Built, DataFault
     ensures fault { IfErr result (λ e. IsFaultOf files.now.unicode_data.items files.now.exclusions.items
         (option_map (λ v. v.items) files.now.table) e.file e.fault) }
 {
-    let (records, uts46) = records_of(alloc, files)?;
-    match Records::build(alloc, &records, &uts46) {
+    let (records, ranges) = records_of(alloc, files)?;
+    match Records::build_of_ranges(alloc, &records, &ranges) {
         Ok(built) => Ok(built),
-        Err(error) => Err(of_records(alloc, files, &records, &uts46, error)),
+        Err(error) => Err(of_ranges(alloc, files, &records, &ranges, error)),
+    }
+}
+
+/// Why records of the files can't be built, those of the mapper listed by ranges.
+fn of_ranges(
+    alloc: Global,
+    files: &DataFiles,
+    records: &[Record],
+    ranges: &[Uts46Range],
+    error: BuildError,
+) -> DataFault
+    requires { IsSmallest records.now (flat_map entries_of ranges.now) error }
+    ensures { IsFaultOfRecords (λ r. place_of_record files.now.unicode_data.items
+        (unwrap_or (option_map (λ v. v.items) files.now.table) []) r) records.now (flat_map entries_of ranges.now)
+        result.file result.fault }
+{
+    match records_of_ranges(alloc, ranges) {
+        Ok(uts46) => of_records(alloc, files, records, &uts46, error),
+        Err(AllocError) => DataFault {
+            file: UcdFile::UnicodeData,
+            fault: Fault::Memory,
+        },
     }
 }
 
@@ -233,14 +259,14 @@ fn file_of(place: Option<Place>) -> UcdFile
     }
 }
 
-/// The records that the files yield.
+/// The records that the files yield, those of the mapper by ranges.
 fn records_of(
     alloc: Global,
     files: &DataFiles,
-) -> Result<(Vec<Record>, Vec<Uts46Record>), DataFault>
+) -> Result<(Vec<Record>, Vec<Uts46Range>), DataFault>
     ensures recorded { IfOk result (λ r. AreRecorded
         files.now.unicode_data.items files.now.exclusions.items (option_map (λ v. v.items) files.now.table)
-        r.0.items r.1.items) }
+        r.0.items (flat_map entries_of r.1.items)) }
     ensures fault { IfErr result (λ e. IsFaultOf files.now.unicode_data.items files.now.exclusions.items
         (option_map (λ v. v.items) files.now.table) e.file e.fault) }
 {
@@ -248,21 +274,21 @@ fn records_of(
         Ok(records) => records,
         Err(error) => return Err(of_file(error)),
     };
-    match mapper_records_of(alloc, files) {
-        Ok(uts46) => Ok((records, uts46)),
+    match mapper_ranges_of(alloc, files) {
+        Ok(ranges) => Ok((records, ranges)),
         Err(error) => Err(of_file(error)),
     }
 }
 
-/// The records that the mapping table yields, if there is one.
-fn mapper_records_of(alloc: Global, files: &DataFiles) -> Result<Vec<Uts46Record>, UcdError>
-    ensures { Gives (λ v. v.items) result
+/// The ranges of the records that the mapping table yields, if there is one.
+fn mapper_ranges_of(alloc: Global, files: &DataFiles) -> Result<Vec<Uts46Range>, UcdError>
+    ensures { Gives (λ v. flat_map entries_of v.items) result
         (mapper_records_of files.now.exclusions.items (option_map (λ v. v.items) files.now.table)) }
 {
     match &files.table {
         None => Ok(Vec::new(alloc)),
         Some(table) => {
-            uts46_records_beside_exclusions(alloc, &files.exclusions, table, Disallowed::All)
+            uts46_ranges_beside_exclusions(alloc, &files.exclusions, table, Disallowed::All)
         }
     }
 }
