@@ -2,4 +2,5 @@ mod AsBox
 mod Crosses
 mod OpeningLemmas
 mod PreparedLemmas
+mod RangeLemmas
 mod RefusalLemmas

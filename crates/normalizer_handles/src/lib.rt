@@ -7,6 +7,7 @@ mod defect;
 mod fault;
 mod form;
 mod handle;
+mod mapper_records;
 mod normalizers;
 mod opening;
 mod owner;

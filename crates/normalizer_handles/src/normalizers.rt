@@ -15,10 +15,11 @@ ghost use Rattle.normalizer_handles.specs.Prepared.{Refuses};
 
 use crate::fault::Fault;
 use crate::form::form_numbered;
+use crate::mapper_records::MapperRecords;
 use icu_normalizer::uts46::Uts46Mapper;
 use icu_normalizer::{
     AllNormalizers, AnyNormalizerBorrowed, Built, DataError, FormData, MappingData, NormalizeError,
-    Uts46Record, built_mapper, normalizers_over,
+    built_mapper, normalizers_over,
 };
 use normalizer_prepared::PreparedData;
 
@@ -41,12 +42,15 @@ impl Drop for Normalizers {
 
 impl Normalizers {
     /// Returns the normalizers over built data, and their mapper if it has these records.
-    pub(crate) fn over(built: &Built, mapper: &[Uts46Record]) -> Result<Normalizers, NormalizeError>
+    pub(crate) fn over<M: MapperRecords>(
+        built: &Built,
+        mapper: M,
+    ) -> Result<Normalizers, NormalizeError>
         requires { AreBuilt (data_in built.now) }
-        ensures makes { (records : List RecordValue) → Builds records mapper.now (data_in built.now) →
+        ensures makes { (records : List RecordValue) → Builds records (M.listed mapper) (data_in built.now) →
             IfOk result (λ n. MakeBy n records) }
-        ensures maps { (records : List RecordValue) → Builds records mapper.now (data_in built.now) →
-            IfOk result (λ n. MapBy n.mapper records mapper.now) }
+        ensures maps { (records : List RecordValue) → Builds records (M.listed mapper) (data_in built.now) →
+            IfOk result (λ n. MapBy n.mapper records (M.listed mapper)) }
         ensures refused { IsOkUnless result NormalizeError.Memory }
     {
         Ok(Normalizers {
@@ -83,10 +87,13 @@ impl Normalizers {
 }
 
 /// Returns the mapper over built data, if it has these records.
-fn mapper_over(built: &Built, mapper: &[Uts46Record]) -> Result<Option<Uts46Mapper>, NormalizeError>
+fn mapper_over<M: MapperRecords>(
+    built: &Built,
+    mapper: M,
+) -> Result<Option<Uts46Mapper>, NormalizeError>
     requires { AreBuilt (data_in built.now) }
-    ensures maps { (records : List RecordValue) → Builds records mapper.now (data_in built.now) →
-        IfOk result (λ m. MapBy m records mapper.now) }
+    ensures maps { (records : List RecordValue) → Builds records (M.listed mapper) (data_in built.now) →
+        IfOk result (λ m. MapBy m records (M.listed mapper)) }
     ensures refused { IsOkUnless result NormalizeError.Memory }
 {
     if mapper.is_empty() {

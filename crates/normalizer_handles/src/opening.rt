@@ -1,7 +1,9 @@
 //! Opening a handle.
 ghost use Rattle.std.specs.Prelude.{◌≡◌, [], IfOk, List, MatchResult, Ok};
+ghost use Rattle.std.specs.List.{flat_map};
 ghost use Rattle.std.specs.Option.{option_and_then};
 ghost use Rattle.icu_normalizer.specs.Building.{Builds, IsSmallest};
+ghost use Rattle.icu_normalizer.specs.MapperRanges.{entries_of as entries_of_range};
 ghost use Rattle.icu_normalizer.specs.Packed.{Packed};
 ghost use Rattle.icu_normalizer.specs.RecordValue.{RecordValue, Uts46RecordValue};
 ghost use Rattle.icu_normalizer.specs.AtFault.{IsFirstAtFault};
@@ -25,6 +27,7 @@ ghost use Rattle.normalizer_handles.specs.declared.fault.Fault.TheVariants.{Memo
 
 use crate::fault::{Fault, RecordsFault};
 use crate::handle::Handle;
+use crate::mapper_records::MapperRecords;
 use crate::normalizers::Normalizers;
 use crate::owner::Owner;
 use crate::plain_records::{PlainMapperRecord, PlainRecord, records_of_plain};
@@ -32,9 +35,9 @@ use crate::record_places::{Indices, Lines, RecordPlaces};
 use icu_normalizer::record_laws::{
     data_that_meet_conditions_are_accepted, what_is_built_is_accepted,
 };
-use icu_normalizer::{BuildError, Record, Records, Uts46Record};
+use icu_normalizer::{BuildError, Record, Uts46Range, Uts46Record};
 use normalizer_prepared::PreparedData;
-use normalizer_ucd::{Disallowed, records_of_unicode_data, uts46_records_beside_exclusions};
+use normalizer_ucd::{Disallowed, records_of_unicode_data, uts46_ranges_beside_exclusions};
 use std::alloc::{AllocError, Global};
 
 /// Opens normalizers by the bytes of `UnicodeData.txt` and `CompositionExclusions.txt`, with no mapper. What the handle
@@ -60,7 +63,8 @@ pub fn open_unicode_data(
         unicode_data,
         idna_table,
     };
-    open(alloc, handle, &records, &[], &lines)
+    let mapper: &[Uts46Record] = &[];
+    open(alloc, handle, &records, mapper, &lines)
 }
 
 /// Opens normalizers by the bytes of `UnicodeData.txt` and `CompositionExclusions.txt`, and their mapper by those of
@@ -86,12 +90,12 @@ pub fn open_files(
         return Err(Fault::InUse);
     }
     let records = unicode_data_records(alloc, unicode_data, exclusions)?;
-    let mapper = idna_table_records(alloc, exclusions, idna_table, disallowed_limit)?;
+    let mapper = idna_table_ranges(alloc, exclusions, idna_table, disallowed_limit)?;
     let lines = Lines {
         unicode_data,
         idna_table,
     };
-    open(alloc, handle, &records, &mapper, &lines)
+    open(alloc, handle, &records, mapper.as_slice(), &lines)
 }
 
 /// Opens normalizers from records of characters, and their mapper from records of the mapper. Mappings are parts of
@@ -119,7 +123,7 @@ pub fn open_records(
         records: &records,
         mapper: &mapper,
     };
-    open(alloc, handle, &records, &mapper, &indices)
+    open(alloc, handle, &records, mapper.as_slice(), &indices)
 }
 
 /// Opens normalizers by the bytes of a file of prepared data, and their mapper if its data aren't the canonical ones.
@@ -164,31 +168,32 @@ fn unicode_data_records(
     Ok(records_of_unicode_data(alloc, unicode_data, exclusions)?)
 }
 
-fn idna_table_records(
+fn idna_table_ranges(
     alloc: Global,
     exclusions: &[u8],
     idna_table: &[u8],
     disallowed_limit: u32,
-) -> Result<Vec<Uts46Record>, Fault>
-    ensures { Reads (λ v. v.items) result (of_idna_table exclusions.now idna_table.now disallowed_limit) }
+) -> Result<Vec<Uts46Range>, Fault>
+    ensures { Reads (λ v. flat_map entries_of_range v.items) result
+        (of_idna_table exclusions.now idna_table.now disallowed_limit) }
 {
     if idna_table.is_empty() {
         return Ok(Vec::new(alloc));
     }
     let disallowed = Disallowed::RangesUpTo(disallowed_limit);
-    Ok(uts46_records_beside_exclusions(alloc, exclusions, idna_table, disallowed)?)
+    Ok(uts46_ranges_beside_exclusions(alloc, exclusions, idna_table, disallowed)?)
 }
 
 /// Opens what records build.
-fn open<P: RecordPlaces>(
+fn open<M: MapperRecords, P: RecordPlaces>(
     alloc: Global,
     handle: &mut Handle,
     records: &[Record],
-    mapper: &[Uts46Record],
+    mapper: M,
     places: &P,
 ) -> Result<(), Fault>
-    ensures { Holds (λ n. MakeBy n records.now × MapBy n.mapper records.now mapper.now)
-        (IsBuildFault (P.places places.now) records.now mapper.now)
+    ensures { Holds (λ n. MakeBy n records.now × MapBy n.mapper records.now (M.listed mapper))
+        (IsBuildFault (P.places places.now) records.now (M.listed mapper))
         (held_normalizers handle.old) (held_normalizers handle.new) result }
 {
     let normalizers = normalizers_of(alloc, records, mapper, places)?;
@@ -205,31 +210,31 @@ fn hold(alloc: Global, handle: &mut Handle, normalizers: Normalizers) -> Result<
     Ok(())
 }
 
-fn normalizers_of<P: RecordPlaces>(
+fn normalizers_of<M: MapperRecords, P: RecordPlaces>(
     alloc: Global,
     records: &[Record],
-    mapper: &[Uts46Record],
+    mapper: M,
     places: &P,
 ) -> Result<Normalizers, Fault>
-    ensures { MatchResult result (λ n. MakeBy n records.now × MapBy n.mapper records.now mapper.now)
-        (IsBuildFault (P.places places.now) records.now mapper.now) }
+    ensures { MatchResult result (λ n. MakeBy n records.now × MapBy n.mapper records.now (M.listed mapper))
+        (IsBuildFault (P.places places.now) records.now (M.listed mapper)) }
 {
-    match Records::build(alloc, records, mapper) {
+    match mapper.build(alloc, records) {
         Ok(built) => Ok(Normalizers::over(&built, mapper)?),
         Err(error) => Err(build_fault(alloc, records, mapper, places, error)),
     }
 }
 
 /// Why records aren't built.
-fn build_fault<P: RecordPlaces>(
+fn build_fault<M: MapperRecords, P: RecordPlaces>(
     alloc: Global,
     records: &[Record],
-    mapper: &[Uts46Record],
+    mapper: M,
     places: &P,
     error: BuildError,
 ) -> Fault
-    requires { IsSmallest records.now mapper.now error }
-    ensures { IsBuildFault (P.places places.now) records.now mapper.now result }
+    requires { IsSmallest records.now (M.listed mapper) error }
+    ensures { IsBuildFault (P.places places.now) records.now (M.listed mapper) result }
 {
     if matches!(error, BuildError::Memory) {
         return Fault::Memory;
@@ -241,18 +246,18 @@ fn build_fault<P: RecordPlaces>(
 }
 
 /// The first record at fault, and its place.
-fn records_fault<P: RecordPlaces>(
+fn records_fault<M: MapperRecords, P: RecordPlaces>(
     alloc: Global,
     records: &[Record],
-    mapper: &[Uts46Record],
+    mapper: M,
     places: &P,
     error: BuildError,
 ) -> Result<RecordsFault, AllocError>
-    requires { IsSmallest records.now mapper.now error }
-    ensures { IfOk result (λ f. (f.error ≡ error) × IsFirstAtFault records.now mapper.now error f.at_fault
+    requires { IsSmallest records.now (M.listed mapper) error }
+    ensures { IfOk result (λ f. (f.error ≡ error) × IsFirstAtFault records.now (M.listed mapper) error f.at_fault
         × (f.place ≡ option_and_then (P.places places.now) f.at_fault)) }
 {
-    let at_fault = Records::first_at_fault(alloc, records, mapper, error)?;
+    let at_fault = mapper.first_at_fault(alloc, records, error)?;
     let place = match at_fault {
         Some(at_fault) => places.place(alloc, at_fault)?,
         None => None,

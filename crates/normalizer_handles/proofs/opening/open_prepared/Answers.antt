@@ -1,4 +1,3 @@
-use Rattle.icu_normalizer.specs.Kind.TheVariants.{Mapper}
 use Rattle.icu_normalizer.specs.DataMarkerInfo.TheVariants.{NormalizerUts46DataV1}
 use Rattle.icu_normalizer.proofs.PackedForms.{packed-unrefused}
 use Rattle.normalizer_handles.proofs.PreparedLemmas.{opens-by}
