@@ -260,10 +260,7 @@ fn file_of(place: Option<Place>) -> UcdFile
 }
 
 /// The records that the files yield, those of the mapper by ranges.
-fn records_of(
-    alloc: Global,
-    files: &DataFiles,
-) -> Result<(Vec<Record>, Vec<Uts46Range>), DataFault>
+fn records_of(alloc: Global, files: &DataFiles) -> Result<(Vec<Record>, Vec<Uts46Range>), DataFault>
     ensures recorded { IfOk result (λ r. AreRecorded
         files.now.unicode_data.items files.now.exclusions.items (option_map (λ v. v.items) files.now.table)
         r.0.items (flat_map entries_of r.1.items)) }
