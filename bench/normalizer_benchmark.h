@@ -29,12 +29,11 @@ enum {
     BENCHMARK_PORT_ITERATE
 };
 
-/* Makes a normalizer over the data of the two files, and repeats a call over the text. `*needed` is then how many bytes
-   the last call wrote, and `output` begins with as many of them as it has room for, those of 16-bit units in the order
-   of the machine. A check writes one byte if the text is normalized. */
-uint32_t normalizer_benchmark_repeat(const uint8_t *unicode_data, size_t unicode_data_length, const uint8_t *exclusions,
-                                     size_t exclusions_length, uint32_t form, uint32_t call, const uint8_t *text,
-                                     size_t text_length, uint64_t times, uint8_t *output, size_t output_length,
-                                     size_t *needed);
+/* Makes a normalizer over prepared data, and repeats a call over the text. `*needed` is then how many bytes the last call
+   wrote, and `output` begins with as many of them as it has room for, those of 16-bit units in the order of the machine.
+   A check writes one byte if the text is normalized. */
+uint32_t normalizer_benchmark_repeat(const uint8_t *prepared, size_t prepared_length, uint32_t form, uint32_t call,
+                                     const uint8_t *text, size_t text_length, uint64_t times, uint8_t *output,
+                                     size_t output_length, size_t *needed);
 
 #endif

@@ -103,8 +103,8 @@ static void open_data(const char *folder) {
 /* The libraries in Rattle: exports of the C library, and repeated calls. */
 
 static int repeated(uint32_t form, uint32_t call, const struct text *text, size_t times, struct output *output) {
-    if (normalizer_benchmark_repeat(unicode_data.at, unicode_data.length, exclusions.at, exclusions.length, form, call,
-                                    text->bytes, text->length, times, output->at, output->room, &output->length))
+    if (normalizer_benchmark_repeat(prepared.at, prepared.length, form, call, text->bytes, text->length, times,
+                                    output->at, output->room, &output->length))
         stop("a call failed", "normalizer_benchmark");
     return 1;
 }

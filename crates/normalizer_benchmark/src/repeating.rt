@@ -2,19 +2,18 @@
 use crate::call::{Text, Written, call_numbered};
 use crate::fault::{Fault, status};
 use crate::form::form_numbered;
-use crate::starting::built_of_files;
 use icu_normalizer::FormData;
+use normalizer_prepared::PreparedData;
 use std::alloc::{AllocError, Global};
 use std::str;
 
-/// Makes a normalizer over the data of the two files, and repeats the call over the text. `needed` is then how many
-/// bytes the last call wrote, and `output` begins with as many of them as it has room for, those of 16-bit units in the
-/// order of the machine. A check writes one byte if the text is normalized.
+/// Makes a normalizer over the prepared data, and repeats the call over the text. `needed` is then how many bytes the
+/// last call wrote, and `output` begins with as many of them as it has room for, those of 16-bit units in the order of
+/// the machine. A check writes one byte if the text is normalized.
 #[unsafe(no_mangle)]
 pub extern "C" fn normalizer_benchmark_repeat(
     alloc: Global,
-    unicode_data: &[u8],
-    exclusions: &[u8],
+    prepared: &[u8],
     form: u32,
     call: u32,
     text: &[u8],
@@ -28,7 +27,7 @@ pub extern "C" fn normalizer_benchmark_repeat(
         text,
         times,
     };
-    match repeat(alloc, unicode_data, exclusions, &task) {
+    match repeat(alloc, prepared, &task) {
         Ok(written) => {
             *needed = written.len();
             for (place, byte) in output.iter_mut().zip(&written[..]) {
@@ -50,12 +49,7 @@ struct Task<'a> {
 }
 
 /// The bytes that the last call wrote.
-fn repeat(
-    alloc: Global,
-    unicode_data: &[u8],
-    exclusions: &[u8],
-    task: &Task<'_>,
-) -> Result<Vec<u8>, Fault> {
+fn repeat(alloc: Global, prepared: &[u8], task: &Task<'_>) -> Result<Vec<u8>, Fault> {
     let form = form_numbered(task.form)?;
     let call = call_numbered(task.call)?;
     let utf8 = str::from_utf8(task.text).map_err(|_| Fault::Unreadable)?;
@@ -68,7 +62,7 @@ fn repeat(
         utf8: String::new(alloc),
         utf16: Vec::new(alloc),
     };
-    let owned = built_of_files(alloc, unicode_data, exclusions)?.normalizer(form)?;
+    let owned = PreparedData::read(alloc, prepared)?.normalizer(form)?;
     let normalizer = owned.as_borrowed();
     for _ in 0..task.times {
         written.utf8.clear();

@@ -60,11 +60,7 @@ fn construct_often(built: &Built, form: u32, times: u64) -> Result<(), Fault> {
 }
 
 /// Returns the data of the two files.
-pub(crate) fn built_of_files(
-    alloc: Global,
-    unicode_data: &[u8],
-    exclusions: &[u8],
-) -> Result<Built, Fault> {
+fn built_of_files(alloc: Global, unicode_data: &[u8], exclusions: &[u8]) -> Result<Built, Fault> {
     let records = records_of_unicode_data(alloc, unicode_data, exclusions)?;
     Ok(Records::build(alloc, &records, &[])?)
 }
