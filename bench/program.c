@@ -29,6 +29,8 @@
 #define SAMPLE 20000000u
 #define SLOW 250000000u
 #define MOST_TIMES 4000000u
+/* How many times as many rounds as are asked for are made at most, as long as a least time falls. */
+#define MOST_ROUNDS 8
 
 static const char *const FORM_NAMES[] = {"NFD", "NFC", "NFKD", "NFKC"};
 static const char *const CALL_NAMES[] = {
@@ -199,6 +201,7 @@ struct cell {
     const struct text *text;
     size_t times;
     uint64_t none, all; /* the least time of no call, and of so many */
+    size_t steady;      /* how many samples ago the latter last fell by half a percent */
     bool is_slow;
 };
 
@@ -218,9 +221,10 @@ static uint64_t passed(const struct cell *cell) {
 
 /* A virtual machine's clock may jump: a sample of less than a quarter of the least so far is none. */
 static void sample(struct cell *cell) {
-    uint64_t none = spent(cell, 0), all = spent(cell, cell->times);
+    uint64_t none = spent(cell, 0), all = spent(cell, cell->times), least = cell->all;
     if (none < cell->none) cell->none = none;
     if (all < cell->all && (cell->all == UINT64_MAX || all > cell->all / 4)) cell->all = all;
+    cell->steady = cell->all < least - least / 200 ? 0 : cell->steady + 1;
 }
 
 /* Finds how many calls make a sample. */
@@ -295,7 +299,8 @@ static bool is_chosen(struct choice choice, const struct cell *cell) {
     return repeat != direct_repeat && strcmp(cell->library->name, choice.without) && spent(cell, 0) != NO_CALL;
 }
 
-/* Libraries take turns: a round has a sample of each cell. Checks are timed on the text in the form. */
+/* Libraries take turns: a round has a sample of each cell whose least time fell in the last rounds, of which there are
+   this many, and at most so many times as many. Checks are timed on the text in the form. */
 static void time_calls(struct text text, size_t rounds, struct choice choice) {
     static struct cell cells[FORMS * CALLS * COUNT_OF_LIBRARIES];
     struct text forms[FORMS];
@@ -310,9 +315,10 @@ static void time_calls(struct text text, size_t rounds, struct choice choice) {
             }
     }
     for (size_t i = 0; i < count; i++) begin(&cells[i]);
-    for (size_t round = 0; round < rounds; round++)
+    for (size_t i = 0; i < count; i++) cells[i].steady = 0;
+    for (size_t round = 0; round < MOST_ROUNDS * rounds; round++)
         for (size_t i = 0; i < count; i++)
-            if (!cells[i].is_slow) sample(&cells[i]);
+            if (!cells[i].is_slow && cells[i].steady < rounds) sample(&cells[i]);
     for (size_t i = 0; i < count; i++) say_written(&cells[i]);
 }
 
