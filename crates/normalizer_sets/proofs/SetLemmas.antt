@@ -1,14 +1,15 @@
 -- The bits of sets of characters.
-use Rattle.std.proofs.Common.{◌≡◌, ◌≢◌, ℕ, ◌+◌, ◌*◌, ◌/◌, ◌%◌, ◌<◌, ◌≤◌, ◌⊎◌, ◌&&◌, ◌==◌, Bool, ◌-◌, true, false, inl, inr, length, List, [], ◌∷◌, ◌++◌, take, drop, get_or, arith, refl, ap, sym, ◌∙◌, zero-add}
+use Rattle.std.proofs.Common.{◌≡◌, ◌≢◌, ℕ, ◌+◌, ◌*◌, ◌/◌, ◌%◌, ◌<◌, ◌≤◌, ◌⊎◌, ◌&&◌, ◌==◌, Bool, ◌-◌, true, false, inl, inr, length, length-drop, length-take-le, List, [], ◌∷◌, ◌++◌, take, drop, get_or, arith, refl, ap, sym, ◌∙◌, zero-add}
+use Rattle.std.proofs.lemmas.List.Elements.{All-drop, All-take}
 use Rattle.std.specs.Int.{bit_at}
 use Rattle.std.proofs.Math.ListN.{get_or-eq_default}
 use Rattle.std.proofs.lemmas.Nat.Bits.{bit_at-zero}
-use Rattle.std.proofs.lemmas.List.{get_or-take, get_or-drop, ext_get_or, get_or_push, get_or_append_left, length_push}
+use Rattle.std.proofs.lemmas.List.{length-map, get_or-map, get_or-take, get_or-drop, get_or_push, get_or_append_left, length_push}
 use Rattle.std.proofs.lemmas.List.FromFn.{get_or-map-range_with_len, length-map-range_with_len}
 use Rattle.std.proofs.lemmas.Bool.{cond-false, le-ltb, cases_Bool, cases_lt, and_left, and_right, true≢false}
 use Rattle.std.proofs.lemmas.Bool.Decides.{nat_tests}
-use Rattle.normalizer_sets.specs.CharacterSets.{has, has_bit, may_have}
-use Rattle.normalizer_sets.specs.inner.Bits.{all_words, place_of, ArePages, CharactersOnly, IsKept, IsSet}
+use Rattle.normalizer_sets.specs.CharacterSets.{has, has_bit, may_have, words_at, AreNumbers}
+use Rattle.normalizer_sets.specs.inner.Bits.{all_words, place_of, ArePageNumbers, CharactersOnly, IsKept, IsPlane, IsSet}
 
 -- which numbers a set may have
 pub may_have-character : (n : ℕ) → n < 0x110000 → (n < 0xD800) ⊎ (0xDFFF < n) → n ≢ 0xFFFD → may_have n ≡ true
@@ -98,24 +99,6 @@ module _ (old new : List ℕ) (long : length new ≡ 17408) (only : (b : ℕ) �
     ]
   ]
 
-  -- and that are packed
-  module _ (words pages : List ℕ) (kept : ArePages words pages) (packed : all_words words pages ≡ new) where
-    pub IsSet-packed : (low : ℕ) → ((n : ℕ) → n < low → has_bit new n ≡ true) → has_bit new low ≡ false → IsSet words pages low
-    IsSet-packed low below missing = record {
-      kept = kept;
-      characters = λ n is. has-may old n (sym (has_bit-left n) ∙ ap (λ l. has_bit l n) (sym packed) ∙ is);
-      below = λ n l. ap (λ l. has_bit l n) packed ∙ below n l;
-      missing = ap (λ l. has_bit l low) packed ∙ missing;
-    }
-
-    pub has-packed : (n : ℕ) → has (all_words words pages) n ≡ has old n
-    unfolding has
-    has-packed n = ap (λ b. may_have n && b) (ap (λ l. has_bit l n) packed ∙ has_bit-left n) ∙ ap (λ b. may_have n && b) refl ∙ twice (may_have n) (has_bit old n)
-      where
-        twice : (a b : Bool) → (a && (a && b)) ≡ (a && b)
-        twice true b = refl
-        twice false b = refl
-
 -- what a set never has
 pub has_past : (words : List ℕ) (n : ℕ) → 0x110000 ≤ n → has words n ≡ false
 unfolding has
@@ -132,23 +115,66 @@ has-replacement words = refl
 pub has-IsCandidate : (words : List ℕ) (n : ℕ) → has words n ≡ true → IsCandidate n
 has-IsCandidate words n is = IsCandidate-may_have n (has-may words n is)
 
+-- ---- the words of the plane
+
+-- of the first words the bits of characters are left
+pub record IsPlaneTo (words left : List ℕ) (n : ℕ) : Type 0 where
+  pub long : length left ≡ n
+  pub only : (b : ℕ) → b < n → CharactersOnly b (get_or words b 0) (get_or left b 0)
+
+pub IsPlaneTo-more : (words left : List ℕ) (n word : ℕ) → IsPlaneTo words left n → CharactersOnly n (get_or words n 0) word → IsPlaneTo words (left ++ word ∷ []) (n + 1)
+IsPlaneTo-more words left n word so_far here = record {
+  long = (let l = so_far.long in omega (arith, length_push left word));
+  only = λ b below. elim (cases_lt b n) [
+    | inl earlier ↦ rw (get_or_append_left left (word ∷ []) 0 b (let l = so_far.long in omega arith)) (so_far.only b earlier)
+    | inr last ↦
+        let same : b ≡ n = omega arith in
+        rw (same, get_or_push left word 0 n so_far.long) here
+  ];
+}
+
+-- the word of a block
+pub get_or-words_at : (kept numbers : List ℕ) (b number word : ℕ) → b < length numbers → get_or numbers b 0 ≡ number → get_or kept number 0 ≡ word → get_or (words_at kept numbers) b 0 ≡ word
+get_or-words_at kept numbers b number word within at is = get_or-map (λ number. get_or kept number 0) numbers b 0 0 within ∙ ap (λ k. get_or kept k 0) at ∙ is
+
+pub length-words_at : (kept numbers : List ℕ) → length (words_at kept numbers) ≡ length numbers
+length-words_at kept numbers = length-map numbers (λ number. get_or kept number 0)
+
+-- no surrogate is in the plane
+pub surrogate_unset : (words first : List ℕ) → IsPlane words first → has_bit first 0xD800 ≡ false
+unfolding has_bit
+surrogate_unset words first is = is.only 0x360 (omega arith) 0 (omega arith) ∙ and_left (may_have 0xD800) _ (may_have-surrogate 0xD800 (omega arith) (omega arith))
+
 -- ---- pages that are kept
 
 pub get_or-range : (words : List ℕ) (start end k : ℕ) → k < end - start → get_or (take (end - start) (drop start words)) k 0 ≡ get_or words (start + k) 0
 get_or-range words start end k low = get_or-take (end - start) (drop start words) k 0 low ∙ get_or-drop start words k 0
 
--- the first pages
-pub record IsPackedTo (words kept pages : List ℕ) (page : ℕ) : Type 0 where
+pub ArePageNumbers-page : (kept numbers : List ℕ) (start end : ℕ) → AreNumbers kept numbers → end - start ≡ 64 → end ≤ 17408 → ArePageNumbers kept (take (end - start) (drop start numbers))
+ArePageNumbers-page kept numbers start end are long within = record {
+  long = length-take-le (end - start) (drop start numbers) (let l = length-drop start numbers in let n = are.long in omega arith) ∙ long;
+  within = All-take (λ n. n < length kept) (end - start) (drop start numbers) (All-drop (λ n. n < length kept) start numbers are.within);
+}
+
+pub get_or-page : (kept numbers : List ℕ) (start end k : ℕ) → end - start ≡ 64 → k < 64 → start + 64 ≤ length numbers
+    → get_or (words_at kept (take (end - start) (drop start numbers))) k 0 ≡ get_or (words_at kept numbers) (start + k) 0
+get_or-page kept numbers start end k long low within =
+    let inside : k < length (take (end - start) (drop start numbers)) = (let l = length-drop start numbers in let t = length-take-le (end - start) (drop start numbers) in omega (arith, length-take-le (end - start) (drop start numbers) (omega (arith, length-drop start numbers)))) in
+    get_or-words_at kept (take (end - start) (drop start numbers)) k (get_or numbers (start + k) 0) _ inside (get_or-range numbers start end k (omega arith)) refl
+    ∙ sym (get_or-words_at kept numbers (start + k) (get_or numbers (start + k) 0) _ (omega arith) refl refl)
+
+-- the plane and the first pages
+pub record IsPackedTo (words first kept pages : List ℕ) (page : ℕ) : Type 0 where
   pub least : 1024 ≤ length kept
   pub most : length kept ≤ 1024 + 64 * page
   pub long : length pages ≡ page
-  pub plane : (b : ℕ) → b < 1024 → get_or kept b 0 ≡ get_or words b 0
+  pub plane : (b : ℕ) → b < 1024 → get_or kept b 0 ≡ get_or first b 0
   pub within : (p : ℕ) → p < page → get_or pages p 0 + 64 ≤ length kept
   pub paged : (p k : ℕ) → p < page → k < 64 → get_or kept (get_or pages p 0 + k) 0 ≡ get_or words (1024 + 64 * p + k) 0
 
-pub IsPackedTo-more : (words kept pages : List ℕ) (page : ℕ) (whole : List ℕ) (after : List ℕ) (at : ℕ) → IsPackedTo words kept pages page
-    → ((k : ℕ) → k < 64 → get_or whole k 0 ≡ get_or words (1024 + 64 * page + k) 0) → IsKept kept whole after at → IsPackedTo words after (pages ++ at ∷ []) (page + 1)
-IsPackedTo-more words kept pages page whole after at so_far of_page more = record {
+pub IsPackedTo-more : (words first kept pages : List ℕ) (page : ℕ) (whole : List ℕ) (after : List ℕ) (at : ℕ) → IsPackedTo words first kept pages page
+    → ((k : ℕ) → k < 64 → get_or whole k 0 ≡ get_or words (1024 + 64 * page + k) 0) → IsKept kept whole after at → IsPackedTo words first after (pages ++ at ∷ []) (page + 1)
+IsPackedTo-more words first kept pages page whole after at so_far of_page more = record {
   least = (let l = so_far.least in let m = more.longer in omega arith);
   most = (let l = so_far.most in let m = more.most in omega arith);
   long = (let l = so_far.long in omega (arith, length_push pages at));
@@ -169,25 +195,48 @@ IsPackedTo-more words kept pages page whole after at so_far of_page more = recor
   ];
 }
 
-module _ (words kept pages : List ℕ) (long : length words ≡ 17408) (all : IsPackedTo words kept pages 256) where
-  pub ArePages-packed : ArePages kept pages
-  ArePages-packed = record { plane = all.least; long = all.long; within = all.within }
-
-  pub all_words-packed : all_words kept pages ≡ words
+-- so they are those of a set
+module _ (words first kept pages : List ℕ) (long : length words ≡ 17408) (is_plane : IsPlane words first) (all : IsPackedTo words first kept pages 256) where
+  word : (b : ℕ) → b < 17408 → get_or (all_words kept pages) b 0 ≡ get_or kept (place_of pages b) 0
   unfolding all_words
-  all_words-packed = ext_get_or 0 (all_words kept pages) words (length-all_words kept pages ∙ sym long)
-      (λ b within. let low : b < 17408 = omega (arith, length-all_words kept pages) in
-      get_or-map-range_with_len (λ n. get_or kept (place_of pages n) 0) 0 17408 b b 0 low (zero-add b) ∙ word b low)
+  word b low = get_or-map-range_with_len (λ n. get_or kept (place_of pages n) 0) 0 17408 b b 0 low (zero-add b)
+
+  of_plane : (b : ℕ) → b < 1024 → get_or (all_words kept pages) b 0 ≡ get_or first b 0
+  of_plane b low = word b (omega arith) ∙ ap (λ k. get_or kept k 0) (place_of-plane pages b low) ∙ all.plane b low
+
+  of_page : (b : ℕ) → 1024 ≤ b → get_or (all_words kept pages) b 0 ≡ get_or words b 0
+  of_page b above = elim (cases_lt b 17408) [
+    | inl low ↦
+        let page = b / 64 - 16 in
+        let k = b % 64 in
+        let whole : 1024 + 64 * page + k ≡ b = omega arith in
+        word b low ∙ ap (λ n. get_or kept (place_of pages n) 0) (sym whole)
+        ∙ ap (λ n. get_or kept n 0) (place_of-page pages page k (omega arith))
+        ∙ all.paged page k (omega arith) (omega arith)
+        ∙ ap (λ n. get_or words n 0) whole
+    | inr past ↦ get_or-eq_default (all_words kept pages) 0 {n = b} (omega (arith, length-all_words kept pages)) ∙ sym (get_or-eq_default words 0 {n = b} (omega (arith, long)))
+  ]
+
+  bits : (n : ℕ) → has_bit (all_words kept pages) n ≡ has words n
+  bits = has_bit-left words (all_words kept pages) (length-all_words kept pages)
+      (λ b low. rw (of_plane b low) (is_plane.only b low)) of_page
+
+  pub bit_of_plane : (n : ℕ) → n < 0x10000 → has_bit (all_words kept pages) n ≡ has_bit first n
+  unfolding has_bit
+  bit_of_plane n low = ap (λ w. bit_at w (n % 64) == 1) (of_plane (n / 64) (omega arith))
+
+  pub IsSet-packed : (low : ℕ) → low ≤ 0xD800 → ((n : ℕ) → n < low → has_bit first n ≡ true) → has_bit first low ≡ false → IsSet kept pages low
+  IsSet-packed low least below missing = record {
+    kept = record { plane = all.least; long = all.long; within = all.within };
+    characters = λ n is. has-may words n (sym (bits n) ∙ is);
+    below = λ n l. bit_of_plane n (omega arith) ∙ below n l;
+    missing = bit_of_plane low (omega arith) ∙ missing;
+  }
+
+  pub has-packed : (n : ℕ) → has (all_words kept pages) n ≡ has words n
+  unfolding has
+  has-packed n = ap (λ b. may_have n && b) (bits n) ∙ twice (may_have n) (has_bit words n)
     where
-      word : (b : ℕ) → b < 17408 → get_or kept (place_of pages b) 0 ≡ get_or words b 0
-      word b low = elim (cases_lt b 1024) [
-        | inl plane ↦ ap (λ k. get_or kept k 0) (place_of-plane pages b plane) ∙ all.plane b plane
-        | inr above ↦
-            let page = b / 64 - 16 in
-            let k = b % 64 in
-            let whole : 1024 + 64 * page + k ≡ b = omega arith in
-            ap (λ n. get_or kept (place_of pages n) 0) (sym whole)
-            ∙ ap (λ n. get_or kept n 0) (place_of-page pages page k (omega arith))
-            ∙ all.paged page k (omega arith) (omega arith)
-            ∙ ap (λ n. get_or words n 0) whole
-      ]
+      twice : (a b : Bool) → (a && (a && b)) ≡ (a && b)
+      twice true b = refl
+      twice false b = refl

@@ -1,5 +1,5 @@
 -- Sets of characters, as words of 64 bits.
-use Rattle.std.specs.Prelude.{ℕ, ◌/◌, ◌%◌, ◌==◌, ◌&&◌, Bool, not, nat_lt, List, slice_index_or}
+use Rattle.std.specs.Prelude.{◌≡◌, ℕ, ◌/◌, ◌%◌, ◌==◌, ◌<◌, ◌&&◌, All, Bool, not, nat_lt, length, List, map, slice_index_or}
 use Rattle.std.specs.Int.{bit_at, is_in_range}
 
 -- the bit of the number is set: bit n of all words together
@@ -13,3 +13,12 @@ may_have n = nat_lt n 0x110000 && not (is_in_range 0xD800 0xDFFF n) && not (n ==
 -- the set of these words has the number
 unfoldable pub has : List ℕ → ℕ → Bool
 has words n = may_have n && has_bit words n
+
+-- the words that these numbers have among those that are kept
+abbrev pub words_at : (kept numbers : List ℕ) → List ℕ
+words_at kept numbers = map (λ number. slice_index_or kept number 0) numbers
+
+-- each of the 17,408 blocks of 64 code points has the number of a word
+pub record AreNumbers (kept numbers : List ℕ) : Type 0 where
+  pub long : length numbers ≡ 17408
+  pub within : All (λ number. number < length kept) numbers

@@ -1,10 +1,11 @@
 //! Sets of characters: whether a 16-bit unit is a member is found by one load, and whether a surrogate pair is by two.
 #![tactic(auto)]
 
-ghost use Rattle.std.specs.Prelude.{◌≡◌, ◌==◌, ◌+◌, ◌*◌, ◌<◌, ◌≤◌, ◌&&◌, ℕ, true, false, length, slice_index_or, IfOk, IfSome, IsTrue};
+ghost use Rattle.std.specs.Prelude.{◌≡◌, ◌==◌, ◌+◌, ◌*◌, ◌/◌, ◌<◌, ◌≤◌, ◌&&◌, ℕ, true, false, length, slice_index_or, IfOk, IfSome, IsTrue};
 ghost use Rattle.std.specs.Int.{bit_at};
-ghost use Rattle.normalizer_sets.specs.CharacterSets.{has, has_bit, may_have};
-ghost use Rattle.normalizer_sets.specs.inner.Bits.{all_words, ArePages, CharactersOnly, HasPageAt, IsKept};
+ghost use Rattle.normalizer_sets.specs.CharacterSets.{has, has_bit, may_have, words_at, AreNumbers};
+ghost use Rattle.normalizer_sets.specs.inner.Bits.{ArePageNumbers, CharactersOnly, HasPageAt, IsKept, IsPlane};
+ghost use Rattle.normalizer_sets.specs.inner.Bits.{IsPlaneWithoutSurrogates};
 
 use std::alloc::{AllocError, Global};
 use std::marker::Model;
@@ -12,8 +13,8 @@ use std::marker::Model;
 /// How many code points have their bits in one word.
 const WORD: usize = 64;
 
-/// How many words all code points have.
-pub const WORDS: usize = 17_408;
+/// The first surrogate.
+const SURROGATE: usize = 0xD800;
 
 /// How many words the Basic Multilingual Plane has.
 const PLANE: usize = 1024;
@@ -48,21 +49,24 @@ impl Model for CharacterSet {
 }
 
 impl CharacterSet {
-    /// Makes the set of the characters whose bits are set, in a word for each 64 code points. The bits of U+FFFD and of
-    /// surrogates are cleared.
+    /// Makes the set of the characters whose bits are set, by the words of blocks of 64 code points: a word that several
+    /// blocks share is in `kept` once, and `numbers` has its place for each block. The bits of U+FFFD and of surrogates
+    /// are cleared.
     ///
     /// # Errors
     /// If an allocation failed.
-    pub fn from_words(mut words: Vec<u64>) -> Result<Self, AllocError>
-        requires { length words.items ≡ 17408 }
-        ensures { IfOk result (λ set. (n : ℕ) → has set n ≡ has words.items n) }
+    pub fn from_blocks(alloc: Global, kept: &[u64], numbers: &[u16]) -> Result<Self, AllocError>
+        requires { AreNumbers kept.now numbers.now }
+        ensures { IfOk result (λ set. (n : ℕ) → has set n ≡ has (words_at kept.now numbers.now) n) }
     {
-        let alloc = *words.allocator();
-        for place in 0..PLANE {
-            words[place] = characters_only(place, words[place]);
-        }
+        let mut words = plane(alloc, kept, numbers)?;
         let low = first_missing(&words);
-        let (words, pages) = packed(alloc, &words)?;
+        let mut pages = Vec::with_capacity(alloc, PAGES)?;
+        for page in 0..PAGES {
+            let start = PLANE + page * PAGE;
+            let place = put_page(&mut words, &page_at(kept, &numbers[start..start + PAGE]))?;
+            pages.push(place as u16)?;
+        }
         Ok(CharacterSet { words, pages, low })
     }
 
@@ -137,6 +141,18 @@ impl Clone for CharacterSet {
     }
 }
 
+/// The words of the Basic Multilingual Plane.
+fn plane(alloc: Global, kept: &[u64], numbers: &[u16]) -> Result<Vec<u64>, AllocError>
+    requires { AreNumbers kept.now numbers.now }
+    ensures { IfOk result (λ words. IsPlane (words_at kept.now numbers.now) words.items) }
+{
+    let mut words = Vec::with_capacity(alloc, PLANE)?;
+    for place in 0..PLANE {
+        words.push(characters_only(place, kept[numbers[place] as usize]))?;
+    }
+    Ok(words)
+}
+
 /// The word at a place, without the bits of U+FFFD and of surrogates.
 fn characters_only(place: usize, word: u64) -> u64
     requires { place < 1024 }
@@ -149,48 +165,44 @@ fn characters_only(place: usize, word: u64) -> u64
     }
 }
 
-/// The least number whose bit isn't set.
+/// The least number whose bit isn't set: at most that of the first surrogate.
 fn first_missing(words: &[u64]) -> u32
-    requires { length words.now ≡ 17408 }
+    requires { IsPlaneWithoutSurrogates words.now }
+    ensures low { result ≤ 0xD800 }
     ensures below { (n : ℕ) → n < result → has_bit words.now n ≡ true }
     ensures missing { has_bit words.now result ≡ false }
 {
-    for number in 0..0x110000 {
+    for number in 0..SURROGATE {
         if !has_bit(words, number) {
             return number as u32;
         }
     }
-    0x110000
+    SURROGATE as u32
 }
 
 /// Whether the bit of a number is set.
 #[tactic(auto, unfolding(crate::specs::CharacterSets::has_bit))]
 fn has_bit(words: &[u64], number: usize) -> bool
-    requires long { length words.now ≡ 17408 }
-    requires within { number < 0x110000 }
+    requires { number / 64 < length words.now }
     ensures { result ≡ has_bit words.now number }
 {
     (words[number / WORD] >> (number % WORD) as u32) % 2 == 1
 }
 
-/// The words of the plane and of the pages that differ, and where each page begins.
-fn packed(alloc: Global, words: &[u64]) -> Result<(Vec<u64>, Vec<u16>), AllocError>
-    requires { length words.now ≡ 17408 }
-    ensures pages { IfOk result (λ r. ArePages r.0.items r.1.items) }
-    ensures words { IfOk result (λ r. all_words r.0.items r.1.items ≡ words.now) }
+/// The words of the blocks of a page.
+fn page_at(kept: &[u64], numbers: &[u16]) -> [u64; 64]
+    requires { ArePageNumbers kept.now numbers.now }
+    ensures { result ≡ words_at kept.now numbers.now }
 {
-    let mut kept = Vec::from_slice(alloc, &words[..PLANE])?;
-    let mut pages = Vec::with_capacity(alloc, PAGES)?;
-    for page in 0..PAGES {
-        let start = PLANE + page * PAGE;
-        let place = kept_page(&mut kept, &words[start..start + PAGE])?;
-        pages.push(place as u16)?;
+    let mut page = [0; PAGE];
+    for block in 0..PAGE {
+        page[block] = kept[numbers[block] as usize];
     }
-    Ok((kept, pages))
+    page
 }
 
 /// The place of a page, which is added to those that are kept if it is none of them.
-fn kept_page(kept: &mut Vec<u64>, page: &[u64]) -> Result<usize, AllocError>
+fn put_page(kept: &mut Vec<u64>, page: &[u64]) -> Result<usize, AllocError>
     requires plane { 1024 ≤ length kept.old.items }
     requires page { length page.now ≡ 64 }
     ensures { IfOk result (IsKept kept.old.items page.now kept.new.items) }

@@ -8,7 +8,7 @@ ghost use Rattle.normalizer_tables.specs.inner.TableSets.{HasPlacesWithout};
 ghost use Rattle.normalizer_tables.specs.Ranges.{word_in, words_of, IsRangeList};
 ghost use Rattle.normalizer_tables.specs.Table.{code_points, IsNextWithWord};
 
-use normalizer_sets::{CharacterSet, WORDS};
+use normalizer_sets::CharacterSet;
 use std::alloc::{AllocError, Global};
 use std::marker::Model;
 
@@ -117,11 +117,7 @@ impl Blocks {
         for block in 0..self.blocks.len() {
             kept.push(places_without(&self.blocks[block], bits))?;
         }
-        let mut words = Vec::with_capacity(alloc, WORDS)?;
-        for place in 0..WORDS {
-            words.push(kept[self.numbers[place] as usize])?;
-        }
-        CharacterSet::from_words(words)
+        CharacterSet::from_blocks(alloc, &kept, &self.numbers)
     }
 }
 

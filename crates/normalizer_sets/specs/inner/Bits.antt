@@ -1,6 +1,6 @@
 -- How a set is kept: the words of the Basic Multilingual Plane, and of the 4,096 characters of a page above it those that
 -- differ.
-use Rattle.std.specs.Prelude.{◌≡◌, ℕ, ◌+◌, ◌-◌, ◌*◌, ◌/◌, ◌%◌, ◌==◌, ◌<◌, ◌≤◌, ◌&&◌, true, false, nat_lt, List, length, map, slice_index_or, if◌then◌else◌}
+use Rattle.std.specs.Prelude.{◌≡◌, ℕ, ◌+◌, ◌-◌, ◌*◌, ◌/◌, ◌%◌, ◌==◌, ◌<◌, ◌≤◌, ◌&&◌, All, true, false, nat_lt, List, length, map, slice_index_or, if◌then◌else◌}
 use Rattle.std.specs.Int.{bit_at}
 use Rattle.std.specs.List.{range_with_len}
 use Rattle.normalizer_sets.specs.CharacterSets.{has_bit, may_have}
@@ -30,6 +30,21 @@ pub record IsSet (words pages : List ℕ) (low : ℕ) : Type 0 where
 -- of the word at a place the bits of characters are left
 abbrev pub CharactersOnly : ℕ → ℕ → ℕ → Type 0
 CharactersOnly place word left = (k : ℕ) → k < 64 → (bit_at left k == 1) ≡ (may_have (64 * place + k) && (bit_at word k == 1))
+
+-- the words of the plane, of which the bits of characters are left
+pub record IsPlane (words left : List ℕ) : Type 0 where
+  pub long : length left ≡ 1024
+  pub only : (b : ℕ) → b < 1024 → CharactersOnly b (slice_index_or words b 0) (slice_index_or left b 0)
+
+-- the words of a plane that has no bit of a surrogate
+pub record IsPlaneWithoutSurrogates (words : List ℕ) : Type 0 where
+  pub long : length words ≡ 1024
+  pub surrogate : has_bit words 0xD800 ≡ false
+
+-- each of the 64 blocks of a page has the number of a word
+pub record ArePageNumbers (kept numbers : List ℕ) : Type 0 where
+  pub long : length numbers ≡ 64
+  pub within : All (λ number. number < length kept) numbers
 
 -- the words have a page at a place
 pub record HasPageAt (words page : List ℕ) (at : ℕ) : Type 0 where

@@ -4,16 +4,17 @@ use Rattle.std.specs.Int.{bit_at}
 use Rattle.std.proofs.lemmas.Bool.{cases_Bool, cases_lt}
 use Rattle.std.proofs.lemmas.Bool.Decides.{eqb_tells, nat_tests}
 use Rattle.std.proofs.lemmas.Nat.Bits.{and_high, bit_at_set_same, bit_at_set_other}
-use Rattle.std.proofs.lemmas.List.{get_or_push, get_or_append_left, length_push}
+use Rattle.std.proofs.lemmas.List.Elements.{All-from_get_or}
+use Rattle.std.proofs.lemmas.List.{get_or-map, get_or_push, get_or_append_left, length_push}
 use mir.Syntax.{w64}
-use Rattle.normalizer_sets.specs.CharacterSets.{has, has_bit, may_have}
+use Rattle.normalizer_sets.specs.CharacterSets.{has, has_bit, may_have, words_at, AreNumbers}
 use Rattle.normalizer_sets.proofs.SetLemmas.{IsCandidate-may_have}
 use Rattle.normalizer_tables.specs.Table.{Block, code_points, word_at}
 use Rattle.normalizer_tables.specs.TableSets.{has_no_flag, IsSetWithout}
 use Rattle.normalizer_tables.specs.Words.{is_backward_combining, is_non_round_trip}
 use Rattle.normalizer_tables.specs.inner.Blocks.{IsStored, block_at, stored_words}
 use Rattle.normalizer_tables.specs.inner.TableSets.{HasPlacesWithout}
-use Rattle.normalizer_tables.proofs.code_points.BlockLemmas.{block_at-stored, get_or-stored_words, place-within}
+use Rattle.normalizer_tables.proofs.code_points.BlockLemmas.{block_at-stored, get_or-stored_words, length-numbers, place-within}
 
 -- a word has no flag if none of the two bits is set
 pub has_no_flag-bits : (w : ℕ) → (bit_and w 0xC0000000 == 0) ≡ has_no_flag w
@@ -65,34 +66,26 @@ AreOfBlocks-more bits blocks n kept places so_far here = record {
   ];
 }
 
--- the bits of the blocks at the first places
-pub record AreAtPlaces (kept numbers : List ℕ) (n : ℕ) (words : List ℕ) : Type 0 where
-  pub long : length words ≡ n
-  pub at : (place : ℕ) → place < n → get_or words place 0 ≡ get_or kept (get_or numbers place 0) 0
-
-pub AreAtPlaces-more : (kept numbers : List ℕ) (n : ℕ) (words : List ℕ) (word : ℕ) → AreAtPlaces kept numbers n words → word ≡ get_or kept (get_or numbers n 0) 0
-    → AreAtPlaces kept numbers (n + 1) (words ++ word ∷ [])
-AreAtPlaces-more kept numbers n words word so_far here = record {
-  long = (let k = so_far.long in omega (arith, length_push words word));
-  at = λ i below. elim (cases_lt i n) [
-    | inl earlier ↦ get_or_append_left words (word ∷ []) 0 i (let l = so_far.long in omega arith) ∙ so_far.at i earlier
-    | inr last ↦
-        let same : i ≡ n = omega arith in
-        rw (same, get_or_push words word 0 n (so_far.long)) here
-  ];
+-- so the numbers of blocks are those of words
+pub AreNumbers-blocks : (bits : ℕ) (blocks : List Block) (numbers kept : List ℕ) → IsStored blocks numbers (stored_words blocks numbers) → AreOfBlocks bits blocks (length blocks) kept → AreNumbers kept numbers
+AreNumbers-blocks bits blocks numbers kept stored of_blocks = record {
+  long = length-numbers blocks numbers (stored_words blocks numbers) stored;
+  within = All-from_get_or (λ n. n < length kept) numbers 0 (λ k inside.
+      let within = (block_at-stored blocks numbers (stored_words blocks numbers) stored k (let l = length-numbers blocks numbers (stored_words blocks numbers) stored in omega arith)).0 in
+      omega (arith, within, of_blocks.long));
 }
 
--- so they are the bits of all characters
-module _ (bits : ℕ) (blocks : List Block) (numbers kept words : List ℕ) (stored : IsStored blocks numbers (stored_words blocks numbers))
-    (of_blocks : AreOfBlocks bits blocks (length blocks) kept) (at_places : AreAtPlaces kept numbers 17408 words) where
-  pub IsSetWithout-blocks : (above : ℕ) (set : List ℕ) → ((n : ℕ) → has set n ≡ has words n) → IsSetWithout bits (record { words = stored_words blocks numbers; past = above }) set
+-- and their bits those of all characters
+module _ (bits : ℕ) (blocks : List Block) (numbers kept : List ℕ) (stored : IsStored blocks numbers (stored_words blocks numbers))
+    (of_blocks : AreOfBlocks bits blocks (length blocks) kept) where
+  pub IsSetWithout-blocks : (above : ℕ) (set : List ℕ) → ((n : ℕ) → has set n ≡ has (words_at kept numbers) n) → IsSetWithout bits (record { words = stored_words blocks numbers; past = above }) set
   unfolding has has_bit word_at block_at code_points
   IsSetWithout-blocks above set same n = same n ∙ elim (cases_Bool (may_have n)) [
     | inl may ↦
         let low = (IsCandidate-may_have n may).low in
         let block = n / 64 in
         let place = n % 64 in
-        let at = at_places.at block (omega arith) in
+        let at = get_or-map (λ number. get_or kept number 0) numbers block 0 0 (omega (arith, length-numbers blocks numbers (stored_words blocks numbers) stored)) in
         let within = (block_at-stored blocks numbers (stored_words blocks numbers) stored block (place-within n (omega arith))).0 in
         let of_word = get_or-stored_words blocks numbers n above (omega arith) in
         rw (at, of_word) (ap (λ b. may_have n && b) (of_blocks.places (get_or numbers block 0) within place (omega arith)))
