@@ -5,7 +5,7 @@ use Rattle.std.proofs.Common.{arith}
 use Rattle.std.specs.Prelude.{Contains, OnOk, ◌||◌}
 use Rattle.std.specs.Option.{ok_or, option_and_then}
 use Rattle.std.proofs.lemmas.Bool.{ltb-true, ltb-false, eqb-true}
-use Rattle.normalizer_records.specs.RecordValue.{Uts46RecordValue}
+use Rattle.normalizer_records.specs.Ranges.{RangeStatus}
 use Rattle.normalizer_ucd.specs.declared.error.LineFault.{LineFault}
 use Rattle.normalizer_ucd.specs.declared.error.Place.{Place}
 use Rattle.normalizer_ucd.specs.declared.error.Problem.TheVariants as problems
@@ -13,12 +13,15 @@ use Rattle.normalizer_ucd.specs.declared.error.UcdError.{UcdError}
 use Rattle.normalizer_ucd.specs.declared.error.UcdFile.TheVariants as files
 use Rattle.normalizer_ucd.specs.declared.idna_table.Covered.{Covered}
 use Rattle.normalizer_ucd.specs.declared.idna_table.Disallowed.{Disallowed}
-use Rattle.normalizer_ucd.specs.FallibleReads.{◌>>=◌, fault, read_each, Gives}
-use Rattle.normalizer_ucd.specs.Fields.{code_point, data_of, field, lines}
-use Rattle.normalizer_ucd.specs.IdnaTable.{Lists, ListsAll, RangeStatus}
-use Rattle.normalizer_ucd.specs.IdnaTable.{before_stop, end_of, first_of, full_end, last_of, last_text, name_of, place}
-use Rattle.normalizer_ucd.specs.IdnaTable.{ranges_in, read_fields, read_line, start, status_of, uts46_records_in}
-use Rattle.normalizer_ucd.specs.Wholes.{ends_in_line_feed, whole_lines}
+use Rattle.normalizer_ucd.specs.Fields.{before_stop, code_point, data_of, field, last_text, lines}
+use Rattle.normalizer_ucd.specs.IdnaTable.{Lists, ListsAll}
+use Rattle.normalizer_ucd.specs.Wholes.{cut_off}
+use Rattle.normalizer_ucd.specs.Versions.{other_version, stated_in}
+use Rattle.normalizer_ucd.specs.FallibleReads.{fault, Gives, unless}
+use Rattle.normalizer_ucd.specs.inner.Reads.{◌>>=◌, read_each}
+use Rattle.normalizer_ucd.specs.inner.TableReads.{end_of, first_of, full_end, last_of, name_of, place, ranges_in}
+use Rattle.normalizer_ucd.specs.inner.TableReads.{read_fields, read_line, read_table, start, status_of}
+use Rattle.normalizer_ucd.proofs.ReadingLemmas.{unless_ok}
 use Rattle.normalizer_ucd.proofs.RisingLemmas.{neither}
 
 -- a step and what comes after it
@@ -138,19 +141,15 @@ covers choice parts ranges h c lt =
     ⊎_elim (λ none. absurd (let h : c < 0 = none in omega (arith, h))) (λ has. has)
     (covered choice 1 start parts a.0 c a.1 inside)
 
-lines_are : (file : List ℕ) (parts : List (List ℕ)) → whole_lines files.IdnaMappingTable file ≡ Ok parts → parts
-    ≡ lines file
-unfolding whole_lines
-lines_are file parts h =
-    let a = passed (not (ends_in_line_feed file)) _ _ parts h in
-    sym (ok_is (lines file) parts a.1)
-
 -- what is read is of a table that lists each code point
-pub whole : {V : Type 0} (view : V → List Uts46RecordValue) (choice : Disallowed) (table : List ℕ)
-    (parts : List (List ℕ)) (result : Result V UcdError) → whole_lines files.IdnaMappingTable table ≡ Ok parts →
-    Gives view result (uts46_records_in choice parts) → OnOk result (ListsAll (lines table))
-unfolding uts46_records_in
-whole view choice table parts (Err e) was h = tt
-whole view choice table parts (Ok v) was h =
-    let a = bound (ranges_in choice parts) _ (view v) h in
-    subst ListsAll (lines_are table parts was) (covers choice parts a.0 a.1)
+pub whole : {V : Type 0} (view : V → List RangeStatus) (exclusions : List ℕ) (choice : Disallowed) (table : List ℕ)
+    (result : Result V UcdError) → Gives view result (read_table exclusions choice table) →
+    OnOk result (ListsAll (lines table))
+unfolding read_table
+whole view exclusions choice table (Err e) h = tt
+whole view exclusions choice table (Ok v) h =
+    let a = bound (unless (cut_off files.IdnaMappingTable table) (lines table)) _ (view v) h in
+    let b = bound (unless (other_version (stated_in (lines exclusions)) files.IdnaMappingTable (stated_in a.0)) (tt {0})) _
+    (view v) a.2 in
+    subst ListsAll (sym (unless_ok (cut_off files.IdnaMappingTable table) (lines table) a.0 a.1))
+    (covers choice a.0 (view v) b.2)

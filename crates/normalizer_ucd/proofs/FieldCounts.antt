@@ -7,9 +7,9 @@ use Rattle.std.proofs.lemmas.Option.{slice_get-get_or, slice_get_past}
 use Rattle.std.proofs.lemmas.List.Splits.{length-slice_split}
 use Rattle.normalizer_ucd.specs.declared.error.Place.{Place}
 use Rattle.normalizer_ucd.specs.declared.error.Problem.TheVariants.{MissingField}
-use Rattle.normalizer_ucd.specs.FallibleReads.{fault}
 use Rattle.normalizer_ucd.specs.Fields.{field, trim}
-use Rattle.normalizer_ucd.specs.UnicodeData.{enough_fields}
+use Rattle.normalizer_ucd.specs.FallibleReads.{fault}
+use Rattle.normalizer_ucd.specs.inner.UnicodeReads.{enough_fields}
 
 pub few : (at : Place) (line : List ℕ) → count_by (λ b. b == 0x3B) line < 14 →
     enough_fields at line ≡ Err (fault at MissingField)

@@ -6,7 +6,8 @@ use Rattle.std.proofs.lemmas.List.Sums.{take_while-cons}
 use Rattle.std.proofs.Math.ListN.{drop_of_length-le}
 use Rattle.normalizer_ucd.specs.declared.stated.Version.{Version}
 use Rattle.normalizer_ucd.specs.declared.stated.Statement.{Statement}
-use Rattle.normalizer_ucd.specs.Versions.{find_map, has_data, head_from, statement_in, version_in}
+use Rattle.normalizer_ucd.specs.Fields.{has_data}
+use Rattle.normalizer_ucd.specs.Versions.{find_map, head_from, statement_in, version_in}
 use Rattle.normalizer_ucd.proofs.Loop.{one_more, part_at, texts}
 
 -- what the lines from a place on state, the first by the number n

@@ -9,7 +9,8 @@ use Rattle.std.proofs.Math.ListN.{drop_of_length-le}
 use Rattle.normalizer_ucd.specs.declared.error.LineFault.{LineFault}
 use Rattle.normalizer_ucd.specs.declared.error.UcdError.{UcdError}
 use Rattle.normalizer_ucd.specs.declared.error.UcdError.TheVariants as errors
-use Rattle.normalizer_ucd.specs.FallibleReads.{◌>>=◌, Fails, read_each}
+use Rattle.normalizer_ucd.specs.FallibleReads.{Fails}
+use Rattle.normalizer_ucd.specs.inner.Reads.{◌>>=◌, read_each}
 
 -- what was found before, and what is still read
 abbrev pub with_front : {S B : Type 0} → List B → Result (S × List B) LineFault → Result (S × List B) LineFault

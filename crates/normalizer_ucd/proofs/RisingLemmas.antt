@@ -5,7 +5,7 @@ use Rattle.std.specs.Prelude.{◌||◌}
 use Rattle.std.specs.Option.{option_to_list}
 pub use Rattle.normalizer_records.proofs.RisingLemmas.{from_less, joined, rising, AreWithin, IsWithin}
 use Rattle.normalizer_ucd.specs.declared.error.LineFault.{LineFault}
-use Rattle.normalizer_ucd.specs.FallibleReads.{◌>>=◌, read_each}
+use Rattle.normalizer_ucd.specs.inner.Reads.{◌>>=◌, read_each}
 
 -- a step of reading that succeeds, and what goes on from it
 pub record Bound {A B : Type 0} (m : Result A LineFault) (f : A → Result B LineFault) (y : B) : Type 0 where

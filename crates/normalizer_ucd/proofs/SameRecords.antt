@@ -1,22 +1,21 @@
--- Lists that rise and have the same elements are the same, and lines that mean the same are read as the same.
-use Rattle.std.proofs.Common.{◌≡◌, ◌⊎◌, inl, inr, ◌<◌, ℕ, suc, zero, ◌+◌, Bool, true, false, List, [], ◌∷◌, length}
-use Rattle.std.proofs.Common.{get_or, Option}
-use Rattle.std.proofs.Common.{Result, Ok, Err, refl, sym, ap, subst, ◌∙◌, arith}
-use Rattle.std.specs.Prelude.{AllPairs, Contains, ◌==◌, not, if◌then◌else◌}
-use Rattle.normalizer_records.specs.RecordValue.{RecordValue}
-use Rattle.normalizer_ucd.specs.declared.error.LineFault.{LineFault}
-use Rattle.normalizer_ucd.specs.declared.error.UcdFile.TheVariants as files
-use Rattle.normalizer_ucd.specs.declared.exclusions.Exclusion.{Exclusion}
-use Rattle.normalizer_ucd.specs.Exclusions.{all_mapped, exclusion_of, exclusions_in}
-use Rattle.normalizer_ucd.specs.FallibleReads.{◌>>=◌, read_each}
-use Rattle.normalizer_ucd.specs.Fields.{data_of, lines}
+-- Lists that rise and have the same elements are the same, and files whose lines mean the same state the same records.
+use Rattle.std.proofs.Common.{◌≡◌, inl, inr, ◌<◌, ℕ, suc, List, [], ◌∷◌, length, get_or, Option, Some, None, Ok, refl, sym, ap, subst}
+use Rattle.std.proofs.Common.{◌∙◌, arith}
+use Rattle.std.specs.Prelude.{AllPairs, Contains}
+use Rattle.std.specs.List.{filter_map, flat_map}
+use Rattle.normalizer_records.specs.RecordValue.{RecordValue, Uts46RecordValue}
+use Rattle.normalizer_records.specs.Ranges.{entries_of}
+use Rattle.normalizer_ucd.specs.declared.idna_table.Disallowed.{Disallowed}
+use Rattle.normalizer_ucd.specs.declared.idna_table.StatusName.{StatusName}
+use Rattle.normalizer_ucd.specs.declared.idna_table.StatusName.TheVariants as names
+use Rattle.normalizer_ucd.specs.Fields.{status, code, data_of, lines}
+use Rattle.normalizer_ucd.specs.FileLines.{done, data_lines, data_lines_from, listed as listed_by, range_by, record_by}
+use Rattle.normalizer_ucd.specs.FileFaults.{fault_of_files, fault_of_table}
+use Rattle.normalizer_ucd.specs.UnicodeData.{records_of}
+use Rattle.normalizer_ucd.specs.IdnaTable.{uts46_records_beside, uts46_records_of}
 use Rattle.normalizer_ucd.specs.Layouts.{MeansTheSame, MeanTheSame}
-use Rattle.normalizer_ucd.specs.UnicodeData.{enough_fields, PositionValue, read_fields, read_line, records_by, records_in}
-use Rattle.normalizer_ucd.specs.UnicodeData.{records_of, start}
-use Rattle.normalizer_ucd.specs.Versions.{agree, stated_in}
-use Rattle.normalizer_ucd.specs.Wholes.{whole_lines}
-use Rattle.normalizer_ucd.proofs.RisingLemmas.{bound}
-use Rattle.normalizer_ucd.proofs.StatedRecords.{first_has, later_has, lines_whole, none_has, ok_is}
+use Rattle.normalizer_ucd.proofs.ReadingLemmas.{unless_ok}
+use Rattle.normalizer_ucd.proofs.LinesStated.{first_has, later_has, none_has, pick, same_stated}
 
 module _ {X : Type 0} (key : X → ℕ) where
   abbrev Rises : List X → Type 0
@@ -31,10 +30,6 @@ module _ {X : Type 0} (key : X → ℕ) where
   later : (x : X) (xs : List X) → Rises (x ∷ xs) → Rises xs
   later x xs rises i j d lt within =
       let more : suc j < length (x ∷ xs) = omega arith in rises (suc i) (suc j) d (omega arith) more
-
-  pick : (x y : X) (ys : List X) → Contains (y ∷ ys) x → (y ≡ x) ⊎ Contains ys x
-  pick x y ys (zero, lt, at) = inl at
-  pick x y ys (suc k, lt, at) = inr (k, omega arith, at)
 
   keep : (x y : X) (xs ys : List X) → Rises (x ∷ xs) → y ≡ x → ((z : X) → Contains (x ∷ xs) z → Contains (y ∷ ys) z) →
       (z : X) → Contains xs z → Contains ys z
@@ -72,82 +67,45 @@ module _ {X : Type 0} (key : X → ℕ) where
 
 -- Layouts
 
-pub bind_same : {A B : Type 0} (r : Result A LineFault) (f g : A → Result B LineFault) → ((x : A) → f x ≡ g x) →
-    (r >>= f) ≡ (r >>= g)
-bind_same (Ok x) f g h = h x
-bind_same (Err e) f g h = refl
+one_record : (listed : List ℕ) (line other : List ℕ) → MeansTheSame line other →
+    record_by listed (data_of line) ≡ record_by listed (data_of other)
+one_record listed line other h = rw (h.fields 0, h.fields 1, h.fields 3, h.fields 5) refl
 
-pub each_same : {S A : Type 0} (read : ℕ → S → List ℕ → Result (S × Option A) LineFault) →
-    ((n : ℕ) (s : S) (line other : List ℕ) → MeansTheSame line other → read n s line ≡ read n s other) →
-    (n : ℕ) (s : S) (parts others : List (List ℕ)) → MeanTheSame parts others →
-    read_each read n s parts ≡ read_each read n s others
-unfolding read_each
-each_same read same n s [] [] h = refl
-each_same read same n s [] (other ∷ others) h = absurd h
-each_same read same n s (line ∷ parts) [] h = absurd h
-each_same read same n s (line ∷ parts) (other ∷ others) h =
-    rw (same n s line other h.0)
-    (bind_same (read n s other) _ _ (λ first. rw (each_same read same (n + 1) first.0 parts others h.1) refl))
+one_code : (line other : List ℕ) → MeansTheSame line other → code (data_of line) ≡ code (data_of other)
+one_code line other h = rw (h.fields 0) refl
 
-pub data_same : {A : Type 0} (line other : List ℕ) (x y z : A) → MeansTheSame line other → y ≡ z →
-    (if length (data_of line) == 0 then x else y) ≡ (if length (data_of other) == 0 then x else z)
-data_same line other x y z h is = by (length (data_of line) == 0) (length (data_of other) == 0) h.blank
-  where
-    by : (a b : Bool) → not a ≡ not b → (if a then x else y) ≡ (if b then x else z)
-    by true true e = refl
-    by true false e = absurd (cc)
-    by false true e = absurd (cc)
-    by false false e = is
+one_done : (choice : Disallowed) (line other : List ℕ) → MeansTheSame line other → (o : Option StatusName) →
+    done choice (data_of line) o ≡ done choice (data_of other) o
+one_done choice line other h None = refl
+one_done choice line other h (Some names.Valid) = refl
+one_done choice line other h (Some names.Ignored) = refl
+one_done choice line other h (Some names.Mapped) = rw (h.fields 2) refl
+one_done choice line other h (Some names.Disallowed) = rw (h.fields 0) refl
 
-line_same : (exclusions : List Exclusion) (n : ℕ) (s : PositionValue) (line other : List ℕ) → MeansTheSame line other →
-    read_line exclusions n s line ≡ read_line exclusions n s other
-unfolding read_line read_fields enough_fields
-line_same exclusions n s line other h =
-    data_same line other _ _ _ h (rw (h.fields 14, h.fields 0, h.fields 1, h.fields 3, h.fields 5) refl)
-
-exclusion_same : (n : ℕ) (s : Unit {0}) (line other : List ℕ) → MeansTheSame line other →
-    exclusion_of n s line ≡ exclusion_of n s other
-unfolding exclusion_of
-exclusion_same n s line other h = data_same line other _ _ _ h (rw (h.fields 0) refl)
-
-exclusions_same : (exclusions listed : List (List ℕ)) → MeanTheSame exclusions listed →
-    exclusions_in exclusions ≡ exclusions_in listed
-unfolding exclusions_in
-exclusions_same exclusions listed h = rw (each_same exclusion_of exclusion_same 1 tt exclusions listed h) refl
-
-read_same : (found : List Exclusion) (parts others : List (List ℕ)) → MeanTheSame parts others →
-    records_in found parts ≡ records_in found others
-unfolding records_in
-read_same found parts others h = rw (each_same (read_line found) (line_same found) 1 start parts others h) refl
-
--- the records of lines beside exclusions
-abbrev beside : List (List ℕ) → List Exclusion → Result (List RecordValue) LineFault
-beside parts found = records_in found parts >>= λ records. all_mapped found records >>= λ mapped. Ok records
-
-records_same : (parts others exclusions listed : List (List ℕ)) → MeanTheSame parts others →
-    MeanTheSame exclusions listed → records_by parts exclusions ≡ records_by others listed
-unfolding records_by
-records_same parts others exclusions listed h k =
-    rw (exclusions_same exclusions listed k)
-    (bind_same (exclusions_in listed) (beside parts) (beside others)
-    (λ found. rw (read_same found parts others h) refl))
-
-by_lines : (u e : List ℕ) (xs : List RecordValue) → records_of u e ≡ Ok xs → records_by (lines u) (lines e) ≡ Ok xs
-unfolding records_of
-by_lines u e xs h =
-    let a = bound (whole_lines files.CompositionExclusions e) _ _ h in
-    let b = bound (whole_lines files.UnicodeData u) _ _ a.then_is in
-    let c = bound (agree (stated_in a.value) files.UnicodeData (stated_in b.value)) _ _ b.then_is in
-    subst (λ (parts : List (List ℕ)). records_by parts (lines e) ≡ Ok xs) (lines_whole files.UnicodeData u b.value b.is)
-    (subst (λ (listed : List (List ℕ)). records_by b.value listed ≡ Ok xs)
-    (lines_whole files.CompositionExclusions e a.value a.is)
-    c.then_is)
+one_range : (choice : Disallowed) (line other : List ℕ) → MeansTheSame line other →
+    range_by choice (data_of line) ≡ range_by choice (data_of other)
+one_range choice line other h =
+    rw (one_done choice line other h (status (data_of line)), h.fields 0, h.fields 1) refl
 
 pub files_same : (unicode_data exclusions other listed : List ℕ) (records found : List RecordValue) →
     MeanTheSame (lines unicode_data) (lines other) → MeanTheSame (lines exclusions) (lines listed) →
     records_of unicode_data exclusions ≡ Ok records → records_of other listed ≡ Ok found → records ≡ found
+unfolding records_of
 files_same unicode_data exclusions other listed records found h k r f =
-    ok_is records found
-    (sym (by_lines unicode_data exclusions records r)
-    ∙ records_same (lines unicode_data) (lines other) (lines exclusions) (lines listed) h k
-    ∙ by_lines other listed found f)
+    let es = listed_by (data_lines exclusions) in
+    let fs = listed_by (data_lines listed) in
+    sym (unless_ok (fault_of_files unicode_data exclusions) _ records r)
+    ∙ same_stated (record_by es) (one_record es) 1 None None (lines unicode_data) (lines other) h
+    ∙ ap (λ (cs : List ℕ). filter_map (λ l. record_by cs l.text) (data_lines other))
+    (same_stated code one_code 1 None None (lines exclusions) (lines listed) k)
+    ∙ unless_ok (fault_of_files other listed) _ found f
+
+pub tables_same : (choice : Disallowed) (table other : List ℕ) (records found : List Uts46RecordValue) →
+    MeanTheSame (lines table) (lines other) → uts46_records_of choice table ≡ Ok records →
+    uts46_records_of choice other ≡ Ok found → records ≡ found
+unfolding uts46_records_beside
+tables_same choice table other records found h r f =
+    sym (unless_ok (fault_of_table [] table) _ records r)
+    ∙ ap (flat_map entries_of)
+    (same_stated (range_by choice) (one_range choice) 1 None None (lines table) (lines other) h)
+    ∙ unless_ok (fault_of_table [] other) _ found f

@@ -1,12 +1,13 @@
 -- The mapper's records of IdnaMappingTable.txt are sorted by character.
 use Rattle.std.proofs.Common.{◌≡◌, ℕ, ◌+◌, ◌≤◌, List, Bool, true, false}
-use Rattle.std.proofs.Common.{Option, Some, None, Result, Ok, Err, refl, subst, arith}
+use Rattle.std.proofs.Common.{Option, Some, None, Result, Ok, Err, refl, subst, ◌∙◌, arith}
 use Rattle.std.specs.Prelude.{if◌then◌else◌, nat_lt, ◌==◌, ◌||◌, length}
 use Rattle.std.specs.Option.{option_to_list}
-use Rattle.std.specs.List.{flat_map}
+use Rattle.std.specs.List.{filter_map, flat_map}
 use Rattle.std.proofs.lemmas.Bool.{ltb-false}
 use Rattle.normalizer_records.specs.Faults.{AreMapperRising}
 use Rattle.normalizer_records.proofs.RangeRecords.{AreRanges, character, of_ranges}
+use Rattle.normalizer_records.specs.Ranges.{RangeStatus, entries_of}
 use Rattle.normalizer_records.specs.RecordValue.{Status, Uts46RecordValue}
 use Rattle.normalizer_ucd.specs.declared.error.LineFault.{LineFault}
 use Rattle.normalizer_ucd.specs.declared.error.Place.{Place}
@@ -14,14 +15,18 @@ use Rattle.normalizer_ucd.specs.declared.error.Problem.TheVariants as problems
 use Rattle.normalizer_ucd.specs.declared.error.UcdFile.TheVariants as files
 use Rattle.normalizer_ucd.specs.declared.idna_table.Covered.{Covered}
 use Rattle.normalizer_ucd.specs.declared.idna_table.Disallowed.{Disallowed}
-use Rattle.normalizer_ucd.specs.FallibleReads.{◌>>=◌, fault, read_each}
 use Rattle.normalizer_ucd.specs.Fields.{data_of, lines}
-use Rattle.normalizer_ucd.specs.IdnaTable.{RangeStatus, end_of, entries_of, first_of, full_end, last_of}
-use Rattle.normalizer_ucd.specs.IdnaTable.{name_of}
-use Rattle.normalizer_ucd.specs.IdnaTable.{place, range_status, ranges_in, read_fields, read_line, start, status_of}
-use Rattle.normalizer_ucd.specs.IdnaTable.{uts46_records_beside, uts46_records_in, uts46_records_of}
-use Rattle.normalizer_ucd.specs.Versions.{agree, stated_in}
-use Rattle.normalizer_ucd.specs.Wholes.{whole_lines}
+use Rattle.normalizer_ucd.specs.FileLines.{data_lines, range_by}
+use Rattle.normalizer_ucd.specs.FileFaults.{fault_of_table}
+use Rattle.normalizer_ucd.specs.IdnaTable.{uts46_records_beside}
+use Rattle.normalizer_ucd.specs.Wholes.{cut_off}
+use Rattle.normalizer_ucd.specs.Versions.{other_version, stated_in}
+use Rattle.normalizer_ucd.specs.FallibleReads.{fault, unless}
+use Rattle.normalizer_ucd.specs.inner.Reads.{◌>>=◌, read_each}
+use Rattle.normalizer_ucd.specs.inner.TableReads.{end_of, first_of, full_end, last_of, name_of, place, range_status}
+use Rattle.normalizer_ucd.specs.inner.TableReads.{ranges_in, read_fields, read_line, read_table, start, status_of}
+use Rattle.normalizer_ucd.proofs.ReadingLemmas.{unless_ok}
+use Rattle.normalizer_ucd.proofs.TableReadings.{table_read}
 use Rattle.normalizer_ucd.proofs.RisingLemmas.{bound, neither, parts_of_ok}
 use Rattle.normalizer_ucd.proofs.RisingLemmas.{read_within, rising}
 
@@ -104,26 +109,26 @@ of_lines choice parts ranges h =
     (rising character 0 read.value.0.end (flat_map entries_of read.value.1)
     (of_ranges 0 read.value.0.end read.value.1 within))
 
-in_lines : (choice : Disallowed) (parts : List (List ℕ)) (records : List Uts46RecordValue) →
-    uts46_records_in choice parts ≡ Ok records → AreMapperRising records
-unfolding uts46_records_in
-in_lines choice parts records h =
-    let ranges = bound (ranges_in choice parts) _ _ h in
-    let made : flat_map entries_of ranges.value ≡ records = cc in
-    subst AreMapperRising made (of_lines choice parts ranges.value ranges.is)
+pub ranges_are_rising : (exclusions : List ℕ) (choice : Disallowed) (table : List ℕ) (ranges : List RangeStatus) →
+    read_table exclusions choice table ≡ Ok ranges → AreMapperRising (flat_map entries_of ranges)
+unfolding read_table
+ranges_are_rising exclusions choice table ranges h =
+    let parts = bound (unless (cut_off files.IdnaMappingTable table) (lines table)) _ _ h in
+    let same = bound (unless (other_version (stated_in (lines exclusions)) files.IdnaMappingTable
+    (stated_in parts.value)) (tt {0})) _ _ parts.then_is in
+    of_lines choice parts.value ranges same.then_is
 
-pub mapper_records_are_rising : (choice : Disallowed) (table : List ℕ) (records : List Uts46RecordValue) →
-    uts46_records_of choice table ≡ Ok records → AreMapperRising records
-unfolding uts46_records_of
-mapper_records_are_rising choice table records h =
-    let parts = bound (whole_lines files.IdnaMappingTable table) _ _ h in
-    in_lines choice parts.value records parts.then_is
+by_fault : (o : Option LineFault) (ranges : List RangeStatus) (records : List Uts46RecordValue) →
+    (unless o ranges ≡ Ok ranges → AreMapperRising (flat_map entries_of ranges)) →
+    unless o (flat_map entries_of ranges) ≡ Ok records → AreMapperRising records
+by_fault (Some e) ranges records rises h = absurd (cc)
+by_fault None ranges records rises h =
+    subst AreMapperRising (unless_ok None (flat_map entries_of ranges) records h) (rises refl)
 
-pub records_beside_are_rising : (exclusions table : List ℕ) (choice : Disallowed) (records : List Uts46RecordValue) →
+pub mapper_records_are_rising : (exclusions table : List ℕ) (choice : Disallowed) (records : List Uts46RecordValue) →
     uts46_records_beside exclusions choice table ≡ Ok records → AreMapperRising records
 unfolding uts46_records_beside
-records_beside_are_rising exclusions table choice records h =
-    let parts = bound (whole_lines files.IdnaMappingTable table) _ _ h in
-    let same = bound (agree (stated_in (lines exclusions)) files.IdnaMappingTable
-    (stated_in parts.value)) _ _ parts.then_is in
-    in_lines choice parts.value records same.then_is
+mapper_records_are_rising exclusions table choice records h =
+    let ranges = filter_map (λ l. range_by choice l.text) (data_lines table) in
+    by_fault (fault_of_table exclusions table) ranges records
+    (λ is. ranges_are_rising exclusions choice table ranges (table_read choice exclusions table ∙ is)) h

@@ -1,6 +1,6 @@
 -- The records of UnicodeData.txt are sorted by character.
 use Rattle.std.proofs.Common.{◌≡◌, ℕ, ◌+◌, ◌≤◌, List, Bool, true, false, Option, Some, None, Result, Ok, Err}
-use Rattle.std.proofs.Common.{refl, subst, arith}
+use Rattle.std.proofs.Common.{refl, subst, ◌∙◌, arith}
 use Rattle.std.specs.Prelude.{if◌then◌else◌, nat_lt, ◌==◌, length}
 use Rattle.std.specs.Option.{option_to_list}
 use Rattle.std.proofs.lemmas.Bool.{ltb-false}
@@ -13,17 +13,19 @@ use Rattle.normalizer_ucd.specs.declared.unicode_data.Part.{Part}
 use Rattle.normalizer_ucd.specs.declared.unicode_data.Part.TheVariants.{Whole, First, Last}
 use Rattle.normalizer_ucd.specs.declared.error.Problem.TheVariants as problems
 use Rattle.normalizer_ucd.specs.declared.error.UcdFile.TheVariants as files
-use Rattle.normalizer_ucd.specs.Exclusions.{all_mapped, exclusions_in}
-use Rattle.normalizer_ucd.specs.FallibleReads.{◌>>=◌, fault, read_each}
-use Rattle.normalizer_ucd.specs.Fields.{data_of, is_scalar_value}
-use Rattle.normalizer_ucd.specs.UnicodeData.{class_of, closed_end, code_of, enough_fields, entry_of, field_of}
-use Rattle.normalizer_ucd.specs.UnicodeData.{follows, is_blank, is_listed, opened}
-use Rattle.normalizer_ucd.specs.UnicodeData.{mapping_of, part_named, place, PositionValue, range_name, read_fields}
-use Rattle.normalizer_ucd.specs.UnicodeData.{read_line, records_by, records_in}
-use Rattle.normalizer_ucd.specs.UnicodeData.{records_of, start, step}
-use Rattle.normalizer_ucd.specs.Versions.{agree, stated_in}
-use Rattle.normalizer_ucd.specs.Wholes.{whole_lines}
+use Rattle.normalizer_ucd.specs.Fields.{data_of, is_scalar_value, lines, range_name}
+use Rattle.normalizer_ucd.specs.FileLines.{is_blank}
+use Rattle.normalizer_ucd.specs.UnicodeData.{records_of}
+use Rattle.normalizer_ucd.specs.Wholes.{cut_off}
+use Rattle.normalizer_ucd.specs.Versions.{other_version, stated_in}
+use Rattle.normalizer_ucd.specs.FallibleReads.{fault, unless}
+use Rattle.normalizer_ucd.specs.inner.Reads.{◌>>=◌, field_of, read_each}
+use Rattle.normalizer_ucd.specs.inner.UnicodeReads.{all_mapped, class_of, closed_end, code_of, enough_fields, entry_of}
+use Rattle.normalizer_ucd.specs.inner.UnicodeReads.{exclusions_in, follows, is_listed, mapping_of, opened, part_named}
+use Rattle.normalizer_ucd.specs.inner.UnicodeReads.{place, PositionValue, read_fields, read_files, read_line}
+use Rattle.normalizer_ucd.specs.inner.UnicodeReads.{records_by, records_in, start, step}
 use Rattle.normalizer_ucd.proofs.RisingLemmas.{bound, parts_of_ok, AreWithin, read_within, rising}
+use Rattle.normalizer_ucd.proofs.UnicodeReadings.{files_read}
 
 abbrev character : RecordValue → ℕ
 character r = r.c
@@ -149,9 +151,11 @@ in_both unicode_data listed records h =
 
 pub records_are_rising : (unicode_data exclusions : List ℕ) (records : List RecordValue) →
     records_of unicode_data exclusions ≡ Ok records → AreRising records
-unfolding records_of
+unfolding read_files
 records_are_rising unicode_data exclusions records h =
-    let listed = bound (whole_lines files.CompositionExclusions exclusions) _ _ h in
-    let parts = bound (whole_lines files.UnicodeData unicode_data) _ _ listed.then_is in
-    let same = bound (agree (stated_in listed.value) files.UnicodeData (stated_in parts.value)) _ _ parts.then_is in
+    let listed = bound (unless (cut_off files.CompositionExclusions exclusions) (lines exclusions)) _ _
+    (files_read unicode_data exclusions ∙ h) in
+    let parts = bound (unless (cut_off files.UnicodeData unicode_data) (lines unicode_data)) _ _ listed.then_is in
+    let same = bound (unless (other_version (stated_in listed.value) files.UnicodeData (stated_in parts.value)) (tt {0})) _ _
+    parts.then_is in
     in_both parts.value listed.value records same.then_is

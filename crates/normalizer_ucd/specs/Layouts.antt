@@ -1,7 +1,6 @@
 -- Lines that mean the same, however they are laid out.
 use Rattle.std.specs.Prelude.{◌≡◌, ℕ, List, [], ◌∷◌}
-use Rattle.normalizer_ucd.specs.Fields.{data_of, field}
-use Rattle.normalizer_ucd.specs.Versions.{has_data}
+use Rattle.normalizer_ucd.specs.Fields.{data_of, field, has_data}
 
 -- both lines have data, or neither has, and their fields without white space round them are the same
 pub record MeansTheSame (line other : List ℕ) : Type 0 where

@@ -1,29 +1,21 @@
 -- The line of a file that states a record.
 use Rattle.std.specs.Prelude.{ℕ, ◌==◌, ◌&&◌, nat_le, Bool, false, List, find, Option}
 use Rattle.std.specs.List.{enumerate_from}
-use Rattle.std.specs.Option.{option_and_then, option_map, option_map_or}
+use Rattle.std.specs.Option.{option_map, option_map_or}
 use Rattle.normalizer_records.specs.declared.at_fault.RecordAtFault.{RecordAtFault}
 use Rattle.normalizer_records.specs.declared.at_fault.RecordAtFault.TheVariants.{OfCharacter, OfMapper}
 use Rattle.normalizer_ucd.specs.declared.error.Place.{Place}
 use Rattle.normalizer_ucd.specs.declared.error.UcdFile.{UcdFile}
 use Rattle.normalizer_ucd.specs.declared.error.UcdFile.TheVariants.{UnicodeData, IdnaMappingTable}
-use Rattle.normalizer_ucd.specs.Fields.{code_point, data_of, field, lines}
-use Rattle.normalizer_ucd.specs.IdnaTable.{before_stop, last_text}
-
--- the first and the last code point of field 0; of one code point both are that
-abbrev pub first_code : List ℕ → Option ℕ
-first_code line = option_and_then (λ text. code_point (before_stop text)) (field (data_of line) 0)
-
-abbrev pub last_code : List ℕ → Option ℕ
-last_code line = option_and_then (λ text. code_point (last_text text)) (field (data_of line) 0)
+use Rattle.normalizer_ucd.specs.Fields.{code, data_of, first, last, lines}
 
 -- the line is for the character of the record: its field 0 is that, or in the table a range that has it
 unfoldable pub states : RecordAtFault → List ℕ → Bool
 states (OfCharacter c) line =
-    option_map_or (λ code. code == c) (option_and_then code_point (field (data_of line) 0)) false
+    option_map_or (λ n. n == c) (code (data_of line)) false
 states (OfMapper c) line =
-    option_map_or (λ first. nat_le first c) (first_code line) false
-    && option_map_or (λ last. nat_le c last) (last_code line) false
+    option_map_or (λ first. nat_le first c) (first (data_of line)) false
+    && option_map_or (λ last. nat_le c last) (last (data_of line)) false
 
 -- the first of these lines that is, the first of which has the number n
 unfoldable pub first_stating : UcdFile → RecordAtFault → ℕ → List (List ℕ) → Option Place

@@ -1,6 +1,6 @@
 -- The version of Unicode that a file states in its head.
-use Rattle.std.specs.Prelude.{ℕ, ◌==◌, ◌&&◌, ◌||◌, not, Bool, List, [], ◌∷◌, length, take_while}
-use Rattle.std.specs.Prelude.{Option, Some, None, Result, Ok, Err, if◌then◌else◌}
+use Rattle.std.specs.Prelude.{ℕ, ◌==◌, ◌&&◌, ◌||◌, not, Bool, List, [], ◌∷◌, take_while}
+use Rattle.std.specs.Prelude.{Option, Some, None, if◌then◌else◌}
 use Rattle.std.specs.Option.{option_and_then, option_map, option_or}
 use Rattle.std.specs.List.{slice_split, enumerate_from}
 use Rattle.std.specs.Char.{is_ascii_digit}
@@ -10,7 +10,7 @@ use Rattle.normalizer_ucd.specs.declared.error.UcdFile.{UcdFile}
 use Rattle.normalizer_ucd.specs.declared.stated.Version.{Version}
 use Rattle.normalizer_ucd.specs.declared.stated.Statement.{Statement}
 use Rattle.normalizer_ucd.specs.FallibleReads.{fault}
-use Rattle.normalizer_ucd.specs.Fields.{lines, data_of, number, part}
+use Rattle.normalizer_ucd.specs.Fields.{has_data, lines, number, part}
 
 -- what a function finds in the first item in which it finds something
 abbrev pub find_map : {A B : Type 0} → (A → Option B) → List A → Option B
@@ -37,9 +37,6 @@ version_of word = option_and_then (λ major. option_and_then (λ minor. option_m
 unfoldable pub version_in : List ℕ → Option Version
 version_in line = find_map version_of (words line)
 
-abbrev pub has_data : List ℕ → Bool
-has_data line = not (length (data_of line) == 0)
-
 -- the lines before the first with data, by their numbers from n on
 abbrev pub head_from : ℕ → List (List ℕ) → List (ℕ × List ℕ)
 head_from n parts = take_while (λ x. not (has_data x.1)) (enumerate_from n parts)
@@ -58,9 +55,8 @@ stated_version file = option_map (λ s. s.version) (stated_in (lines file))
 abbrev pub is_same : Version → Version → Bool
 is_same v w = (v.major == w.major) && ((v.minor == w.minor) && (v.update == w.update))
 
--- a file states the version that another states, or one of them states none
-abbrev pub agree : Option Statement → UcdFile → Option Statement → Result (Unit {0}) LineFault
-agree (Some s) name (Some t) =
-    if is_same s.version t.version then Ok tt else Err (fault (record { file = name; line = t.line }) OtherVersion)
-agree (Some s) name None = Ok tt
-agree None name t = Ok tt
+-- the line of a file that states another version than that of another file
+abbrev pub other_version : Option Statement → UcdFile → Option Statement → Option LineFault
+other_version (Some s) name (Some t) =
+    if is_same s.version t.version then None else Some (fault (record { file = name; line = t.line }) OtherVersion)
+other_version _ name _ = None

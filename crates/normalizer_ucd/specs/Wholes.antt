@@ -1,8 +1,8 @@
 -- Which files are whole. Unicode ends CompositionExclusions.txt by the line "# EOF", and UnicodeData.txt by its line
 -- for U+10FFFD. Its IdnaMappingTable.txt has no such line: its ranges are all code points.
 use Rattle.std.specs.Prelude.{ℕ, ◌==◌, ◌&&◌, ◌||◌, nat_eq, not, Bool, true, false, List, [], ◌∷◌, length, codes}
-use Rattle.std.specs.Prelude.{Result, Ok, Err, if◌then◌else◌}
-use Rattle.std.specs.Option.{option_and_then, option_map_or}
+use Rattle.std.specs.Prelude.{Option, Some, None, if◌then◌else◌}
+use Rattle.std.specs.Option.{option_map_or}
 use Rattle.std.specs.List.{after_last, ends_with}
 use Rattle.std.specs.Str.{bytes_eq}
 use Rattle.normalizer_ucd.specs.declared.error.LineFault.{LineFault}
@@ -11,11 +11,7 @@ use Rattle.normalizer_ucd.specs.declared.error.UcdFile.{UcdFile}
 use Rattle.normalizer_ucd.specs.declared.error.UcdFile.TheVariants.{UnicodeData, CompositionExclusions}
 use Rattle.normalizer_ucd.specs.declared.error.UcdFile.TheVariants.{IdnaMappingTable}
 use Rattle.normalizer_ucd.specs.FallibleReads.{fault}
-use Rattle.normalizer_ucd.specs.Fields.{lines, trim_end, field, code_point}
-
--- the end of the name of the last line of a range: "Last>"
-abbrev pub last_mark : List ℕ
-last_mark = 0x4C ∷ 0x61 ∷ 0x73 ∷ 0x74 ∷ 0x3E ∷ []
+use Rattle.normalizer_ucd.specs.Fields.{code, last_mark, lines, name, trim_end}
 
 -- a line feed ends the last line; an empty file has none
 abbrev pub ends_in_line_feed : List ℕ → Bool
@@ -34,8 +30,7 @@ is_end_mark line = bytes_eq line (codes "# EOF")
 
 -- the line closes the range that ends at U+10FFFD
 abbrev pub closes_last_range : List ℕ → Bool
-closes_last_range line = option_map_or (λ code. code == 0x10FFFD) (option_and_then code_point (field line 0)) false
-    && option_map_or (λ name. ends_with nat_eq name last_mark) (field line 1) false
+closes_last_range line = option_map_or (λ n. n == 0x10FFFD) (code line) false && ends_with nat_eq (name line) last_mark
 
 -- a file may end with this line; a table's end is seen by its ranges
 abbrev pub may_end : UcdFile → List ℕ → Bool
@@ -43,9 +38,10 @@ may_end UnicodeData line = is_end_mark line || closes_last_range line
 may_end CompositionExclusions line = is_end_mark line
 may_end IdnaMappingTable line = true
 
--- the lines of a file that isn't cut off
-unfoldable pub whole_lines : UcdFile → List ℕ → Result (List (List ℕ)) LineFault
-whole_lines name file =
-    if not (ends_in_line_feed file) then Err (fault (record { file = name; line = length (lines file) }) CutOff)
-    else if may_end name (last_line file) then Ok (lines file)
-    else Err (fault (record { file = name; line = last_number file }) NoEndMark)
+-- a file that doesn't end so is cut off
+abbrev pub cut_off : UcdFile → List ℕ → Option LineFault
+cut_off name file =
+    if not (ends_in_line_feed file)
+    then Some (fault (record { file = name; line = length (lines file) }) CutOff)
+    else if may_end name (last_line file) then None
+    else Some (fault (record { file = name; line = last_number file }) NoEndMark)

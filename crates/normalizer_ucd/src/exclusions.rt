@@ -1,13 +1,13 @@
 //! CompositionExclusions.txt.
 ghost use Rattle.std.specs.Prelude.{◌≡◌, map};
-ghost use Rattle.normalizer_ucd.specs.Exclusions.{
+ghost use Rattle.normalizer_ucd.specs.FileFaults.{is_mapped};
+ghost use Rattle.normalizer_ucd.specs.FallibleReads.{Gives};
+ghost use Rattle.normalizer_ucd.specs.inner.UnicodeReads.{
   all_mapped,
   exclusion_of,
+  exclusion_place,
   exclusions_in,
-  is_mapped,
-  place,
 };
-ghost use Rattle.normalizer_ucd.specs.FallibleReads.{Gives};
 
 use crate::error::{Place, Problem, UcdError, UcdFile};
 use crate::lines::{code_point, data_of, field, push_found};
@@ -22,7 +22,7 @@ pub(crate) struct Exclusion {
 }
 
 /// The code points that the lines list.
-#[tactic(auto, unfolding(crate::specs::Exclusions::exclusions_in))]
+#[tactic(auto, unfolding(crate::specs::inner::UnicodeReads::exclusions_in))]
 pub(crate) fn exclusions_in(alloc: Global, lines: &[&[u8]]) -> Result<Vec<Exclusion>, UcdError>
     ensures { Gives (λ v. v.items) result (exclusions_in (map (λ line. line.now) lines.now)) }
 {
@@ -34,7 +34,7 @@ pub(crate) fn exclusions_in(alloc: Global, lines: &[&[u8]]) -> Result<Vec<Exclus
     Ok(exclusions)
 }
 
-#[tactic(auto, unfolding(crate::specs::Exclusions::exclusion_of))]
+#[tactic(auto, unfolding(crate::specs::inner::UnicodeReads::exclusion_of))]
 fn exclusion_of(number: usize, line: &[u8]) -> Result<Option<Exclusion>, UcdError>
     ensures { Gives (λ code. (tt, code)) result (exclusion_of number tt line.now) }
 {
@@ -48,7 +48,7 @@ fn exclusion_of(number: usize, line: &[u8]) -> Result<Option<Exclusion>, UcdErro
 }
 
 fn place(number: usize) -> Place
-    ensures { result ≡ place number }
+    ensures { result ≡ exclusion_place number }
 {
     Place {
         file: UcdFile::CompositionExclusions,
@@ -57,7 +57,7 @@ fn place(number: usize) -> Place
 }
 
 /// An error if one of the characters has no canonical mapping.
-#[tactic(auto, unfolding(crate::specs::Exclusions::all_mapped))]
+#[tactic(auto, unfolding(crate::specs::inner::UnicodeReads::all_mapped))]
 pub(crate) fn all_mapped(exclusions: &[Exclusion], records: &[Record]) -> Result<(), UcdError>
     ensures { Gives (λ _. tt) result (all_mapped exclusions.now records.now) }
 {

@@ -4,15 +4,16 @@ ghost use Rattle.std.specs.Str.{bytes_eq};
 ghost use Rattle.std.specs.Option.{option_map};
 ghost use Rattle.std.specs.List.{flat_map, list_any};
 ghost use Rattle.normalizer_records.specs.Statuses.{status_of as status_of_record};
-ghost use Rattle.normalizer_ucd.specs.IdnaTable.{
-  after_stops,
+ghost use Rattle.normalizer_records.specs.Ranges.{entries_of};
+ghost use Rattle.normalizer_ucd.specs.Fields.{last_text, lines, status_named};
+ghost use Rattle.normalizer_ucd.specs.FileLines.{is_kept};
+ghost use Rattle.normalizer_ucd.specs.IdnaTable.{ListsAll, uts46_records_beside, uts46_records_of};
+ghost use Rattle.normalizer_ucd.specs.FallibleReads.{Gives};
+ghost use Rattle.normalizer_ucd.specs.inner.TableReads.{
   end_of,
-  entries_of,
   first_of,
   full_end,
-  is_kept,
   last_of,
-  last_text,
   mapping_of,
   name_of,
   place,
@@ -20,20 +21,15 @@ ghost use Rattle.normalizer_ucd.specs.IdnaTable.{
   ranges_in,
   read_fields,
   read_line,
-  status_named,
+  read_table,
   status_of,
-  uts46_records_beside,
-  uts46_records_in,
-  uts46_records_of,
-  ListsAll,
 };
-ghost use Rattle.normalizer_ucd.specs.Fields.{lines};
-ghost use Rattle.normalizer_ucd.specs.FallibleReads.{Gives};
 
 use crate::error::{Place, Problem, UcdError, UcdFile};
-use crate::lines::{after_first, before_first, characters, code_point, data_of, lines, push_found};
+use crate::lines::{
+    after_first, before_first, characters, code_point, data_of, field_of, lines, push_found,
+};
 use crate::stated::agree;
-use crate::unicode_data::field_of;
 use crate::wholes::whole_lines;
 use normalizer_records::{Uts46Range, Uts46Record, Uts46Status, records_of_ranges};
 use std::alloc::Global;
@@ -74,7 +70,6 @@ struct Covered {
 /// The first line that is wrong, or `Memory`. The lines list all code points from U+0000 to U+10FFFF: a gap is a fault
 /// of the line after it, and an end before U+10FFFF one of the last line with data. If the last line has no line feed,
 /// the file is refused before its lines are read.
-#[tactic(auto, unfolding(crate::specs::IdnaTable::uts46_records_of))]
 pub fn uts46_records_of_idna_table(
     alloc: Global,
     table: &[u8],
@@ -83,15 +78,13 @@ pub fn uts46_records_of_idna_table(
     ensures records { Gives (λ v. v.items) result (uts46_records_of disallowed table.now) }
     ensures whole { OnOk result (ListsAll (lines table.now)) }
 {
-    let lines = whole_lines(alloc, UcdFile::IdnaMappingTable, table)?;
-    uts46_records_in(alloc, disallowed, &lines)
+    uts46_records_beside_exclusions(alloc, &[], table, disallowed)
 }
 
 /// Returns the ranges of the table, of which [`records_of_ranges`] lists those records. Each is of one line.
 ///
 /// # Errors
 /// Those of [`uts46_records_of_idna_table`].
-#[tactic(auto, unfolding(crate::specs::IdnaTable::uts46_records_of))]
 pub fn uts46_ranges_of_idna_table(
     alloc: Global,
     table: &[u8],
@@ -100,8 +93,7 @@ pub fn uts46_ranges_of_idna_table(
     ensures records { Gives (λ v. flat_map entries_of v.items) result (uts46_records_of disallowed table.now) }
     ensures whole { OnOk result (ListsAll (lines table.now)) }
 {
-    let lines = whole_lines(alloc, UcdFile::IdnaMappingTable, table)?;
-    uts46_ranges_in(alloc, disallowed, &lines)
+    uts46_ranges_beside_exclusions(alloc, &[], table, disallowed)
 }
 
 /// Returns the same records, if the table states the version of Unicode that `CompositionExclusions.txt` states, or one
@@ -109,7 +101,6 @@ pub fn uts46_ranges_of_idna_table(
 ///
 /// # Errors
 /// Those of [`uts46_records_of_idna_table`], and before lines are read the line that states another version.
-#[tactic(auto, unfolding(crate::specs::IdnaTable::uts46_records_beside))]
 pub fn uts46_records_beside_exclusions(
     alloc: Global,
     composition_exclusions: &[u8],
@@ -120,10 +111,8 @@ pub fn uts46_records_beside_exclusions(
         (uts46_records_beside composition_exclusions.now disallowed table.now) }
     ensures whole { OnOk result (ListsAll (lines table.now)) }
 {
-    let parts = whole_lines(alloc, UcdFile::IdnaMappingTable, table)?;
-    let listed = lines(alloc, composition_exclusions)?;
-    agree(alloc, &listed, UcdFile::IdnaMappingTable, &parts)?;
-    uts46_records_in(alloc, disallowed, &parts)
+    let ranges = uts46_ranges_beside_exclusions(alloc, composition_exclusions, table, disallowed)?;
+    Ok(records_of_ranges(alloc, &ranges)?)
 }
 
 /// Returns the ranges of the same records, if the table states the version of Unicode that
@@ -131,7 +120,6 @@ pub fn uts46_records_beside_exclusions(
 ///
 /// # Errors
 /// Those of [`uts46_records_beside_exclusions`].
-#[tactic(auto, unfolding(crate::specs::IdnaTable::uts46_records_beside))]
 pub fn uts46_ranges_beside_exclusions(
     alloc: Global,
     composition_exclusions: &[u8],
@@ -142,39 +130,26 @@ pub fn uts46_ranges_beside_exclusions(
         (uts46_records_beside composition_exclusions.now disallowed table.now) }
     ensures whole { OnOk result (ListsAll (lines table.now)) }
 {
+    read_table(alloc, composition_exclusions, table, disallowed)
+}
+
+/// The ranges of the table, if it states no other version than the exclusions.
+#[tactic(auto, unfolding(crate::specs::inner::TableReads::read_table))]
+fn read_table(
+    alloc: Global,
+    composition_exclusions: &[u8],
+    table: &[u8],
+    disallowed: Disallowed,
+) -> Result<Vec<Uts46Range>, UcdError>
+    ensures { Gives (λ v. v.items) result (read_table composition_exclusions.now disallowed table.now) }
+{
     let parts = whole_lines(alloc, UcdFile::IdnaMappingTable, table)?;
     let listed = lines(alloc, composition_exclusions)?;
     agree(alloc, &listed, UcdFile::IdnaMappingTable, &parts)?;
-    uts46_ranges_in(alloc, disallowed, &parts)
+    ranges_in(alloc, disallowed, &parts)
 }
 
-/// The records of the lines of a table.
-#[tactic(auto, unfolding(crate::specs::IdnaTable::uts46_records_in))]
-fn uts46_records_in(
-    alloc: Global,
-    disallowed: Disallowed,
-    lines: &[&[u8]],
-) -> Result<Vec<Uts46Record>, UcdError>
-    ensures { Gives (λ v. v.items) result (uts46_records_in disallowed (map (λ line. line.now) lines.now)) }
-{
-    let ranges = ranges_in(alloc, disallowed, lines)?;
-    Ok(records_of_ranges(alloc, &ranges)?)
-}
-
-/// The ranges of the lines of a table, by the records that they list.
-#[tactic(auto, unfolding(crate::specs::IdnaTable::uts46_records_in))]
-fn uts46_ranges_in(
-    alloc: Global,
-    disallowed: Disallowed,
-    lines: &[&[u8]],
-) -> Result<Vec<Uts46Range>, UcdError>
-    ensures { Gives (λ v. flat_map entries_of v.items) result
-        (uts46_records_in disallowed (map (λ line. line.now) lines.now)) }
-{
-    ranges_in(alloc, disallowed, lines)
-}
-
-#[tactic(auto, unfolding(crate::specs::IdnaTable::ranges_in))]
+#[tactic(auto, unfolding(crate::specs::inner::TableReads::ranges_in))]
 fn ranges_in(
     alloc: Global,
     disallowed: Disallowed,
@@ -212,7 +187,7 @@ fn place(number: usize) -> Place
     }
 }
 
-#[tactic(auto, unfolding(crate::specs::IdnaTable::read_line))]
+#[tactic(auto, unfolding(crate::specs::inner::TableReads::read_line))]
 fn read_line(
     alloc: Global,
     disallowed: Disallowed,
@@ -230,7 +205,7 @@ fn read_line(
     Ok((Covered { end, line: number }, range))
 }
 
-#[tactic(auto, unfolding(crate::specs::IdnaTable::read_fields))]
+#[tactic(auto, unfolding(crate::specs::inner::TableReads::read_fields))]
 fn read_fields(
     alloc: Global,
     disallowed: Disallowed,
@@ -261,25 +236,19 @@ fn has_stop(text: &[u8]) -> bool
     text.iter().any(|b| *b == b'.')
 }
 
-/// What is after two full stops side by side.
-fn after_stops(text: &[u8]) -> &[u8]
-    ensures { result.now ≡ after_stops text.now }
+/// The text of the last code point of a range: what is after two full stops side by side. One code point is its own
+/// range.
+pub(crate) fn last_text(text: &[u8]) -> &[u8]
+    ensures { result.now ≡ last_text text.now }
 {
+    if !has_stop(text) {
+        return text;
+    }
     let rest = after_first(text, b'.');
     if before_first(rest, b'.').is_empty() {
         after_first(rest, b'.')
     } else {
         &[]
-    }
-}
-
-pub(crate) fn last_text(text: &[u8]) -> &[u8]
-    ensures { result.now ≡ last_text text.now }
-{
-    if has_stop(text) {
-        after_stops(text)
-    } else {
-        text
     }
 }
 
@@ -306,7 +275,7 @@ fn is_word(text: &[u8], word: &[u8]) -> bool
     text == word
 }
 
-#[tactic(auto, unfolding(crate::specs::IdnaTable::status_named))]
+#[tactic(auto, unfolding(crate::specs::Fields::status_named))]
 fn status_named(text: &[u8]) -> Option<StatusName>
     ensures { result ≡ status_named text.now }
 {
@@ -355,7 +324,7 @@ fn is_kept(disallowed: Disallowed, first: u32, last: u32) -> bool
 }
 
 /// What is done with the characters of a range, if anything is.
-#[tactic(auto, unfolding(crate::specs::IdnaTable::status_of))]
+#[tactic(auto, unfolding(crate::specs::inner::TableReads::status_of))]
 fn status_of(
     alloc: Global,
     disallowed: Disallowed,

@@ -1,15 +1,13 @@
 //! Laws of what Unicode's files mean. Each function does nothing: its contract is the law.
-ghost use Rattle.std.specs.Prelude.{◌≡◌, ◌↔◌, ℕ, List, Err, Ok, Some};
+ghost use Rattle.std.specs.Prelude.{◌≡◌, ◌↔◌, ℕ, List, [], Err, Ok, Some};
 ghost use Rattle.normalizer_records.specs.Faults.{AreMapperRising, AreRising};
 ghost use Rattle.normalizer_records.specs.RecordValue.{RecordValue, Uts46RecordValue};
-ghost use Rattle.normalizer_ucd.specs.IdnaLines.{AreStatuses};
-ghost use Rattle.normalizer_ucd.specs.IdnaTable.{uts46_records_beside, uts46_records_of};
-ghost use Rattle.normalizer_ucd.specs.UnicodeData.{records_of};
 ghost use Rattle.normalizer_ucd.specs.Fields.{lines};
+ghost use Rattle.normalizer_ucd.specs.FileLines.{AreStated, AreStatuses};
+ghost use Rattle.normalizer_ucd.specs.FileFaults.{fault_of_files, fault_of_table};
+ghost use Rattle.normalizer_ucd.specs.UnicodeData.{records_of};
+ghost use Rattle.normalizer_ucd.specs.IdnaTable.{uts46_records_beside, uts46_records_of};
 ghost use Rattle.normalizer_ucd.specs.Layouts.{MeanTheSame};
-ghost use Rattle.normalizer_ucd.specs.TableFaults.{fault_of_table, fault_of_table_beside};
-ghost use Rattle.normalizer_ucd.specs.UnicodeFaults.{fault_of_files};
-ghost use Rattle.normalizer_ucd.specs.UnicodeLines.{AreStated};
 ghost use Rattle.normalizer_ucd.specs.declared.error.LineFault.{LineFault};
 ghost use Rattle.normalizer_ucd.specs.declared.idna_table.Disallowed.{Disallowed};
 
@@ -52,10 +50,10 @@ pub fn files_are_refused_at_the_first_fault()
 /// thing that is, whichever disallowed characters get a record.
 pub fn tables_are_refused_at_the_first_fault()
     ensures table { (choice : Disallowed) (table : List ℕ) (fault : LineFault) →
-        uts46_records_of choice table ≡ Err fault ↔ (fault_of_table table ≡ Some fault) }
+        uts46_records_of choice table ≡ Err fault ↔ (fault_of_table [] table ≡ Some fault) }
     ensures beside { (choice : Disallowed) (exclusions table : List ℕ) (fault : LineFault) →
         uts46_records_beside exclusions choice table ≡ Err fault
-        ↔ (fault_of_table_beside exclusions table ≡ Some fault) }
+        ↔ (fault_of_table exclusions table ≡ Some fault) }
 {}
 
 /// The lines of the two files, and those of the table, state at most one sorted list of records.

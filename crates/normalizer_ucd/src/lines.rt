@@ -1,24 +1,24 @@
 //! Lines, their fields, and the numbers and characters in them.
-ghost use Rattle.std.specs.Prelude.{◌≡◌, ◌==◌, ◌≤◌, map, Some, ◌++◌, IfOk, OnOk, position};
-ghost use Rattle.std.specs.Option.{option_copied, option_to_list};
+ghost use Rattle.std.specs.Prelude.{◌≡◌, ◌==◌, ◌≤◌, map, ◌++◌, IfOk, OnOk, position};
+ghost use Rattle.std.specs.Option.{ok_or, option_copied, option_to_list};
 ghost use Rattle.std.specs.List.{after_first, before_first, slice_split};
 ghost use Rattle.normalizer_ucd.specs.Fields.{
+  all_some,
   character,
   characters,
-  characters_in,
   code_point,
   data_of,
   field,
   lines,
   number,
   part,
-  read_character,
   trim,
   with_digit,
 };
 ghost use Rattle.normalizer_ucd.specs.FallibleReads.{Gives};
+ghost use Rattle.normalizer_ucd.specs.inner.Reads.{field_of};
 
-use crate::error::{LineFault, UcdError};
+use crate::error::{LineFault, Place, Problem, UcdError};
 use std::alloc::{AllocError, Global};
 
 /// The bytes without white space at either end.
@@ -89,6 +89,12 @@ pub(crate) fn field(line: &[u8], number: usize) -> Option<&[u8]>
     Some(trim(part(line, b';', number)?))
 }
 
+pub(crate) fn field_of(place: Place, line: &[u8], number: usize) -> Result<&[u8], UcdError>
+    ensures { Gives (λ text. text.now) result (field_of place line.now number) }
+{
+    Ok(field(line, number).ok_or(place.fault(Problem::MissingField))?)
+}
+
 fn with_digit(radix: u32, value: u32, digit: u8) -> Option<u32>
     requires least { 2 ≤ radix }
     requires greatest { radix ≤ 36 }
@@ -133,20 +139,21 @@ fn character(text: &[u8]) -> Option<char>
 }
 
 /// The characters that a field lists, or the fault.
+#[tactic(auto, unfolding(crate::specs::Fields::characters))]
 pub(crate) fn characters(
     alloc: Global,
     fault: LineFault,
     text: &[u8],
 ) -> Result<Vec<char>, UcdError>
-    ensures { Gives (λ v. v.items) result (characters fault text.now) }
+    ensures { Gives (λ v. v.items) result (ok_or (characters text.now) fault) }
 {
     let parts = split(alloc, text, b' ')?;
     characters_in(alloc, fault, &parts)
 }
 
-#[tactic(auto, unfolding(crate::specs::Fields::characters_in))]
 fn characters_in(alloc: Global, fault: LineFault, parts: &[&[u8]]) -> Result<Vec<char>, UcdError>
-    ensures { Gives (λ v. v.items) result (characters_in fault (map (λ part. part.now) parts.now)) }
+    ensures { Gives (λ v. v.items) result
+        (ok_or (all_some (map character (map (λ part. part.now) parts.now))) fault) }
 {
     let mut found = Vec::new(alloc);
     for part in parts {
@@ -157,7 +164,7 @@ fn characters_in(alloc: Global, fault: LineFault, parts: &[&[u8]]) -> Result<Vec
 }
 
 fn read_character(fault: LineFault, text: &[u8]) -> Result<char, UcdError>
-    ensures { Gives (λ c. (tt, Some c)) result (read_character fault 0 tt text.now) }
+    ensures { Gives (λ c. c) result (ok_or (character text.now) fault) }
 {
     Ok(character(text).ok_or(fault)?)
 }

@@ -1,13 +1,7 @@
 //! The line of a file that states a record.
 ghost use Rattle.std.specs.Prelude.{◌≡◌, IfOk, map};
-ghost use Rattle.normalizer_ucd.specs.Fields.{lines};
-ghost use Rattle.normalizer_ucd.specs.RecordPlaces.{
-  first_code,
-  first_stating,
-  last_code,
-  place_of_record,
-  states,
-};
+ghost use Rattle.normalizer_ucd.specs.Fields.{data_of, first, last, lines};
+ghost use Rattle.normalizer_ucd.specs.RecordPlaces.{first_stating, place_of_record, states};
 
 use crate::error::{Place, UcdFile};
 use crate::idna_table::last_text;
@@ -83,7 +77,7 @@ fn states(fault: RecordAtFault, line: &[u8]) -> bool
 
 /// The first code point of field 0.
 fn first_code(line: &[u8]) -> Option<u32>
-    ensures { result ≡ first_code line.now }
+    ensures { result ≡ first (data_of line.now) }
 {
     let text = field(data_of(line), 0)?;
     code_point(before_first(text, b'.'))
@@ -91,7 +85,7 @@ fn first_code(line: &[u8]) -> Option<u32>
 
 /// The last code point of field 0.
 fn last_code(line: &[u8]) -> Option<u32>
-    ensures { result ≡ last_code line.now }
+    ensures { result ≡ last (data_of line.now) }
 {
     let text = field(data_of(line), 0)?;
     code_point(last_text(text))

@@ -1,19 +1,19 @@
 //! The version of Unicode that a file states.
 ghost use Rattle.std.specs.Prelude.{◌≡◌, map, IfOk};
-ghost use Rattle.normalizer_ucd.specs.FallibleReads.{Gives};
+ghost use Rattle.normalizer_ucd.specs.Fields.{has_data};
 ghost use Rattle.normalizer_ucd.specs.Versions.{
-  agree,
   find_map,
-  has_data,
   is_digit_or_stop,
   is_same,
   number_at,
-  stated_version,
+  other_version,
   stated_in,
+  stated_version,
   version_in,
   version_of,
   words,
 };
+ghost use Rattle.normalizer_ucd.specs.FallibleReads.{Gives, unless};
 
 use crate::error::{Place, Problem, UcdError, UcdFile};
 use crate::lines::{data_of, lines, number, part};
@@ -57,15 +57,14 @@ pub fn stated_version(alloc: Global, file: &[u8]) -> Result<Option<Version>, All
 }
 
 /// An error if a file states another version than the one stated before.
-#[tactic(auto, unfolding(crate::specs::Versions::agree))]
 pub(crate) fn agree(
     alloc: Global,
     first: &[&[u8]],
     name: UcdFile,
     second: &[&[u8]],
 ) -> Result<(), UcdError>
-    ensures { Gives (λ _. tt) result (agree (stated_in (map (λ line. line.now) first.now)) name
-        (stated_in (map (λ line. line.now) second.now))) }
+    ensures { Gives (λ _. tt) result (unless (other_version (stated_in (map (λ line. line.now) first.now)) name
+        (stated_in (map (λ line. line.now) second.now))) (tt {0})) }
 {
     let Some(wanted) = stated_in(alloc, first)? else {
         return Ok(());

@@ -1,41 +1,37 @@
 //! UnicodeData.txt.
 ghost use Rattle.std.specs.Prelude.{◌≡◌, ◌==◌, ◌≤◌, count_by, map};
-ghost use Rattle.std.specs.Option.{option_copied};
+ghost use Rattle.std.specs.Option.{ok_or, option_copied};
 ghost use Rattle.std.specs.Str.{bytes_eq};
-ghost use Rattle.normalizer_ucd.specs.UnicodeData.{
+ghost use Rattle.normalizer_ucd.specs.Fields.{combining_class, is_tagged, mapping_in, range_name, untagged_mapping};
+ghost use Rattle.normalizer_ucd.specs.FileLines.{is_blank};
+ghost use Rattle.normalizer_ucd.specs.UnicodeData.{records_of};
+ghost use Rattle.normalizer_ucd.specs.FallibleReads.{Gives};
+ghost use Rattle.normalizer_ucd.specs.inner.UnicodeReads.{
   character_of,
   class_of,
   closed_end,
   code_of,
-  combining_class,
   enough_fields,
   entry_of,
-  field_of,
-  is_blank,
   follows,
   is_listed,
-  is_tagged,
-  mapping_in,
   mapping_of,
-  part_named,
   opened,
+  part_named,
   place,
-  range_name,
   read_fields,
+  read_files,
   read_line,
   records_by,
   records_in,
-  records_of,
   step,
-  untagged_mapping,
   value_of,
 };
-ghost use Rattle.normalizer_ucd.specs.FallibleReads.{Gives};
 
 use crate::error::{LineFault, Place, Problem, UcdError, UcdFile};
 use crate::exclusions::{Exclusion, all_mapped, exclusions_in};
 use crate::lines::{
-    after_first, before_first, characters, code_point, data_of, field, number, push_found, trim,
+    after_first, before_first, characters, code_point, data_of, field_of, number, push_found, trim,
 };
 use crate::stated::agree;
 use crate::wholes::whole_lines;
@@ -75,13 +71,24 @@ struct Position<'a> {
 /// let records = records_of_unicode_data(alloc, unicode_data, b"# EOF\n")?;
 /// assert_eq!(rt; records.len(), 2);
 /// ```
-#[tactic(auto, unfolding(crate::specs::UnicodeData::records_of))]
 pub fn records_of_unicode_data(
     alloc: Global,
     unicode_data: &[u8],
     composition_exclusions: &[u8],
 ) -> Result<Vec<Record>, UcdError>
     ensures { Gives (λ v. v.items) result (records_of unicode_data.now composition_exclusions.now) }
+{
+    read_files(alloc, unicode_data, composition_exclusions)
+}
+
+/// The records of the two files, if both are whole and of one version.
+#[tactic(auto, unfolding(crate::specs::inner::UnicodeReads::read_files))]
+fn read_files(
+    alloc: Global,
+    unicode_data: &[u8],
+    composition_exclusions: &[u8],
+) -> Result<Vec<Record>, UcdError>
+    ensures { Gives (λ v. v.items) result (read_files unicode_data.now composition_exclusions.now) }
 {
     let listed = whole_lines(
         alloc,
@@ -94,7 +101,7 @@ pub fn records_of_unicode_data(
 }
 
 /// The records of the lines of both files.
-#[tactic(auto, unfolding(crate::specs::UnicodeData::records_by))]
+#[tactic(auto, unfolding(crate::specs::inner::UnicodeReads::records_by))]
 fn records_by(
     alloc: Global,
     unicode_data: &[&[u8]],
@@ -109,7 +116,7 @@ fn records_by(
     Ok(records)
 }
 
-#[tactic(auto, unfolding(crate::specs::UnicodeData::records_in))]
+#[tactic(auto, unfolding(crate::specs::inner::UnicodeReads::records_in))]
 fn records_in(
     alloc: Global,
     exclusions: &[Exclusion],
@@ -151,7 +158,7 @@ fn closed(position: Position<'_>) -> Result<(), UcdError>
     Ok(())
 }
 
-#[tactic(auto, unfolding(crate::specs::UnicodeData::read_line))]
+#[tactic(auto, unfolding(crate::specs::inner::UnicodeReads::read_line))]
 fn read_line<'a>(
     alloc: Global,
     exclusions: &[Exclusion],
@@ -169,7 +176,7 @@ fn read_line<'a>(
     read_fields(alloc, exclusions, place(number), position, data)
 }
 
-#[tactic(auto, unfolding(crate::specs::UnicodeData::read_fields))]
+#[tactic(auto, unfolding(crate::specs::inner::UnicodeReads::read_fields))]
 fn read_fields<'a>(
     alloc: Global,
     exclusions: &[Exclusion],
@@ -204,7 +211,7 @@ fn is_listed(exclusions: &[Exclusion], code: u32) -> bool
 }
 
 /// What is recorded of a code point, if anything is.
-#[tactic(auto, unfolding(crate::specs::UnicodeData::entry_of))]
+#[tactic(auto, unfolding(crate::specs::inner::UnicodeReads::entry_of))]
 fn entry_of(
     exclusions: &[Exclusion],
     place: Place,
@@ -244,12 +251,6 @@ fn enough_fields(place: Place, line: &[u8]) -> Result<(), UcdError>
         return Err(UcdError::Line(place.fault(Problem::MissingField)));
     }
     Ok(())
-}
-
-pub(crate) fn field_of(place: Place, line: &[u8], number: usize) -> Result<&[u8], UcdError>
-    ensures { Gives (λ text. text.now) result (field_of place line.now number) }
-{
-    Ok(field(line, number).ok_or(place.fault(Problem::MissingField))?)
 }
 
 fn code_of(place: Place, line: &[u8]) -> Result<u32, UcdError>
@@ -297,18 +298,18 @@ fn mapping_of(alloc: Global, place: Place, line: &[u8]) -> Result<(bool, Vec<cha
     ensures { Gives (λ mapping. (mapping.0, mapping.1.items)) result (mapping_of place line.now) }
 {
     let text = field_of(place, line, 5)?;
-    mapping_in(alloc, place.fault(Problem::Mapping), text)
+    let mapping = mapping_in(alloc, place.fault(Problem::Mapping), text)?;
+    Ok((is_tagged(text), mapping))
 }
 
-#[tactic(auto, unfolding(crate::specs::UnicodeData::mapping_in))]
-fn mapping_in(alloc: Global, fault: LineFault, text: &[u8]) -> Result<(bool, Vec<char>), UcdError>
-    ensures { Gives (λ mapping. (mapping.0, mapping.1.items)) result (mapping_in fault text.now) }
+#[tactic(auto, unfolding(crate::specs::Fields::mapping_in))]
+fn mapping_in(alloc: Global, fault: LineFault, text: &[u8]) -> Result<Vec<char>, UcdError>
+    ensures { Gives (λ v. v.items) result (ok_or (mapping_in text.now) fault) }
 {
     if text.is_empty() {
-        return Ok((false, Vec::new(alloc)));
+        return Ok(Vec::new(alloc));
     }
-    let mapping = characters(alloc, fault, untagged(text))?;
-    Ok((is_tagged(text), mapping))
+    characters(alloc, fault, untagged(text))
 }
 
 fn is_tagged(text: &[u8]) -> bool

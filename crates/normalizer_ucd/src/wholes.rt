@@ -1,26 +1,26 @@
 //! Which files are whole.
 ghost use Rattle.std.specs.Prelude.{◌≡◌, ◌==◌, ◌≤◌, not, length, map, IfOk};
 ghost use Rattle.std.specs.List.{suffix_len};
-ghost use Rattle.normalizer_ucd.specs.Fields.{trim_end};
-ghost use Rattle.normalizer_ucd.specs.FallibleReads.{Gives};
+ghost use Rattle.normalizer_ucd.specs.Fields.{lines, trim_end};
 ghost use Rattle.normalizer_ucd.specs.Wholes.{
   closes_last_range,
+  cut_off,
   ends_in_line_feed,
   is_end_mark,
   last_line,
   last_number,
   may_end,
-  whole_lines,
 };
+ghost use Rattle.normalizer_ucd.specs.FallibleReads.{Gives, unless};
 
 use crate::error::{Place, Problem, UcdError, UcdFile};
 use crate::lines::{code_point, field, lines};
 use std::alloc::{AllocError, Global};
 
 /// The lines of a file that isn't cut off.
-#[tactic(auto, unfolding(crate::specs::Wholes::whole_lines))]
+#[tactic(auto, unfolding(crate::specs::Wholes::cut_off))]
 pub(crate) fn whole_lines(alloc: Global, name: UcdFile, file: &[u8]) -> Result<Vec<&[u8]>, UcdError>
-    ensures { Gives (λ v. map (λ part. part.now) v.items) result (whole_lines name file.now) }
+    ensures { Gives (λ v. map (λ part. part.now) v.items) result (unless (cut_off name file.now) (lines file.now)) }
 {
     let parts = lines(alloc, file)?;
     if !ends_in_line_feed(file) {

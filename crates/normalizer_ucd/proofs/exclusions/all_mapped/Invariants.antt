@@ -1,5 +1,5 @@
 use Rattle.std.proofs.Common.{◌≡◌, drop}
-use Rattle.normalizer_ucd.specs.Exclusions.{all_mapped}
+use Rattle.normalizer_ucd.specs.inner.UnicodeReads.{all_mapped}
 use Rattle.normalizer_ucd.proofs.exclusions.all_mapped.Given as goal
 
 abbrev pub invariant-loop-exclusion : goal.invariant-loop-exclusion

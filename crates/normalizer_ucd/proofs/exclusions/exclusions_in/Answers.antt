@@ -1,7 +1,7 @@
 use Rattle.std.proofs.Common.{◌≡◌, ◌+◌, ◌++◌, Ok, refl}
 use Rattle.std.specs.Option.{option_to_list}
 use Rattle.std.proofs.lemmas.Result.{err_from_is_err_and}
-use Rattle.normalizer_ucd.specs.Exclusions.{exclusions_in, exclusion_of}
+use Rattle.normalizer_ucd.specs.inner.UnicodeReads.{exclusions_in, exclusion_of}
 use Rattle.normalizer_ucd.proofs.Loop.{goes_on, ends, is_done, fails_on}
 use Rattle.normalizer_ucd.proofs.exclusions.exclusions_in.Goals as goal
 

@@ -1,6 +1,6 @@
 use Rattle.std.proofs.Common.{◌≡◌, ◌+◌, drop, map}
-use Rattle.normalizer_ucd.specs.FallibleReads.{read_each}
-use Rattle.normalizer_ucd.specs.Exclusions.{exclusion_of}
+use Rattle.normalizer_ucd.specs.inner.Reads.{read_each}
+use Rattle.normalizer_ucd.specs.inner.UnicodeReads.{exclusion_of}
 use Rattle.normalizer_ucd.proofs.Loop.{with_front}
 use Rattle.normalizer_ucd.proofs.exclusions.exclusions_in.Given as goal
 

@@ -1,7 +1,7 @@
 use Rattle.std.proofs.Common.{◌≡◌, ◌+◌, ◌++◌, refl}
 use Rattle.std.specs.Option.{option_to_list}
 use Rattle.std.proofs.lemmas.Result.{err_from_is_err_and}
-use Rattle.normalizer_ucd.specs.IdnaTable.{ranges_in, read_line}
+use Rattle.normalizer_ucd.specs.inner.TableReads.{ranges_in, read_line}
 use Rattle.normalizer_ucd.proofs.Loop.{goes_on, ends, is_done, fails_on, fails_after}
 use Rattle.normalizer_ucd.proofs.idna_table.ranges_in.Goals as goal
 

@@ -1,6 +1,6 @@
 use Rattle.std.proofs.Common.{◌≡◌, ◌+◌, drop, map}
-use Rattle.normalizer_ucd.specs.FallibleReads.{read_each}
-use Rattle.normalizer_ucd.specs.IdnaTable.{read_line, start}
+use Rattle.normalizer_ucd.specs.inner.Reads.{read_each}
+use Rattle.normalizer_ucd.specs.inner.TableReads.{read_line, start}
 use Rattle.normalizer_ucd.proofs.Loop.{with_front}
 use Rattle.normalizer_ucd.proofs.idna_table.ranges_in.Given as goal
 

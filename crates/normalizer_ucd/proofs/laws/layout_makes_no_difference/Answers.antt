@@ -1,5 +1,4 @@
-use Rattle.normalizer_ucd.proofs.SameRecords.{files_same}
-use Rattle.normalizer_ucd.proofs.SameTables.{tables_same}
+use Rattle.normalizer_ucd.proofs.SameRecords.{files_same, tables_same}
 use Rattle.normalizer_ucd.proofs.laws.layout_makes_no_difference.Goals as goal
 
 pub returns : goal.returns

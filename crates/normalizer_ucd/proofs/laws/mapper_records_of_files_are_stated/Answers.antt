@@ -1,5 +1,9 @@
-use Rattle.normalizer_ucd.proofs.StatedStatuses.{statuses_are_stated, statuses_beside_are_stated}
+use Rattle.std.proofs.Common.{[]}
+use Rattle.normalizer_ucd.proofs.StatedRecords.{statuses_are_stated}
 use Rattle.normalizer_ucd.proofs.laws.mapper_records_of_files_are_stated.Goals as goal
 
 pub returns : goal.returns
-returns c = record { table = statuses_are_stated; beside = statuses_beside_are_stated }
+returns c = record {
+  table = λ choice table records h. statuses_are_stated choice [] table records h;
+  beside = λ choice exclusions table records h. statuses_are_stated choice exclusions table records h;
+}

@@ -1,7 +1,7 @@
 use Rattle.std.proofs.Common.{◌≡◌, ◌+◌, ◌++◌, refl}
 use Rattle.std.specs.Option.{option_to_list}
 use Rattle.std.proofs.lemmas.Result.{err_from_is_err_and}
-use Rattle.normalizer_ucd.specs.UnicodeData.{records_in, read_line, value_of}
+use Rattle.normalizer_ucd.specs.inner.UnicodeReads.{records_in, read_line, value_of}
 use Rattle.normalizer_ucd.proofs.Loop.{goes_on, ends, is_done, fails_on, fails_after}
 use Rattle.normalizer_ucd.proofs.unicode_data.records_in.Goals as goal
 

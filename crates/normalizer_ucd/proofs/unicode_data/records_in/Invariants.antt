@@ -1,6 +1,6 @@
 use Rattle.std.proofs.Common.{◌≡◌, ◌+◌, drop, map}
-use Rattle.normalizer_ucd.specs.FallibleReads.{read_each}
-use Rattle.normalizer_ucd.specs.UnicodeData.{read_line, start, value_of}
+use Rattle.normalizer_ucd.specs.inner.Reads.{read_each}
+use Rattle.normalizer_ucd.specs.inner.UnicodeReads.{read_line, start, value_of}
 use Rattle.normalizer_ucd.proofs.Loop.{with_front}
 use Rattle.normalizer_ucd.proofs.unicode_data.records_in.Given as goal
 
