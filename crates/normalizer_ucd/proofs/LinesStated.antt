@@ -1,11 +1,11 @@
 -- What lines state is what a list of their records has, and lines that mean the same state the same.
-use Rattle.std.proofs.Common.{◌≡◌, ◌↔◌, ◌⊎◌, inl, inr, ℕ, zero, suc, ◌+◌, Bool, true, false, List, [], ◌∷◌, ◌++◌}
+use Rattle.std.proofs.Common.{◌≡◌, ◌↔◌, ◌⊎◌, inl, inr, ℕ, zero, suc, ◌+◌, Bool, true, false, List, [], ◌∷◌}
 use Rattle.std.proofs.Common.{Contains, IsSomeAnd, Option, Some, None, refl, sym, ap, subst, ◌∙◌, arith}
-use Rattle.std.specs.Prelude.{filter_map, flat_map, not, if◌then◌else◌}
+use Rattle.std.specs.Prelude.{filter_map, flat_map}
 use Rattle.std.specs.List.{cons_option}
 use Rattle.std.proofs.lemmas.List.Elements.{Contains-append_cases, Contains-append_left, Contains-append_right}
 use Rattle.normalizer_ucd.specs.Fields.{data_of, has_data}
-use Rattle.normalizer_ucd.specs.FileLines.{data_lines_from, DataLine}
+use Rattle.normalizer_ucd.specs.FileLines.{data_lines_from}
 use Rattle.normalizer_ucd.specs.Layouts.{MeansTheSame, MeanTheSame}
 
 -- one element of a list, and those after it

@@ -9,7 +9,7 @@ use Rattle.normalizer_ucd.specs.declared.idna_table.Disallowed.{Disallowed}
 use Rattle.normalizer_ucd.specs.declared.idna_table.StatusName.{StatusName}
 use Rattle.normalizer_ucd.specs.declared.idna_table.StatusName.TheVariants as names
 use Rattle.normalizer_ucd.specs.Fields.{status, code, data_of, lines}
-use Rattle.normalizer_ucd.specs.FileLines.{done, data_lines, data_lines_from, listed as listed_by, range_by, record_by}
+use Rattle.normalizer_ucd.specs.FileLines.{done, data_lines, listed as listed_by, range_by, record_by}
 use Rattle.normalizer_ucd.specs.FileFaults.{fault_of_files, fault_of_table}
 use Rattle.normalizer_ucd.specs.UnicodeData.{records_of}
 use Rattle.normalizer_ucd.specs.IdnaTable.{uts46_records_beside, uts46_records_of}

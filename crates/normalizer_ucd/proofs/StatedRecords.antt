@@ -1,6 +1,6 @@
 -- The records of files are those that their lines state.
 use Rattle.std.proofs.Common.{◌≡◌, ℕ, List, Option, Ok, subst}
-use Rattle.std.specs.List.{filter_map, flat_map}
+use Rattle.std.specs.List.{filter_map}
 use Rattle.std.specs.Prelude.{Contains}
 use Rattle.normalizer_records.specs.Ranges.{RangeStatus, entries_of}
 use Rattle.normalizer_records.specs.RecordValue.{RecordValue, Uts46RecordValue}

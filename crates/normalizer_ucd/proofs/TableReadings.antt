@@ -1,5 +1,5 @@
 -- What is read of IdnaMappingTable.txt is what its lines state.
-use Rattle.std.proofs.Common.{◌≡◌, ◌<◌, ℕ, Bool, true, false, List, [], ◌∷◌, length, Option, Some, None, Result}
+use Rattle.std.proofs.Common.{◌≡◌, ◌<◌, ℕ, Bool, true, false, List, [], length, Option, Some, None, Result}
 use Rattle.std.proofs.Common.{Ok, Err, refl, ap, ◌∙◌, arith}
 use Rattle.std.specs.Prelude.{◌==◌, ◌||◌, filter_map, if◌then◌else◌, nat_lt}
 use Rattle.std.specs.Option.{option_map, option_map_or, option_or}
@@ -22,9 +22,9 @@ use Rattle.normalizer_ucd.specs.FileFaults.{wrong_at}
 use Rattle.normalizer_ucd.specs.Wholes.{cut_off}
 use Rattle.normalizer_ucd.specs.Versions.{other_version, stated_in}
 use Rattle.normalizer_ucd.specs.FallibleReads.{fault, unless}
-use Rattle.normalizer_ucd.specs.inner.Reads.{◌>>=◌, read_each}
+use Rattle.normalizer_ucd.specs.inner.Reads.{◌>>=◌}
 use Rattle.normalizer_ucd.specs.inner.TableReads.{full_end, place, ranges_in, read_fields, read_line, read_table}
-use Rattle.normalizer_ucd.specs.inner.TableReads.{start, status_of}
+use Rattle.normalizer_ucd.specs.inner.TableReads.{status_of}
 use Rattle.normalizer_ucd.proofs.ReadingLemmas.{line_at, no_data, Skips, some_data, Tells, text_of}
 use Rattle.normalizer_ucd.proofs.ReadingLemmas.{then_unless, told}
 

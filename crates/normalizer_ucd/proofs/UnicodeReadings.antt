@@ -1,31 +1,31 @@
 -- What is read of UnicodeData.txt and CompositionExclusions.txt is what their lines state.
 use Rattle.std.proofs.Common.{◌≡◌, ◌<◌, ℕ, ◌+◌, Bool, true, false, List, [], ◌∷◌, length, Option, Some, None}
-use Rattle.std.proofs.Common.{Result, Ok, Err, refl, sym, ap, ◌∙◌, arith}
+use Rattle.std.proofs.Common.{Result, Ok, refl, ap, ◌∙◌, arith}
 use Rattle.std.specs.Prelude.{◌==◌, ◌||◌, ◌&&◌, not, filter_map, if◌then◌else◌, nat_eq, nat_lt}
 use Rattle.std.specs.Option.{option_map, option_map_or, option_and_then, option_or, ok_or, unwrap_or}
 use Rattle.std.specs.Str.{bytes_eq}
-use Rattle.std.specs.List.{cons_option, ends_with, last_or, list_any, slice_split}
+use Rattle.std.specs.List.{ends_with, last_or, list_any, slice_split}
 use Rattle.std.proofs.lemmas.Option.{slice_get_within, slice_get-get_or}
 use Rattle.normalizer_records.specs.RecordValue.{RecordValue}
 use Rattle.normalizer_ucd.specs.declared.error.LineFault.{LineFault}
 use Rattle.normalizer_ucd.specs.declared.error.Problem.TheVariants as problems
 use Rattle.normalizer_ucd.specs.declared.error.UcdFile.TheVariants as files
 use Rattle.normalizer_ucd.specs.declared.exclusions.Exclusion.{Exclusion}
-use Rattle.normalizer_ucd.specs.Fields.{begins_range, code, code_point, combining_class, data_of, ends_range, field}
-use Rattle.normalizer_ucd.specs.Fields.{first_mark, has_data, is_scalar_value, last_mark, lines, mapping_in, name, part}
+use Rattle.normalizer_ucd.specs.Fields.{begins_range, code, code_point, combining_class, data_of, field}
+use Rattle.normalizer_ucd.specs.Fields.{first_mark, is_scalar_value, last_mark, lines, mapping_in, name, part}
 use Rattle.normalizer_ucd.specs.Fields.{range_name, trim}
-use Rattle.normalizer_ucd.specs.FileLines.{data_lines, data_lines_from, DataLine, is_blank, listed as listed_by, record_by}
-use Rattle.normalizer_ucd.specs.FileFaults.{data_findings, fault_of_files, first_wrong, is_mapped}
+use Rattle.normalizer_ucd.specs.FileLines.{data_lines_from, DataLine, is_blank, listed as listed_by, record_by}
+use Rattle.normalizer_ucd.specs.FileFaults.{data_findings, first_wrong, is_mapped}
 use Rattle.normalizer_ucd.specs.FileFaults.{listing_findings, mapping_findings, open_at_end, wrong_at}
 use Rattle.normalizer_ucd.specs.UnicodeData.{records_of}
 use Rattle.normalizer_ucd.specs.Wholes.{cut_off}
 use Rattle.normalizer_ucd.specs.Versions.{other_version, stated_in}
 use Rattle.normalizer_ucd.specs.FallibleReads.{fault, unless}
-use Rattle.normalizer_ucd.specs.inner.Reads.{◌>>=◌, read_each}
+use Rattle.normalizer_ucd.specs.inner.Reads.{◌>>=◌}
 use Rattle.normalizer_ucd.specs.inner.UnicodeReads.{all_mapped, closed_end, enough_fields, entry_of, exclusion_of}
 use Rattle.normalizer_ucd.specs.inner.UnicodeReads.{exclusion_place, exclusions_in, follows, is_listed, opened}
 use Rattle.normalizer_ucd.specs.inner.UnicodeReads.{part_named, place, PositionValue, read_fields, read_files}
-use Rattle.normalizer_ucd.specs.inner.UnicodeReads.{read_line, records_by, records_in, start}
+use Rattle.normalizer_ucd.specs.inner.UnicodeReads.{read_line, records_by, records_in}
 use Rattle.normalizer_ucd.proofs.ReadingLemmas.{line_at, no_data, only_unless, Skips, some_data, Tells, text_of}
 use Rattle.normalizer_ucd.proofs.ReadingLemmas.{then_unless, told}
 

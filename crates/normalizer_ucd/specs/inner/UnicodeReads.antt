@@ -1,7 +1,7 @@
 -- Reading UnicodeData.txt and CompositionExclusions.txt line by line.
 use Rattle.std.specs.Prelude.{ℕ, ◌+◌, ◌==◌, nat_lt, nat_eq, Bool, false, List, [], ◌∷◌, length}
 use Rattle.std.specs.Prelude.{Option, Some, None, Result, Ok, Err, if◌then◌else◌}
-use Rattle.std.specs.Option.{ok_or, option_and_then, option_copied, option_map_or, is_some, is_none}
+use Rattle.std.specs.Option.{ok_or, option_copied, option_map_or, is_some, is_none}
 use Rattle.std.specs.Str.{bytes_eq}
 use Rattle.std.specs.List.{list_any, ends_with}
 use Rattle.normalizer_records.specs.RecordValue.{RecordValue}
@@ -13,7 +13,7 @@ use Rattle.normalizer_ucd.specs.declared.exclusions.Exclusion.{Exclusion}
 use Rattle.normalizer_ucd.specs.declared.unicode_data.Part.{Part}
 use Rattle.normalizer_ucd.specs.declared.unicode_data.Part.TheVariants.{Whole, First, Last}
 use Rattle.normalizer_ucd.specs.declared.unicode_data.Position.{Position}
-use Rattle.normalizer_ucd.specs.Fields.{code, code_point, combining_class, data_of, field, first_mark, is_scalar_value}
+use Rattle.normalizer_ucd.specs.Fields.{code, code_point, combining_class, data_of, first_mark, is_scalar_value}
 use Rattle.normalizer_ucd.specs.Fields.{is_tagged, last_mark, lines, mapping_in, range_name}
 use Rattle.normalizer_ucd.specs.FileLines.{is_blank}
 use Rattle.normalizer_ucd.specs.FileFaults.{is_mapped}
