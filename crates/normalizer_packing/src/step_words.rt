@@ -26,13 +26,14 @@ fn asked_step(entries: &Entries<'_>, entry: &Entry) -> Step
     ensures { result ≡ asked_step entries.now entry.now }
 {
     let list = entry.canonical.as_slice();
+    let is_greek = list.len() == 2 && '\u{1F71}' <= entry.character && entry.character <= '\u{1FFB}';
+    let is_long = 2 < list.len() && entry.character != '\u{212B}';
+    if !is_greek && !is_long {
+        return Step::Default;
+    }
     match spell(entries, entry.character, Some(list)) {
-        Spelling::Short(word)
-            if !is_class_form(word)
-                && list.len() == 2
-                && '\u{1F71}' <= entry.character
-                && entry.character <= '\u{1FFB}' => { entry.mapping }
-        Spelling::Listed if entry.character != '\u{212B}' && 2 < list.len() => entry.mapping,
+        Spelling::Short(word) if is_greek && !is_class_form(word) => entry.mapping,
+        Spelling::Listed if is_long => entry.mapping,
         _ => Step::Default,
     }
 }

@@ -15,19 +15,19 @@ pub returns-clause-listed : goal.returns-clause-listed
 returns-clause-listed c =
     let numbers : List ℕ = breakpoint_numbers c.args.entries.now c.args.pairs.now in
     let all : List ℕ = numbers ++ flat_map ends c.args.ranges.now in
-    let sorted : List ℕ = c.sort_unstable.new.self.items in
-    let moved : IsPermutation all sorted = subst (λ (x : List ℕ). IsPermutation x sorted) c.in_ok-breakpoints.ensures c.sort_unstable.ensures.permutation in
+    let sorted : List ℕ = c.sort.new.self.items in
+    let moved : IsPermutation all sorted = subst (λ (x : List ℕ). IsPermutation x sorted) c.in_ok-breakpoints.ensures c.sort.ensures.permutation in
     let kept = dedup_is nat_eq sorted _ c.dedup.ensures.filtered in
     record {
       all = λ n there. rw kept (Contains-dedup_nat sorted n (Contains-permutation all sorted n moved (Contains-append_left numbers (flat_map ends c.args.ranges.now) n there)));
-      rising = rw kept (IsStrictlyIncreasing-dedup sorted c.sort_unstable.ensures.sorted);
+      rising = rw kept (IsStrictlyIncreasing-dedup sorted c.in_ok-sort.ensures.sorted);
     }
 
 pub returns-clause-ends : goal.returns-clause-ends
 returns-clause-ends c =
     let numbers : List ℕ = breakpoint_numbers c.args.entries.now c.args.pairs.now in
     let all : List ℕ = numbers ++ flat_map ends c.args.ranges.now in
-    let sorted : List ℕ = c.sort_unstable.new.self.items in
-    let moved : IsPermutation all sorted = subst (λ (x : List ℕ). IsPermutation x sorted) c.in_ok-breakpoints.ensures c.sort_unstable.ensures.permutation in
+    let sorted : List ℕ = c.sort.new.self.items in
+    let moved : IsPermutation all sorted = subst (λ (x : List ℕ). IsPermutation x sorted) c.in_ok-breakpoints.ensures c.sort.ensures.permutation in
     let kept = dedup_is nat_eq sorted _ c.dedup.ensures.filtered in
     HasEnds-listed c.args.ranges.now _ (λ n there. rw kept (Contains-dedup_nat sorted n (Contains-permutation all sorted n moved (Contains-append_right numbers (flat_map ends c.args.ranges.now) n there))))
