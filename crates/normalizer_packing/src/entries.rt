@@ -1,7 +1,7 @@
 //! Entries that are sorted by character, looked up by their places.
 #![tactic(auto, unfolding(normalizer_tables::specs::Entries::class_in, normalizer_tables::specs::Entries::list_in))]
 
-ghost use Rattle.std.specs.Prelude.{◌≡◌, [], ◌∷◌, IfOk, map, option_copied};
+ghost use Rattle.std.specs.Prelude.{◌≡◌, [], ◌∷◌, IfOk, IsTrue, map, option_copied};
 ghost use Rattle.normalizer_tables.specs.Entries.{AreRising, class_in, entry_of, list_in};
 ghost use Rattle.normalizer_tables.specs.Places.{ArePlaces};
 
@@ -80,6 +80,16 @@ impl<'a> Entries<'a> {
     {
         self.entry_of(character)
             .map_or(Some(alone), |entry| entry.list(kind))
+    }
+
+    /// Whether a character has the same list in two kinds of data.
+    pub fn have_one_list(&self, kind: Kind, other: Kind, character: char) -> bool
+        ensures { IsTrue result → list_in kind self.now character ≡ list_in other self.now character }
+    {
+        match self.entry_of(character) {
+            Some(entry) => entry.list(kind) == entry.list(other),
+            None => true,
+        }
     }
 }
 

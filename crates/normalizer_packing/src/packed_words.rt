@@ -1,10 +1,10 @@
 //! The words of one kind of data.
 #![tactic(auto, using(crate::proofs::words_of_lists::SpelledWords::packed_words, crate::proofs::lists::ListPlaces::listed_places), unfolding(normalizer_tables::specs::Entries::kept_list))]
 
-ghost use Rattle.std.specs.Prelude.{◌≡◌, ◌<◌, true};
+ghost use Rattle.std.specs.Prelude.{◌≡◌, ◌<◌, [], true, None};
 ghost use Rattle.normalizer_tables.specs.conditions.Conditions.{item_limit};
 ghost use Rattle.normalizer_packing.specs.inner.Beside.{IsReplacedWord, IsWordBeside};
-ghost use Rattle.normalizer_packing.specs.inner.PackedWords.{CanPoint};
+ghost use Rattle.normalizer_packing.specs.inner.PackedWords.{AreOf, ArePacked, CanPoint, SharesWords};
 ghost use Rattle.normalizer_packing.specs.Packing.{IsPackedWord};
 ghost use Rattle.normalizer_packing.specs.Stored.{is_among, item_of, listed_in};
 
@@ -15,12 +15,12 @@ use crate::pointing::pointing_word;
 use crate::spelling::{Spelling, final_word, spell};
 use crate::stores::Stores;
 use crate::table_words::Words;
-use normalizer_tables::CanonicalCompositions;
+use normalizer_tables::{CanonicalCompositions, CodePointTable};
 use normalizer_tables::entry::Kind;
 use normalizer_tables::word::SURROGATE_WORD;
 
 /// What the words of one kind of data are made of.
-#[derive(Drop)]
+#[derive(Clone, Copy)]
 pub struct PackedWords<'a, 'e> {
     /// The entries of all characters.
     pub entries: &'a Entries<'e>,
@@ -32,10 +32,20 @@ pub struct PackedWords<'a, 'e> {
     pub replaced: &'a [(char, char)],
     /// The kind of data.
     pub kind: Kind,
+    /// The words of another kind of data.
+    pub other: Option<OtherWords<'a>>,
+}
+
+/// The words of another kind of data: a character with the same list there has the same word.
+#[derive(Clone, Copy)]
+pub struct OtherWords<'a> {
+    pub kind: Kind,
+    pub table: &'a CodePointTable,
 }
 
 impl Words for PackedWords<'_, '_> {
-    ghost is_ready = { λ w. CanPoint w.entries.now w.stores.now };
+    ghost is_ready = { λ w. CanPoint w.entries.now w.stores.now
+        × ArePacked w.entries.now w.compositions.now w.other };
 
     ghost is_word = { λ w. IsWordBeside w.replaced.now w.kind w.entries.now w.compositions.now };
 
@@ -44,6 +54,47 @@ impl Words for PackedWords<'_, '_> {
             Some(character) if is_in(self.replaced, number) => self.replaced_word(character),
             Some(character) => self.word_of_character(character),
             None => SURROGATE_WORD,
+        }
+    }
+}
+
+impl<'a, 'e> PackedWords<'a, 'e> {
+    /// What the words of canonical data are made of.
+    pub fn new(
+        entries: &'a Entries<'e>,
+        compositions: &'a CanonicalCompositions,
+        stores: &'a Stores<'e>,
+    ) -> Self
+        ensures sources { AreOf entries.now compositions.now stores.now result }
+        ensures kind { result.kind ≡ Kind.Canonical }
+        ensures replaced { result.replaced.now ≡ [] }
+        ensures other { result.other ≡ None }
+    {
+        PackedWords {
+            entries,
+            compositions,
+            stores,
+            replaced: &[],
+            kind: Kind::Canonical,
+            other: None,
+        }
+    }
+
+    /// The same for another kind of data, if characters in these ranges are replaced, and this is the table of this kind.
+    pub fn with(&self, kind: Kind, replaced: &'a [(char, char)], table: &'a CodePointTable) -> Self
+        ensures sources { AreOf self.now.entries.now self.now.compositions.now self.now.stores.now result }
+        ensures kind { result.kind ≡ kind }
+        ensures replaced { result.replaced.now ≡ replaced.now }
+        ensures other { SharesWords self.now.kind table.now result.other }
+    {
+        PackedWords {
+            replaced,
+            kind,
+            other: Some(OtherWords {
+                kind: self.kind,
+                table,
+            }),
+            ..*self
         }
     }
 }
@@ -66,6 +117,20 @@ impl PackedWords<'_, '_> {
     }
 
     fn word_of_character(&self, character: char) -> u32
+        requires stored { CanPoint self.now.entries.now self.now.stores.now }
+        requires other { ArePacked self.now.entries.now self.now.compositions.now self.now.other }
+        ensures { IsPackedWord self.now.kind self.now.entries.now self.now.compositions.now character result }
+    {
+        match self.other {
+            Some(other) if self.entries.have_one_list(self.kind, other.kind, character) => {
+                other.table.get(character)
+            }
+            _ => self.word_by_list(character),
+        }
+    }
+
+    /// The word of a character, by the spelling of its list.
+    fn word_by_list(&self, character: char) -> u32
         requires { CanPoint self.now.entries.now self.now.stores.now }
         ensures { IsPackedWord self.now.kind self.now.entries.now self.now.compositions.now character result }
     {

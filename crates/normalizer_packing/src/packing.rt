@@ -4,7 +4,7 @@ ghost use Rattle.normalizer_tables.specs.conditions.Conditions.{item_limit};
 ghost use Rattle.normalizer_packing.specs.Disallowed.{PacksBeside};
 ghost use Rattle.normalizer_packing.specs.inner.Beside.{HasEnds, PacksKindBeside, PacksReplaced};
 ghost use Rattle.normalizer_packing.specs.inner.Kinds.{PackKinds};
-ghost use Rattle.normalizer_packing.specs.inner.PackedWords.{CanPoint};
+ghost use Rattle.normalizer_packing.specs.inner.PackedWords.{ArePacked, CanPoint};
 ghost use Rattle.normalizer_packing.specs.Packing.{ArePackable};
 ghost use Rattle.normalizer_packing.specs.StepWords.{PacksSteps};
 ghost use Rattle.normalizer_packing.specs.Stored.{needed_items};
@@ -107,14 +107,7 @@ fn parts_of<'e>(
 {
     let breakpoints = breakpoints_of(alloc, entries.as_slice(), &pairs, disallowed)?;
     let compositions = compositions_of(pairs)?;
-    let kinds = kinds_of(
-        alloc,
-        entries,
-        disallowed,
-        &compositions,
-        stores,
-        &breakpoints,
-    )?;
+    let kinds = kinds_of(alloc, &*entries, &*disallowed, &compositions, &*stores, &breakpoints)?;
     let supplement = supplement_of(alloc, entries, &breakpoints)?;
     Ok((kinds, compositions, supplement))
 }
@@ -127,12 +120,12 @@ struct Kinds {
     mapper: DecompositionData,
 }
 
-fn kinds_of<'e>(
+fn kinds_of<'a, 'e>(
     alloc: Global,
-    entries: &Entries<'e>,
-    disallowed: &[(char, char)],
-    compositions: &CanonicalCompositions,
-    stores: &Stores<'e>,
+    entries: &'a Entries<'e>,
+    disallowed: &'a [(char, char)],
+    compositions: &'a CanonicalCompositions,
+    stores: &'a Stores<'e>,
     breakpoints: &[char],
 ) -> Result<Kinds, AllocError>
     requires stored { CanPoint entries.now stores.now }
@@ -140,33 +133,12 @@ fn kinds_of<'e>(
     requires ends { HasEnds disallowed.now breakpoints.now }
     ensures { IfOk result (PackKinds disallowed.now entries.now compositions.now) }
 {
-    let canonical = data_of(
-        alloc,
-        entries,
-        compositions,
-        stores,
-        breakpoints,
-        &[],
-        Kind::Canonical,
-    )?;
-    let compatibility = data_of(
-        alloc,
-        entries,
-        compositions,
-        stores,
-        breakpoints,
-        &[],
-        Kind::Compatibility,
-    )?;
-    let mapper = data_of(
-        alloc,
-        entries,
-        compositions,
-        stores,
-        breakpoints,
-        disallowed,
-        Kind::Mapper,
-    )?;
+    let canonical_words = PackedWords::new(entries, compositions, stores);
+    let canonical = data_of(alloc, &canonical_words, breakpoints)?;
+    let words = canonical_words.with(Kind::Compatibility, &[], &canonical.table);
+    let compatibility = data_of(alloc, &words, breakpoints)?;
+    let mapper_words = words.with(Kind::Mapper, disallowed, &compatibility.table);
+    let mapper = data_of(alloc, &mapper_words, breakpoints)?;
     Ok(Kinds {
         canonical,
         compatibility,
@@ -185,31 +157,22 @@ fn compositions_of(pairs: Vec<(char, char, char)>) -> Result<CanonicalCompositio
     }
 }
 
-/// One kind of data, in which the characters in ranges are replaced.
+/// One kind of data.
 #[tactic(auto, using(crate::proofs::beside::BesideWords::words_alike))]
-fn data_of<'a, 'e>(
+fn data_of(
     alloc: Global,
-    entries: &'a Entries<'e>,
-    compositions: &'a CanonicalCompositions,
-    stores: &'a Stores<'e>,
+    words: &PackedWords<'_, '_>,
     breakpoints: &[char],
-    replaced: &'a [(char, char)],
-    kind: Kind,
 ) -> Result<DecompositionData, AllocError>
-    requires stored { CanPoint entries.now stores.now }
-    requires breakpoints { AreBreakpoints entries.now compositions.now breakpoints.now }
-    requires ends { HasEnds replaced.now breakpoints.now }
-    ensures { IfOk result (PacksKindBeside replaced.now kind entries.now compositions.now) }
+    requires stored { CanPoint words.now.entries.now words.now.stores.now }
+    requires other { ArePacked words.now.entries.now words.now.compositions.now words.now.other }
+    requires breakpoints { AreBreakpoints words.now.entries.now words.now.compositions.now breakpoints.now }
+    requires ends { HasEnds words.now.replaced.now breakpoints.now }
+    ensures { IfOk result (PacksKindBeside words.now.replaced.now words.now.kind
+        words.now.entries.now words.now.compositions.now) }
 {
-    let words = PackedWords {
-        entries,
-        compositions,
-        stores,
-        replaced,
-        kind,
-    };
     Ok(DecompositionData {
-        table: table_of(alloc, &words, breakpoints)?,
-        passthrough_cap: cap_of(entries, compositions, replaced, kind),
+        table: table_of(alloc, words, breakpoints)?,
+        passthrough_cap: cap_of(words.entries, words.compositions, words.replaced, words.kind),
     })
 }

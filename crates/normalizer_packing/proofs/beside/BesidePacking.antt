@@ -25,18 +25,7 @@ use Rattle.normalizer_packing.specs.inner.Beside.{IsReplacedWord, IsWordBeside, 
 use Rattle.normalizer_packing.proofs.beside.BesideLemmas.{canonical-same, canonical_lists-same, classes, compatibility-same, item_of-same, list-apart, list-replaced, needed_items-same}
 use Rattle.normalizer_packing.proofs.beside.BesideLemmas.{replacement_spelled, step_in-same, step_lists-same, supplementary_lists-same}
 use Rattle.normalizer_packing.proofs.beside.BesideWords.{not_composed}
-use Rattle.normalizer_packing.proofs.words_of_lists.SpelledWords.{final_packs, short_packs, listed_packs}
-
--- entries that say the same of a number give it the same word
-word-same : (kind : Kind) (es fs : List EntryValue) (pairs : List Pair) (n w : ℕ) → class_in fs ≡ class_in es → list_in kind fs n ≡ list_in kind es n → ((x : List ℕ) → item_of fs x ≡ item_of es x) →
-    IsPackedWord kind es pairs n w → IsPackedWord kind fs pairs n w
-unfolding kept_list
-word-same kind es fs pairs n w class list item h = by (spelling (class_in es) n (list_in kind es n)) (rw (class, list) refl) h.spelled h.flags
-  where
-    by : (s : Spelling) → spelling (class_in fs) n (list_in kind fs n) ≡ s → IsSpelled es (kept_list kind es n) s w → HasFlags kind es pairs n s w → IsPackedWord kind fs pairs n w
-    by (Final v) is spelled flags = final_packs kind fs pairs n w (is ∙ ap Final (sym spelled))
-    by (Short v) is spelled flags = short_packs kind fs pairs n v w is spelled (rw (class, list) flags)
-    by Listed is spelled flags = listed_packs kind fs pairs n (item_of es (kept_list kind es n)) w is (rw list (sym (item (kept_list kind es n)))) (rw (class, list) spelled) (rw (class, list) flags)
+use Rattle.normalizer_packing.proofs.words_of_lists.SpelledWords.{final_packs, short_packs, word-same}
 
 module _ (es fs : List EntryValue) (pairs : List Pair) (n : ℕ) (class : class_in fs ≡ class_in es) where
   boundary-same : (x : List ℕ) → ListHasBoundary es pairs x → ListHasBoundary fs pairs x
@@ -82,7 +71,7 @@ module _ (ranges : List (ℕ × ℕ)) (entries all : List EntryValue) (pairs : L
   same_kind kind d list h = record {
     words = record {
       complete = h.words.complete;
-      words = λ n within. word-same kind entries all pairs n (word_at d.table n) class (list n) item ((h.words.words n within).packed (none_in n));
+      words = λ n within. word-same kind kind entries all pairs n (word_at d.table n) class (list n) item ((h.words.words n within).packed (none_in n));
       past = h.words.past;
     };
     cap = record {
@@ -105,7 +94,7 @@ module _ (ranges : List (ℕ × ℕ)) (entries all : List EntryValue) (pairs : L
   mapper_words : (n w : ℕ) → n < code_points → IsWordBeside ranges Mapper entries pairs n w → IsPackedWord Mapper all pairs n w
   mapper_words n w within h = elim (cases_Bool (is_in ranges n)) as (λ _. IsPackedWord Mapper all pairs n w) [
     | inl is ↦ replaced_word n w within is (h.replaced is)
-    | inr apart ↦ word-same Mapper entries all pairs n w class (list-apart ranges entries all beside Mapper n apart) item (h.packed apart)
+    | inr apart ↦ word-same Mapper Mapper entries all pairs n w class (list-apart ranges entries all beside Mapper n apart) item (h.packed apart)
   ]
 
   passes_none : (n : ℕ) → n < cap_limit → is_in ranges n ≡ true → IsBelowCap Mapper all pairs n → ⊥

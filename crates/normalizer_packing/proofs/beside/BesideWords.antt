@@ -1,21 +1,26 @@
 -- The words of characters in ranges: neighbours in one range have the same.
-use Rattle.std.proofs.Common.{◌≡◌, ◌≢◌, ◌∙◌, ℕ, ◌+◌, ◌<◌, ◌&&◌, nat_le, List, [], ◌∷◌, flat_map, Contains, Some, None, refl, sym, subst, arith}
+use Rattle.std.proofs.Common.{◌≡◌, ◌≢◌, ◌∙◌, ℕ, ◌+◌, ◌<◌, ◌&&◌, nat_le, List, [], ◌∷◌, flat_map, Contains, Option, Some, None, refl, sym, subst, arith}
 use Rattle.std.specs.Char.{OutOfScalarRange}
 use Rattle.std.proofs.lemmas.Bool.Decides.{nat_tests}
 use Rattle.std.proofs.lemmas.List.Elements.{All-cons, All-head, All-nil, All-tail, Contains-append_right}
 use Rattle.normal_forms.specs.Composition.{compose}
 use Rattle.normal_forms.specs.Reading.{Reading}
 use Rattle.normalizer_tables.specs.conditions.CharacterConditions.{is_surrogate}
+use Rattle.normalizer_tables.specs.Data.{Decompositions}
 use Rattle.normalizer_tables.specs.Entries.{EntryValue, reading_of_entries}
 use Rattle.normalizer_tables.specs.Hangul.{is_hangul_syllable}
 use Rattle.normalizer_tables.specs.Pairs.{Pair}
-use Rattle.normalizer_tables.specs.Table.{code_points}
+use Rattle.normalizer_tables.specs.Table.{Table, code_points}
 use Rattle.normalizer_tables.specs.declared.entry.Kind.{Kind}
 use Rattle.normalizer_packing.specs.Disallowed.{is_in}
 use Rattle.normalizer_packing.specs.Flags.{IsFlagged}
+use Rattle.normalizer_packing.specs.Packing.{IsPackedWord}
 use Rattle.normalizer_packing.specs.Spelling.{final_word}
-use Rattle.normalizer_packing.specs.inner.Beside.{HasEnds, ends, IsReplacedWord, IsWordBeside}
+use Rattle.normalizer_packing.specs.TableWords.{HasWords}
+use Rattle.normalizer_packing.specs.declared.packed_words.OtherWords.{OtherWords}
+use Rattle.normalizer_packing.specs.inner.Beside.{HasEnds, ends, IsReplacedWord, IsWordBeside, PacksKindBeside}
 use Rattle.normalizer_packing.specs.inner.Breakpoints.{AreBreakpoints, IsConstantBetween}
+use Rattle.normalizer_packing.specs.inner.PackedWords.{ArePacked, SharesWords}
 use Rattle.normalizer_packing.proofs.constant_words.ConstantWords.{IsUnlisted-missing, compose-alone, packed_alike, same_final}
 use Rattle.normalizer_packing.proofs.words_of_lists.SpelledWords.{surrogate_packs}
 
@@ -98,3 +103,15 @@ HasEnds-listed (r ∷ ranges) breakpoints all =
     All-cons (λ (s : ℕ × ℕ). Contains breakpoints s.0 × Contains breakpoints s.1) r ranges
     (all r.0 (0, omega arith, refl), all r.1 (1, omega arith, refl))
     (HasEnds-listed ranges breakpoints (λ n there. all n (Contains-append_right (ends r) (flat_map ends ranges) n there)))
+
+-- without ranges the words are those of the entries
+words_beside_none : (kind : Kind) (entries : List EntryValue) (pairs : List Pair) (t : Table) → HasWords (IsWordBeside [] kind entries pairs) t → HasWords (IsPackedWord kind entries pairs) t
+unfolding is_in
+words_beside_none kind entries pairs t h = record { complete = h.complete; words = λ n within. (h.words n within).packed refl; past = h.past }
+
+-- so data without ranges can lend them
+pub ArePacked-shared : (ranges : List (ℕ × ℕ)) (kind : Kind) (entries : List EntryValue) (pairs : List Pair) (d : Decompositions) (t : Table) (o : Option OtherWords) → ranges ≡ [] → d.table ≡ t →
+    SharesWords kind t o → PacksKindBeside ranges kind entries pairs d → ArePacked entries pairs o
+ArePacked-shared ranges kind entries pairs d t None none same shares h = absurd shares
+ArePacked-shared ranges kind entries pairs d t (Some o) none same shares h =
+    rw (shares.0, shares.1, sym same) (words_beside_none kind entries pairs d.table (subst (λ (r : List (ℕ × ℕ)). HasWords (IsWordBeside r kind entries pairs) d.table) none h.words))

@@ -17,35 +17,6 @@ pub find-none : {A : Type 0} (p : A → Bool) (xs : List A) → All (λ x. p x �
 find-none p [] h = refl
 find-none p (x ∷ xs) h = rw (All-head (λ y. p y ≡ false) x xs h) (find-none p xs (All-tail (λ y. p y ≡ false) x xs h))
 
-pub character_at : (entries : List EntryValue) (k : ℕ) (d : EntryValue) → k < length entries → get_or (map (λ e. e.character) entries) k 0 ≡ (get_or entries k d).character
-character_at entries k d within = get_or-map (λ (e : EntryValue). e.character) entries k d 0 within
-
--- entries rise if their characters do
-pub rising_characters : (entries : List EntryValue) → IsStrictlyIncreasing (map (λ e. e.character) entries) → AreRising entries
-rising_characters entries rising i j d below within =
-    let inside : j < length (map (λ e. e.character) entries) = omega (arith, length-map entries (λ (e : EntryValue). e.character)) in
-    omega (arith, AllPairs-from_increasing _ rising i j 0 below inside, character_at entries i d (omega arith), character_at entries j d within)
-
--- entries that rise have those below a character in front
-pub IsPartitionedBy-character : (entries : List EntryValue) (n : ℕ) → AreRising entries → IsPartitionedBy (λ e. nat_lt e.character n) entries
-IsPartitionedBy-character entries n rising i j d le within later = let less = rising i j d in grind (arith, nat_tests)
-
-abbrev pub IsPlaceOf : ℕ → List EntryValue → ℕ → Type 0
-IsPlaceOf n entries at = IsPartitionPoint (λ e. nat_lt e.character n ≡ true) (λ e. nat_lt e.character n ≡ false) entries at
-
-module _ (entries : List EntryValue) (n at : ℕ) (rising : AreRising entries) (is : IsPlaceOf n entries at) where
-  pub entry_of-found : (e : EntryValue) → at < length entries → e ≡ get_or entries at e → e.character ≡ n → entry_of entries n ≡ Some e
-  unfolding entry_of
-  entry_of-found e within here same =
-      let first = position_or_len_is (λ f. f.character == n) entries at e (omega arith) (λ j below. let low = is.0 j e (omega arith) below in grind (arith, nat_tests))
-      (λ _. subst (λ (f : EntryValue). (f.character == n) ≡ true) here (grind (arith, nat_tests))) in
-      find_at (λ f. f.character == n) entries ∙ ap (slice_get entries) first ∙ slice_get_read entries (length entries) at e refl within here
-
-  pub entry_of-none : ((d : EntryValue) → at < length entries → (get_or entries at d).character ≢ n) → entry_of entries n ≡ None
-  unfolding entry_of
-  entry_of-none other =
-      find-none (λ f. f.character == n) entries (λ k d inside. let before = is.0 k d in let behind = is.1 at d in let after = rising at k d in let differs = other d in grind (arith, nat_tests))
-
 pub Contains-map : {X Y : Type 0} (f : X → Y) (xs : List X) (x : X) → Contains xs x → Contains (map f xs) (f x)
 Contains-map f xs x (k, within, is) = (k, omega (arith, length-map xs f), get_or-map f xs k x (f x) within ∙ ap f is)
 

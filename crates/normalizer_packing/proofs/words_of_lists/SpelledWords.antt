@@ -10,10 +10,11 @@ use Rattle.normalizer_tables.specs.Pairs.{Pair}
 use Rattle.normalizer_tables.specs.conditions.CharacterConditions.{is_surrogate}
 use Rattle.normalizer_tables.specs.Table.{code_points}
 use Rattle.normalizer_tables.specs.declared.entry.Kind.{Kind}
+use Rattle.normalizer_packing.specs.declared.spelling.Spelling.{Spelling}
 use Rattle.normalizer_packing.specs.declared.spelling.Spelling.TheVariants.{Final, Short, Listed}
 use Rattle.normalizer_tables.specs.Entries.{EntryValue, class_in, reading_of_entries, entry_of, kept_list, list_in, own_list}
 use Rattle.normalizer_packing.specs.Flags.{IsFlagged, without_flags}
-use Rattle.normalizer_packing.specs.Packing.{IsPackedWord}
+use Rattle.normalizer_packing.specs.Packing.{HasFlags, IsPackedWord, IsSpelled}
 use Rattle.normalizer_packing.specs.Spelling.{final_word, list_eq, spelling, spelling_by_list, spelling_or_ignored}
 use Rattle.normalizer_packing.specs.Stored.{is_among, item_of, listed_in, listed_of, pointing_word}
 use Rattle.normalizer_packing.proofs.lists.TableLemmas.{eq_list}
@@ -31,6 +32,22 @@ module _ (kind : Kind) (entries : List EntryValue) (pairs : List Pair) (n : ℕ)
       without_flags w ≡ pointing_word (class_in entries) (kept_list kind entries n) item → IsFlagged (reading_of_entries entries pairs) pairs n (kept_list kind entries n) w →
       IsPackedWord kind entries pairs n w
   listed_packs item w is item_is same flags = record { spelled = rw is (same ∙ ap (pointing_word (class_in entries) (kept_list kind entries n)) item_is); flags = rw is flags }
+
+-- entries that say the same of a number, also in data of two kinds, give it the same word
+pub word-same : (kind other : Kind) (es fs : List EntryValue) (pairs : List Pair) (n w : ℕ) → class_in fs ≡ class_in es → list_in other fs n ≡ list_in kind es n →
+    ((x : List ℕ) → item_of fs x ≡ item_of es x) → IsPackedWord kind es pairs n w → IsPackedWord other fs pairs n w
+unfolding kept_list
+word-same kind other es fs pairs n w class list item h = by (spelling (class_in es) n (list_in kind es n)) (rw (class, list) refl) h.spelled h.flags
+  where
+    by : (s : Spelling) → spelling (class_in fs) n (list_in other fs n) ≡ s → IsSpelled es (kept_list kind es n) s w → HasFlags kind es pairs n s w → IsPackedWord other fs pairs n w
+    by (Final v) is spelled flags = final_packs other fs pairs n w (is ∙ ap Final (sym spelled))
+    by (Short v) is spelled flags = short_packs other fs pairs n v w is spelled (rw (class, list) flags)
+    by Listed is spelled flags = listed_packs other fs pairs n (item_of es (kept_list kind es n)) w is (rw list (sym (item (kept_list kind es n)))) (rw (class, list) spelled) (rw (class, list) flags)
+
+-- the word in another kind of data, if that has the same list
+pub other_word : (kind other : Kind) (entries : List EntryValue) (pairs : List Pair) (n w : ℕ) → list_in kind entries n ≡ list_in other entries n → IsPackedWord other entries pairs n w →
+    IsPackedWord kind entries pairs n w
+other_word kind other entries pairs n w list h = word-same other kind entries entries pairs n w refl list (λ x. refl) h
 
 -- the word of a character packs it
 pub ruleset packed_words = (final_packs, short_packs, listed_packs)
