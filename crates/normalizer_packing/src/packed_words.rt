@@ -15,9 +15,9 @@ use crate::pointing::pointing_word;
 use crate::spelling::{Spelling, final_word, spell};
 use crate::stores::Stores;
 use crate::table_words::Words;
-use normalizer_tables::{CanonicalCompositions, CodePointTable};
 use normalizer_tables::entry::Kind;
 use normalizer_tables::word::SURROGATE_WORD;
+use normalizer_tables::{CanonicalCompositions, CodePointTable};
 
 /// What the words of one kind of data are made of.
 #[derive(Clone, Copy)]

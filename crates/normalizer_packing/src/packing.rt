@@ -107,7 +107,14 @@ fn parts_of<'e>(
 {
     let breakpoints = breakpoints_of(alloc, entries.as_slice(), &pairs, disallowed)?;
     let compositions = compositions_of(pairs)?;
-    let kinds = kinds_of(alloc, &*entries, &*disallowed, &compositions, &*stores, &breakpoints)?;
+    let kinds = kinds_of(
+        alloc,
+        &*entries,
+        &*disallowed,
+        &compositions,
+        &*stores,
+        &breakpoints,
+    )?;
     let supplement = supplement_of(alloc, entries, &breakpoints)?;
     Ok((kinds, compositions, supplement))
 }
@@ -135,9 +142,9 @@ fn kinds_of<'a, 'e>(
 {
     let canonical_words = PackedWords::new(entries, compositions, stores);
     let canonical = data_of(alloc, &canonical_words, breakpoints)?;
-    let words = canonical_words.with(Kind::Compatibility, &[], &canonical.table);
-    let compatibility = data_of(alloc, &words, breakpoints)?;
-    let mapper_words = words.with(Kind::Mapper, disallowed, &compatibility.table);
+    let compatibility_words = canonical_words.with(Kind::Compatibility, &[], &canonical.table);
+    let compatibility = data_of(alloc, &compatibility_words, breakpoints)?;
+    let mapper_words = canonical_words.with(Kind::Mapper, disallowed, &canonical.table);
     let mapper = data_of(alloc, &mapper_words, breakpoints)?;
     Ok(Kinds {
         canonical,
@@ -173,6 +180,11 @@ fn data_of(
 {
     Ok(DecompositionData {
         table: table_of(alloc, words, breakpoints)?,
-        passthrough_cap: cap_of(words.entries, words.compositions, words.replaced, words.kind),
+        passthrough_cap: cap_of(
+            words.entries,
+            words.compositions,
+            words.replaced,
+            words.kind,
+        ),
     })
 }

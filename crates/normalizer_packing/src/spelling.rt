@@ -1,9 +1,9 @@
 //! How the word of a character spells its list.
 #![tactic(auto, unfolding(crate::specs::Spelling::spelling, crate::specs::Spelling::spelling_or_ignored, crate::specs::Spelling::final_word, normalizer_tables::specs::conditions::Conditions::is_surrogate, crate::specs::Spelling::spelling_by_list, crate::specs::Spelling::has_fixed_list, crate::specs::Spelling::spelling_of_list, crate::specs::Spelling::spells_two, normalizer_tables::specs::Words::has_high_zeros, normalizer_tables::specs::Words::has_low_zeros))]
 
-ghost use Rattle.std.specs.Prelude.{◌≡◌, option_copied};
+ghost use Rattle.std.specs.Prelude.{◌≡◌, [], ◌∷◌, option_copied};
 ghost use Rattle.normalizer_tables.specs.Entries.{class_in};
-ghost use Rattle.normalizer_packing.specs.Spelling.{HasRoomForFlags, final_word, has_fixed_list, have_classes};
+ghost use Rattle.normalizer_packing.specs.Spelling.{HasRoomForFlags, final_word, has_fixed_list, have_classes, list_eq};
 ghost use Rattle.normalizer_packing.specs.Spelling.{spelling, spelling_by_list, spelling_of_list};
 ghost use Rattle.normalizer_packing.specs.Spelling.{spelling_of_two};
 ghost use Rattle.normalizer_tables.specs.conditions.Conditions.{is_surrogate};
@@ -63,13 +63,23 @@ fn spelling_by_list(entries: &Entries<'_>, character: char, list: &[char]) -> Sp
     ensures line { result ≡ spelling_by_list (class_in entries.now) character list.now }
     ensures room { HasRoomForFlags result }
 {
-    let class = entries.class_of(character) as u32;
     if has_fixed_list(entries, character, list) {
-        Spelling::Short(0xD900 + class)
-    } else if list == [character].as_slice() {
+        Spelling::Short(0xD900 + entries.class_of(character) as u32)
+    } else if is_alone(character, list) {
+        let class = entries.class_of(character) as u32;
         Spelling::Short(if class == 0 { 0 } else { 0xD800 + class })
     } else {
         spelling_of_list(entries, character, list)
+    }
+}
+
+/// Whether a list is the character alone.
+fn is_alone(character: char, list: &[char]) -> bool
+    ensures { result ≡ list_eq list.now (character ∷ []) }
+{
+    match list {
+        &[member] => member == character,
+        _ => false,
     }
 }
 

@@ -26,7 +26,9 @@ fn asked_step(entries: &Entries<'_>, entry: &Entry) -> Step
     ensures { result ≡ asked_step entries.now entry.now }
 {
     let list = entry.canonical.as_slice();
-    let is_greek = list.len() == 2 && '\u{1F71}' <= entry.character && entry.character <= '\u{1FFB}';
+    let is_greek = list.len() == 2
+        && '\u{1F71}' <= entry.character
+        && entry.character <= '\u{1FFB}';
     let is_long = 2 < list.len() && entry.character != '\u{212B}';
     if !is_greek && !is_long {
         return Step::Default;
