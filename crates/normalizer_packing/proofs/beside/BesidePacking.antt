@@ -15,10 +15,10 @@ use Rattle.normalizer_tables.specs.declared.entry.Kind.{Kind}
 use Rattle.normalizer_tables.specs.declared.entry.Kind.TheVariants.{Canonical, Compatibility, Mapper}
 use Rattle.normalizer_packing.specs.declared.Packed.{Packed}
 use Rattle.normalizer_packing.specs.declared.spelling.Spelling.{Spelling}
-use Rattle.normalizer_packing.specs.declared.spelling.Spelling.TheVariants.{Final, Short, Listed}
+use Rattle.normalizer_packing.specs.declared.spelling.Spelling.TheVariants.{Final}
 use Rattle.normalizer_packing.specs.Caps.{IsBelowCap, IsBelowCapIf, ListHasBoundary}
 use Rattle.normalizer_packing.specs.Disallowed.{AreBeside, PacksBeside, is_in}
-use Rattle.normalizer_packing.specs.Packing.{HasFlags, IsPackedWord, IsSpelled, Packs, PacksKind}
+use Rattle.normalizer_packing.specs.Packing.{IsPackedWord, Packs, PacksKind}
 use Rattle.normalizer_packing.specs.Spelling.{final_word, spelling, spelling_or_ignored}
 use Rattle.normalizer_packing.specs.Stored.{item_of, tables_of}
 use Rattle.normalizer_packing.specs.inner.Beside.{IsReplacedWord, IsWordBeside, PacksKindBeside, PacksReplaced}
