@@ -6,38 +6,30 @@ ghost use Rattle.normalizer_packing.specs.inner.Beside.{IsCapBeside, MayPass};
 use crate::disallowed::is_in;
 use crate::entries::Entries;
 use crate::flags::composes_to;
+use crate::packed_words::PackedWords;
 use normalizer_tables::condition::CAP_LIMIT;
 use normalizer_tables::entry::Kind;
 use normalizer_tables::{CanonicalCompositions, is_never_second};
 
 /// The least character that a composing loop may not pass so, but at most the limit. It may pass none in the ranges.
-pub fn cap_of(
-    entries: &Entries<'_>,
-    compositions: &CanonicalCompositions,
-    replaced: &[(char, char)],
-    kind: Kind,
-) -> u16
-    ensures { IsCapBeside replaced.now kind entries.now compositions.now result }
+pub fn cap_of(words: &PackedWords<'_, '_>) -> u16
+    ensures { IsCapBeside words.now.replaced.now words.now.kind words.now.entries.now words.now.compositions.now result }
 {
     for number in 0..CAP_LIMIT {
-        if !may_pass(entries, compositions, replaced, kind, number) {
+        if !may_pass(words, number) {
             return number;
         }
     }
     CAP_LIMIT
 }
 
-fn may_pass(
-    entries: &Entries<'_>,
-    compositions: &CanonicalCompositions,
-    replaced: &[(char, char)],
-    kind: Kind,
-    number: u16,
-) -> bool
+fn may_pass(words: &PackedWords<'_, '_>, number: u16) -> bool
     requires { number < 0xD800 }
-    ensures { IsTrue result ↔ MayPass replaced.now kind entries.now compositions.now number }
+    ensures { IsTrue result ↔
+        MayPass words.now.replaced.now words.now.kind words.now.entries.now words.now.compositions.now number }
 {
-    !is_in(replaced, number as u32) && is_below_cap(entries, compositions, kind, number)
+    !is_in(words.replaced, number as u32)
+        && is_below_cap(words.entries, words.compositions, words.kind, number)
 }
 
 /// Whether a composing loop may pass a number so, by the entries.

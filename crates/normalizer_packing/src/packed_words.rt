@@ -39,7 +39,9 @@ pub struct PackedWords<'a, 'e> {
 /// The words of another kind of data: a character with the same list there has the same word.
 #[derive(Clone, Copy)]
 pub struct OtherWords<'a> {
+    /// The other kind.
     pub kind: Kind,
+    /// Its table.
     pub table: &'a CodePointTable,
 }
 
@@ -80,7 +82,7 @@ impl<'a, 'e> PackedWords<'a, 'e> {
         }
     }
 
-    /// The same for another kind of data, if characters in these ranges are replaced, and this is the table of this kind.
+    /// The same for another kind of data, if characters in these ranges are replaced. The table is that of this kind.
     pub fn with(&self, kind: Kind, replaced: &'a [(char, char)], table: &'a CodePointTable) -> Self
         ensures sources { AreOf self.now.entries.now self.now.compositions.now self.now.stores.now result }
         ensures kind { result.kind ≡ kind }

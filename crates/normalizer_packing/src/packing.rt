@@ -180,11 +180,6 @@ fn data_of(
 {
     Ok(DecompositionData {
         table: table_of(alloc, words, breakpoints)?,
-        passthrough_cap: cap_of(
-            words.entries,
-            words.compositions,
-            words.replaced,
-            words.kind,
-        ),
+        passthrough_cap: cap_of(words),
     })
 }

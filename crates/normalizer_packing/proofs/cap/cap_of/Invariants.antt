@@ -4,4 +4,4 @@ use Rattle.normalizer_packing.proofs.cap.cap_of.Given as goal
 
 -- all numbers so far may be passed
 abbrev pub invariant-loop-number : goal.invariant-loop-number
-invariant-loop-number l = (n : ℕ) → n < l.number → MayPass l.replaced l.kind l.entries l.compositions n
+invariant-loop-number l = (n : ℕ) → n < l.number → MayPass l.words.replaced.now l.words.kind l.words.entries.now l.words.compositions.now n
