@@ -27,6 +27,7 @@ use Rattle.normalizer_records.specs.Faults.{is_fixed_for_mapper, is_mark}
 use Rattle.normalizer_records.specs.Meaning.{canonical_list, class_of, compatibility_list, entry_of, expand_all, expansion, full_list, levels, list_of_status, mapped_list, mapper_list}
 use Rattle.normalizer_records.specs.Meaning.{mapping_among, recorded_classes, replace_by, replacement, status_of}
 use Rattle.normalizer_records.proofs.replacing.ExpansionLemmas.{expansion-alone, expansion-replaced}
+use Rattle.normalizer_records.proofs.record_faults.RefusalLemmas.{unrefused}
 use Rattle.normalizer_records.proofs.checked_lists.RoomLemmas.{asked}
 use Rattle.normalizer_records.proofs.checked_lists.JamoOfSyllables.{by_jamo, jamo_some, replacement-syllable}
 use Rattle.normalizer_records.proofs.checked_lists.UnrecordedLemmas.{jamo_alone, jamo_fixed}
@@ -130,16 +131,16 @@ disallowed_replacement r here h = disallowed r.status (rw here at h)
 
 module _ (records : List RecordValue) (uts46 : List Uts46RecordValue) (none : IsFirstRefusal records uts46 None) where
   pub rising : AreRising records
-  unfolding IsFirstRefusal HasFault HasOrderFault
-  rising i j d below within = stable _ _ (λ falls. none error.Order (λ both. falls (both.0 i j d below within)))
+  unfolding HasFault HasOrderFault
+  rising i j d below within = stable _ _ (λ falls. unrefused records uts46 none error.Order (λ both. falls (both.0 i j d below within)))
 
   pub no_fixed_fault : has_fixed_fault records uts46 ≡ false
-  unfolding IsFirstRefusal HasFault
-  no_fixed_fault = false_from_ne_true _ (none error.Fixed)
+  unfolding HasFault
+  no_fixed_fault = false_from_ne_true _ (unrefused records uts46 none error.Fixed)
 
   pub no_mapping_fault : has_mapping_fault records uts46 ≡ false
-  unfolding IsFirstRefusal HasFault
-  no_mapping_fault = false_from_ne_true _ (none error.Mapping)
+  unfolding HasFault
+  no_mapping_fault = false_from_ne_true _ (unrefused records uts46 none error.Mapping)
 
   unfixed_records : All (λ r. is_fixed r.c ≡ false) records
   unfolding has_fixed_fault
@@ -252,19 +253,19 @@ module _ (records : List RecordValue) (uts46 : List Uts46RecordValue) (none : Is
         (IsSound-flat_map Q given (expansion records Canonical levels) (IsSound-expansion Canonical levels) m x (no_zero Q given (m ∷ x) (good_status n (MapsTo (m ∷ x)) e)))
 
   pub IsGiven-recorded : (k : Kind) (n : ℕ) → IfSome (recorded_list records uts46 k n) (IsGiven records k n)
-  unfolding IsFirstRefusal HasFault HasLengthFault HasLongList HasClassFault HasWrongClass mapper_list
+  unfolding HasFault HasLengthFault HasLongList HasClassFault HasWrongClass mapper_list
   IsGiven-recorded kind.Canonical n = record {
     sound = IsSound-full_list _ (λ m h _. h) Canonical n (λ h. h);
-    short = λ h. none error.Length (n, asked records uts46 none n, inl h);
-    right = λ h. none error.Class (n, asked records uts46 none n, inr (inl h));
+    short = λ h. unrefused records uts46 none error.Length (n, asked records uts46 none n, inl h);
+    right = λ h. unrefused records uts46 none error.Class (n, asked records uts46 none n, inr (inl h));
   }
   IsGiven-recorded kind.Compatibility n = record {
     sound = IsSound-full_list _ (λ m h _. h) AllMappings n (λ h. h);
-    short = λ h. none error.Length (n, asked records uts46 none n, inr (inl h));
-    right = λ h. none error.Class (n, asked records uts46 none n, inr (inr (inl h)));
+    short = λ h. unrefused records uts46 none error.Length (n, asked records uts46 none n, inr (inl h));
+    right = λ h. unrefused records uts46 none error.Class (n, asked records uts46 none n, inr (inr (inl h)));
   }
   IsGiven-recorded kind.Mapper n = by (mapper_list records uts46 n) (IsSound-mapped _ (λ m h _. h) n (status_of uts46 n) refl (λ h. h))
-      (λ h. none error.Length (n, asked records uts46 none n, inr (inr h))) (λ h. none error.Class (n, asked records uts46 none n, inr (inr (inr h))))
+      (λ h. unrefused records uts46 none error.Length (n, asked records uts46 none n, inr (inr h))) (λ h. unrefused records uts46 none error.Class (n, asked records uts46 none n, inr (inr (inr h))))
     where
       by : (o : Option (List ℕ)) → IfSome o (IsSound (λ m. 0 < n → 0 < m)) → ¬ IsSomeAnd o IsTooLong → ¬ IsSomeAnd o (IsWrong records n false) → IfSome o (IsGiven records kind.Mapper n)
       by None sound short right = tt

@@ -1,15 +1,13 @@
 -- Records have at most one smallest refusal, memory aside, and none if they build data.
 use Rattle.std.proofs.Common.{◌≡◌, ◌≢◌, inl, inr, ◌≤◌, List, Option, Some, None, refl, ap, sym, subst, arith}
-use Rattle.std.proofs.lemmas.Bool.{cases_order}
-use Rattle.normalizer_tables.specs.conditions.Conditions.{item_limit}
+use Rattle.normalizer_tables.specs.conditions.Conditions.{IsFirstFailing, item_limit}
 use Rattle.normalizer_packing.specs.declared.Packed.{Packed}
 use Rattle.normalizer_tables.specs.Entries.{EntryValue}
 use Rattle.normalizer_packing.specs.Stored.{needed_items}
 use Rattle.normalizer_records.specs.declared.records.BuildError.{BuildError}
 use Rattle.normalizer_records.specs.declared.records.BuildError.TheVariants as error
 use Rattle.normalizer_records.specs.RecordValue.{RecordValue, Uts46RecordValue}
-use Rattle.normalizer_records.specs.Faults.{HasFault, IsFirstRefusal, IsRefusal, rank_of}
-use Rattle.normalizer_records.proofs.record_faults.RefusalLemmas.{one_fault}
+use Rattle.normalizer_records.specs.Faults.{faults, HasFault, IsFirstRefusal, IsRefusal}
 use Rattle.normalizer_builder.specs.declared.demand.Demand.{Demand}
 use Rattle.normalizer_builder.specs.Building.{Builds, HasTooManyItems, IsSmallest, PacksRecords}
 use Rattle.normalizer_builder.specs.Demands.{demands, error_of, IsFirstUnmet, Meets}
@@ -17,24 +15,21 @@ use Rattle.normalizer_builder.proofs.FirstUnmet.{one_first}
 use Rattle.normalizer_builder.proofs.SameParts.{one_packing_of_records, same_entries}
 
 module _ (records : List RecordValue) (uts46 : List Uts46RecordValue) where
+  failing : (r : Option BuildError) → IsFirstRefusal records uts46 r → IsFirstFailing (λ e. ¬ HasFault records uts46 e) faults r
+  unfolding IsFirstRefusal IsFirstFailing
+  failing None h = h
+  failing (Some e) h = (h.0, h.1, h.2, h.3, λ never. never h.4)
+
   one_refusal : (o p : Option BuildError) → IsFirstRefusal records uts46 o → IsFirstRefusal records uts46 p → o ≡ p
-  unfolding IsFirstRefusal
-  one_refusal None None h k = refl
-  one_refusal None (Some s) h k = absurd (h s k.0)
-  one_refusal (Some r) None h k = absurd (k r h.0)
-  one_refusal (Some r) (Some s) h k = elim (cases_order (rank_of r) (rank_of s)) as (λ _. Some r ≡ Some s) [
-    | inl same ↦ ap Some (one_fault records uts46 r s h.0 same)
-    | inr (inl below) ↦ absurd (k.1 r below h.0)
-    | inr (inr above) ↦ absurd (h.1 s above k.0)
-  ]
+  one_refusal o p h k = one_first (λ e. ¬ HasFault records uts46 e) faults o p (failing o h) (failing p k)
 
   -- a refusal of the records themselves is the smallest fault
   pub IsSmallest-refusal : (e : BuildError) → IsRefusal records uts46 e → IsSmallest records uts46 e
   unfolding IsSmallest IsFirstRefusal HasFault
   IsSmallest-refusal e (inl memory) = subst (IsSmallest records uts46) (sym memory) tt
   IsSmallest-refusal error.Memory (inr h) = tt
-  IsSmallest-refusal error.TableFull (inr h) = absurd h.0
-  IsSmallest-refusal (error.Unfit marker condition) (inr h) = absurd h.0
+  IsSmallest-refusal error.TableFull (inr h) = absurd h.4
+  IsSmallest-refusal (error.Unfit marker condition) (inr h) = absurd h.4
   IsSmallest-refusal e (inr h) = h
 
   -- what becomes of records that aren't refused: too many items, or data, and the first requirement that they don't meet

@@ -1,6 +1,6 @@
 -- Records of the mapper of which some are ranges beside the others: no refusal holds of all, and all entries are those of
 -- the others and those of the ranges.
-use Rattle.std.proofs.Common.{◌≡◌, ◌∙◌, ◌⊎◌, inl, inr, ℕ, zero, suc, ◌+◌, ◌<◌, ◌==◌, Bool, true, false, not, cond, nat_lt, List, [], ◌∷◌, filter, find, map, All, AllPairs, Contains, Option}
+use Rattle.std.proofs.Common.{◌≡◌, ◌∙◌, ◌⊎◌, inl, inr, ℕ, zero, suc, ◌+◌, ◌<◌, ◌==◌, Bool, true, false, not, cond, nat_lt, List, [], ◌∷◌, filter, find, get_or, map, All, AllPairs, Contains, Option}
 use Rattle.std.proofs.Common.{Some, None, refl, sym, ap, subst, arith, eqb-true, eq-eqb, unwrap_or, IfSome, IsSomeAnd, if◌then◌else◌}
 use Rattle.std.specs.Char.{IsScalar}
 use Rattle.std.specs.List.{list_any}
@@ -26,10 +26,11 @@ use Rattle.normalizer_records.specs.declared.records.Mappings.TheVariants.{Canon
 use Rattle.normalizer_records.specs.declared.records.BuildError.{BuildError}
 use Rattle.normalizer_records.specs.declared.records.BuildError.TheVariants as error
 use Rattle.normalizer_records.specs.RecordValue.{RecordValue, Uts46RecordValue, IsDisallowed}
-use Rattle.normalizer_records.specs.Faults.{HasClassFault, HasFault, HasLengthFault, HasLongList, HasOrderFault, HasWrongClass, IsAsked, IsFirstRefusal, IsTooLong, IsWrong, has_fixed_fault, has_mapping_fault, is_bad_mapping}
+use Rattle.normalizer_records.specs.Faults.{HasClassFault, HasFault, HasLengthFault, HasLongList, HasOrderFault, HasWrongClass, IsAsked, IsFirstRefusal, IsTooLong, IsWrong, faults, has_fixed_fault, has_mapping_fault, is_bad_mapping}
 use Rattle.normalizer_records.specs.Faults.{is_bad_status, is_fixed, is_fixed_for_mapper}
 use Rattle.normalizer_records.specs.Meaning.{canonical_list, canonical_mapping_of, class_of, compatibility_list, entry_of, full_list, list_of_status, mapped_list, mapper_list, status_of}
 use Rattle.normalizer_records.specs.Recorded.{AreExpanded, AreMadeOf, IsOfCharacters, entry_for, recorded_characters, recorded_step}
+use Rattle.normalizer_records.proofs.record_faults.RefusalLemmas.{unrefused as no_refusal}
 use Rattle.normalizer_builder.specs.Building.{Builds}
 use Rattle.normalizer_builder.specs.Built.{data_in}
 use Rattle.normalizer_builder.specs.declared.built.Built.{Built}
@@ -247,17 +248,17 @@ module _ (records : List RecordValue) (uts46 others : List Uts46RecordValue) (ra
   }
 
   no_class_fault : HasClassFault records uts46 → ⊥
-  unfolding IsFirstRefusal HasFault HasClassFault HasWrongClass
+  unfolding HasFault HasClassFault HasWrongClass
   no_class_fault h = elim (cases_Bool (is_in ranges h.0)) as (λ _. ⊥) [
     | inl is ↦ class_right h.0 is h.2
-    | inr other ↦ none error.Class (h.0, asked-apart h.0 other h.1, rw (sym (mapper-apart h.0 other)) h.2)
+    | inr other ↦ no_refusal records others none error.Class (h.0, asked-apart h.0 other h.1, rw (sym (mapper-apart h.0 other)) h.2)
   ]
 
   no_length_fault : HasLengthFault records uts46 → ⊥
-  unfolding IsFirstRefusal HasFault HasLengthFault HasLongList
+  unfolding HasFault HasLengthFault HasLongList
   no_length_fault h = elim (cases_Bool (is_in ranges h.0)) as (λ _. ⊥) [
     | inl is ↦ length_right h.0 is h.2
-    | inr other ↦ none error.Length (h.0, asked-apart h.0 other h.1, rw (sym (mapper-apart h.0 other)) h.2)
+    | inr other ↦ no_refusal records others none error.Length (h.0, asked-apart h.0 other h.1, rw (sym (mapper-apart h.0 other)) h.2)
   ]
 
   unfixed_for_mapper : (r : Uts46RecordValue) → is_fixed r.c ≡ false → is_fixed_for_mapper r ≡ false
@@ -283,21 +284,19 @@ module _ (records : List RecordValue) (uts46 others : List Uts46RecordValue) (ra
       rw (parts.0, back) refl
 
   no_fault : (e : BuildError) → HasFault records uts46 e → ⊥
-  unfolding IsFirstRefusal HasFault HasOrderFault
+  unfolding HasFault HasOrderFault
   no_fault error.Order h = h (rising records others none, split.rising)
   no_fault error.Fixed h = true≢false (sym h ∙ none_fixed)
   no_fault error.Class h = no_class_fault h
   no_fault error.Mapping h = true≢false (sym h ∙ none_bad)
-  no_fault error.Chain h = none error.Chain h
+  no_fault error.Chain h = no_refusal records others none error.Chain h
   no_fault error.Length h = no_length_fault h
-  no_fault error.Pair h = none error.Pair h
-  no_fault (error.Unfit marker condition) h = h
-  no_fault error.TableFull h = h
-  no_fault error.Memory h = h
+  no_fault error.Pair h = no_refusal records others none error.Pair h
+  no_fault _ h = h
 
   pub unrefused : IsFirstRefusal records uts46 None
   unfolding IsFirstRefusal
-  unrefused = no_fault
+  unrefused = λ k d within. no_fault (get_or faults k d)
 
   -- entries
 

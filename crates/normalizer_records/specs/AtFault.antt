@@ -1,5 +1,5 @@
 -- Which record is at fault, if records are refused.
-use Rattle.std.specs.Prelude.{◌≡◌, ℕ, true, false, ◌⊎◌, nat_lt, List, [], ◌∷◌, ◌++◌, map, All, IsSomeAnd, count_by, ◌==◌}
+use Rattle.std.specs.Prelude.{◌≡◌, ℕ, true, false, ◌⊎◌, nat_lt, List, [], ◌∷◌, map, IsSomeAnd, count_by, ◌==◌}
 use Rattle.std.specs.Prelude.{◌<◌, ◌&&◌, Option, Some, None, if◌then◌else◌}
 use Rattle.std.specs.Option.{option_map, option_or}
 use Rattle.normalizer_tables.specs.Pairs.{Pair}
@@ -10,15 +10,9 @@ use Rattle.normalizer_records.specs.declared.records.BuildError.TheVariants.{Ord
 use Rattle.normalizer_records.specs.declared.records.BuildError.TheVariants.{Length, Pair as SamePair}
 use Rattle.normalizer_records.specs.RecordValue.{RecordValue, Uts46RecordValue}
 use Rattle.normalizer_records.specs.Faults.{is_bad_mapping, is_bad_status, is_fixed, is_fixed_for_mapper, is_mark}
-use Rattle.normalizer_records.specs.Faults.{IsAsked, IsOnLongChain, IsTooLong, IsWrong}
+use Rattle.normalizer_records.specs.Faults.{IsAsked, IsFirstWith, IsOnLongChain, IsTooLong, IsWrong}
 use Rattle.normalizer_records.specs.Meaning.{canonical_list, class_of, compatibility_list, mapper_list}
 use Rattle.normalizer_records.specs.Meaning.{pair_of_record, pairs_of}
-
--- the first of a list of which P holds, or there is none
-abbrev pub IsFirstWith : {X : Type 0} → (X → Type 0) → List X → Option X → Type 0
-IsFirstWith P xs None = All (λ x. ¬ P x) xs
-IsFirstWith {X} P xs (Some x) =
-    (before : List X) × (after : List X) × (xs ≡ before ++ x ∷ after) × All (λ y. ¬ P y) before × P x
 
 -- the character of the first element with P, or that there is none
 unfoldable pub IsCharacterOfFirst : {X : Type 0} → (X → ℕ) → (X → Type 0) → List X → Option ℕ → Type 0

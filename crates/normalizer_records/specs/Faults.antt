@@ -8,7 +8,7 @@ use Rattle.normalizer_tables.specs.Hangul.{is_hangul_syllable}
 use Rattle.normalizer_tables.specs.SpecialLists.{fixed_list_of, fdfa_list}
 use Rattle.normalizer_records.specs.declared.records.BuildError.{BuildError}
 use Rattle.normalizer_records.specs.declared.records.BuildError.TheVariants.{Order, Fixed, Class, Mapping, Chain}
-use Rattle.normalizer_records.specs.declared.records.BuildError.TheVariants.{Length, Pair, Unfit, TableFull, Memory}
+use Rattle.normalizer_records.specs.declared.records.BuildError.TheVariants.{Length, Pair, Memory}
 use Rattle.normalizer_records.specs.RecordValue.{RecordValue, Status, MapsTo, IsIgnored, IsDisallowed, Uts46RecordValue}
 use Rattle.normalizer_records.specs.Meaning.{canonical_list, chain_limit, class_of, compatibility_list, entry_of}
 use Rattle.normalizer_records.specs.Meaning.{mapper_list, mapping_of, pairs_of, status_of}
@@ -184,8 +184,7 @@ HasPairFault records = (first second : ℕ) × (1 < count_by (λ p. (p.0 == seco
 
 -- All
 
--- what each error says of the records by themselves. The last three say nothing of them: `Unfit` and `TableFull` speak
--- of the data that are packed, `Memory` of allocations.
+-- what each error says of the records by themselves: nothing if it is of the data that are packed, or of allocations
 unfoldable pub HasFault : List RecordValue → List Uts46RecordValue → BuildError → Type 0
 HasFault records uts46 Order = HasOrderFault records uts46
 HasFault records uts46 Fixed = has_fixed_fault records uts46 ≡ true
@@ -194,28 +193,21 @@ HasFault records uts46 Mapping = has_mapping_fault records uts46 ≡ true
 HasFault records uts46 Chain = HasChainFault records
 HasFault records uts46 Length = HasLengthFault records uts46
 HasFault records uts46 Pair = HasPairFault records
-HasFault records uts46 (Unfit marker condition) = ⊥
-HasFault records uts46 TableFull = ⊥
-HasFault records uts46 Memory = ⊥
+HasFault records uts46 _ = ⊥
 
--- their order, the smallest first
-abbrev pub rank_of : BuildError → ℕ
-rank_of Order = 1
-rank_of Fixed = 2
-rank_of Class = 3
-rank_of Mapping = 4
-rank_of Chain = 5
-rank_of Length = 6
-rank_of Pair = 7
-rank_of (Unfit marker condition) = 8
-rank_of TableFull = 9
-rank_of Memory = 10
+-- the faults, in the order in which they are reported
+abbrev pub faults : List BuildError
+faults = Order ∷ Fixed ∷ Class ∷ Mapping ∷ Chain ∷ Length ∷ Pair ∷ []
 
--- none if nothing is wrong, else the smallest error whose fault the records have: none of the last three
+-- the first of a list of which P holds, or there is none
+abbrev pub IsFirstWith : {X : Type 0} → (X → Type 0) → List X → Option X → Type 0
+IsFirstWith P xs None = All (λ x. ¬ P x) xs
+IsFirstWith {X} P xs (Some x) =
+    (before : List X) × (after : List X) × (xs ≡ before ++ x ∷ after) × All (λ y. ¬ P y) before × P x
+
+-- the first fault of the records; none if nothing is wrong
 unfoldable pub IsFirstRefusal : List RecordValue → List Uts46RecordValue → Option BuildError → Type 0
-IsFirstRefusal records uts46 None = (e : BuildError) → ¬ HasFault records uts46 e
-IsFirstRefusal records uts46 (Some e) =
-    HasFault records uts46 e × ((f : BuildError) → rank_of f < rank_of e → ¬ HasFault records uts46 f)
+IsFirstRefusal records uts46 r = IsFirstWith (HasFault records uts46) faults r
 
 -- the first refusal, unless memory ran out
 abbrev pub IsRefusal : List RecordValue → List Uts46RecordValue → BuildError → Type 0

@@ -2,6 +2,5 @@
 pub mod Chains
 pub mod CutLists
 pub mod Findings
-pub mod FirstFaults
 pub mod Lookup
 pub mod SortedPairs

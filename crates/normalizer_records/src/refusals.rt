@@ -1,11 +1,11 @@
 //! What is packed of records, or the first thing that is wrong with them.
-ghost use Rattle.std.specs.Prelude.{◌≡◌, ◌↔◌, ◌∷◌, ℕ, All, false, length, map, IfOk, IsTrue, MatchResult};
+ghost use Rattle.std.specs.Prelude.{◌≡◌, ◌↔◌, ◌∷◌, ℕ, All, false, find, length, map, IfOk, IsTrue, MatchResult};
 ghost use Rattle.std.specs.BTreeSet.{contains};
 ghost use Rattle.std.specs.List.{list_any};
+ghost use Rattle.std.specs.Option.{option_map};
 ghost use Rattle.std.specs.Ordering.{nat_cmp};
 ghost use Rattle.normalizer_records.specs.inner.Chains.{IsSetOf};
 ghost use Rattle.normalizer_records.specs.inner.CutLists.{HasRoom, IsOfSome};
-ghost use Rattle.normalizer_records.specs.inner.FirstFaults.{first_among};
 ghost use Rattle.normalizer_records.specs.Faults.{
   AreMapperRising,
   AreRising,
@@ -113,39 +113,26 @@ fn expanded_of_rising(
     let long = on_long_chains(alloc, records)?;
     let characters = sorted_characters(alloc, records, uts46)?;
     let (entries, faults) = checked_entries(alloc, records, uts46, &long, &characters)?;
-    let mapping = has_mapping_fault(records, uts46);
-    let chain = !long.is_empty();
     let pairs = pairs(alloc, records)?;
-    let pair = !are_rising_pairs(&pairs);
-    match first_among(faults.class, mapping, chain, faults.length, pair) {
+    let tests = [
+        (BuildError::Class, faults.class),
+        (BuildError::Mapping, has_mapping_fault(records, uts46)),
+        (BuildError::Chain, !long.is_empty()),
+        (BuildError::Length, faults.length),
+        (BuildError::Pair, !are_rising_pairs(&pairs)),
+    ];
+    match first_so(&tests) {
         None => Ok(ExpandedRecords { entries, pairs }),
         Some(refusal) => Err(refusal),
     }
 }
 
-/// The smallest of the refusals that are so.
-fn first_among(
-    class: bool,
-    mapping: bool,
-    chain: bool,
-    length: bool,
-    pair: bool,
-) -> Option<BuildError>
-    ensures { result ≡ first_among class mapping chain length pair }
+/// The first of these faults that is so.
+fn first_so(tests: &[(BuildError, bool)]) -> Option<BuildError>
+    ensures { result ≡ option_map (λ t. t.0) (find (λ t. t.1) tests.now) }
 {
-    if class {
-        Some(BuildError::Class)
-    } else if mapping {
-        Some(BuildError::Mapping)
-    } else if chain {
-        Some(BuildError::Chain)
-    } else if length {
-        Some(BuildError::Length)
-    } else if pair {
-        Some(BuildError::Pair)
-    } else {
-        None
-    }
+    let test = tests.iter().find(|test| test.1)?;
+    Some(test.0)
 }
 
 /// Returns what is packed of records.

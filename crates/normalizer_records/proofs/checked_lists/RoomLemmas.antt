@@ -8,6 +8,7 @@ use Rattle.normalizer_records.specs.RecordValue.{RecordValue, Uts46RecordValue}
 use Rattle.normalizer_records.specs.Faults.{HasFault, HasChainFault, HasLengthFault, HasLongList, IsAsked, IsFirstRefusal, IsOnLongChain, IsTooLong, mapped_to}
 use Rattle.normalizer_records.specs.Meaning.{mapper_list, status_of}
 use Rattle.normalizer_records.specs.inner.CutLists.{HasRoom}
+use Rattle.normalizer_records.proofs.record_faults.RefusalLemmas.{unrefused}
 
 pub short : (list : List ℕ) → ¬ IsTooLong list → length list ≤ 18
 unfolding fdfa_list
@@ -22,16 +23,16 @@ short_if_some (Some x) h = short x h
 
 module _ (records : List RecordValue) (uts46 : List Uts46RecordValue) (none : IsFirstRefusal records uts46 None) where
   off_chain : (c : ℕ) → ¬ IsOnLongChain records c
-  unfolding IsFirstRefusal HasFault HasChainFault IsOnLongChain
-  off_chain c h = none error.Chain (h.0 ++ c ∷ h.1, h.2, h.3)
+  unfolding HasFault HasChainFault IsOnLongChain
+  off_chain c h = unrefused records uts46 none error.Chain (h.0 ++ c ∷ h.1, h.2, h.3)
 
   pub asked : (c : ℕ) → IsAsked records uts46 c
   asked c = record { off_chain = off_chain c; mapped_off_chain = λ k d within. off_chain (get_or (mapped_to (status_of uts46 c)) k d) }
 
   pub room : (c : ℕ) → HasRoom records uts46 c
-  unfolding IsFirstRefusal HasFault HasLengthFault HasLongList
+  unfolding HasFault HasLengthFault HasLongList
   room c = record {
-    canonical = short _ (λ h. none error.Length (c, asked c, inl h));
-    compatibility = short _ (λ h. none error.Length (c, asked c, inr (inl h)));
-    mapper = short_if_some (mapper_list records uts46 c) (λ h. none error.Length (c, asked c, inr (inr h)));
+    canonical = short _ (λ h. unrefused records uts46 none error.Length (c, asked c, inl h));
+    compatibility = short _ (λ h. unrefused records uts46 none error.Length (c, asked c, inr (inl h)));
+    mapper = short_if_some (mapper_list records uts46 c) (λ h. unrefused records uts46 none error.Length (c, asked c, inr (inr h)));
   }

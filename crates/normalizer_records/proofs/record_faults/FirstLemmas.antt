@@ -11,8 +11,8 @@ use Rattle.normalizer_records.specs.declared.at_fault.RecordAtFault.TheVariants.
 use Rattle.normalizer_records.specs.declared.records.BuildError.{BuildError}
 use Rattle.normalizer_records.specs.declared.records.BuildError.TheVariants.{Order}
 use Rattle.normalizer_records.specs.RecordValue.{RecordValue, Uts46RecordValue}
-use Rattle.normalizer_records.specs.Faults.{AreMapperRising, AreRising, HasFault, HasOrderFault, IsFirstRefusal}
-use Rattle.normalizer_records.specs.AtFault.{first_not_rising, IsFirstAtFault, IsFirstShowing, IsFirstWith, MapperShowsFault, ShowsFault}
+use Rattle.normalizer_records.specs.Faults.{AreMapperRising, AreRising, HasFault, HasOrderFault, IsFirstRefusal, IsFirstWith}
+use Rattle.normalizer_records.specs.AtFault.{first_not_rising, IsFirstAtFault, IsFirstShowing, MapperShowsFault, ShowsFault}
 use Rattle.normalizer_records.specs.AtFault.{IsCharacterOfFirst}
 
 drop_step : {X : Type 0} (xs : List X) (i : ℕ) (d : X) → i < length xs → drop i xs ≡ get_or xs i d ∷ drop (i + 1) xs
@@ -89,5 +89,5 @@ pub of_rising : (records : List RecordValue) (uts46 : List Uts46RecordValue) (e 
     AreMapperRising uts46 → IsFirstRefusal records uts46 (Some e) → (o : Option RecordAtFault) →
     IsFirstShowing records uts46 e o → IsFirstAtFault records uts46 e o
 unfolding IsFirstAtFault IsFirstRefusal HasFault HasOrderFault
-of_rising records uts46 Order rising mapper first o h = absurd (first.0 (rising, mapper))
+of_rising records uts46 Order rising mapper first o h = absurd (first.4 (rising, mapper))
 of_rising records uts46 _ rising mapper first o h = h

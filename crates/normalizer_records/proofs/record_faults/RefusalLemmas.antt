@@ -1,85 +1,85 @@
--- The first refusal, one after another.
-use Rattle.std.proofs.Common.{◌≡◌, ℕ, ◌+◌, ◌<◌, ◌↔◌, Bool, true, false, not, List, ◌∷◌, get_or, refl, Option, Some, IsTrue, if◌then◌else◌, sym}
-use Rattle.std.proofs.Common.{◌∙◌, arith, suc, length, inl, inr}
+-- The first refusal, and whether a character is checked.
+use Rattle.std.proofs.Common.{◌≡◌, ℕ, ◌<◌, ◌↔◌, Bool, true, false, not, List, [], ◌∷◌, length, map, find, get_or, refl, ap, Option, None, Some, IsTrue, arith, suc, sym, ◌∙◌, subst}
 use Rattle.std.specs.BTreeSet.{BTreeSet, contains}
-use Rattle.std.specs.List.{list_any}
+use Rattle.std.specs.List.{AllByRecursion, list_any}
+use Rattle.std.specs.Option.{option_map}
 use Rattle.std.specs.Ordering.{nat_cmp}
-use Rattle.std.proofs.lemmas.List.Elements.{All-cons, All-contains}
+use Rattle.std.proofs.lemmas.Bool.{true≢false}
+use Rattle.std.proofs.lemmas.List.Elements.{All-cons, All-contains, All-head, All-nil}
 use Rattle.std.proofs.lemmas.List.Folds.{Any-from_list_any, list_any_at}
 use Rattle.normalizer_records.specs.Meaning.{status_of}
-use Rattle.normalizer_records.specs.inner.FirstFaults.{first_among}
 use Rattle.normalizer_records.specs.inner.Chains.{IsSetOf}
-use Rattle.std.proofs.lemmas.Bool.{cases_lt, true≢false}
 use Rattle.normalizer_records.specs.declared.records.BuildError.{BuildError}
 use Rattle.normalizer_records.specs.declared.records.BuildError.TheVariants.{Order, Fixed, Class, Mapping, Chain, Length, Pair, Unfit, TableFull, Memory}
 use Rattle.normalizer_records.specs.RecordValue.{RecordValue, Uts46RecordValue}
-use Rattle.normalizer_records.specs.Faults.{HasFault, has_fixed_fault, has_mapping_fault, HasClassFault, HasLengthFault, HasPairFault, rank_of, IsFirstRefusal, HasOrderFault}
-use Rattle.normalizer_records.specs.Faults.{HasChainFault, AreRising, AreMapperRising, IsAsked, IsOnLongChain, mapped_to}
+use Rattle.normalizer_records.specs.Faults.{AreMapperRising, AreRising, faults, has_fixed_fault, HasFault, HasOrderFault, IsAsked, IsFirstRefusal, IsFirstWith, IsOnLongChain, mapped_to}
 
-some_rank : (e : BuildError) → 0 < rank_of e
-some_rank e = grind arith
+module _ {X : Type 0} (P : X → Type 0) where
+  first_here : (x : X) (xs : List X) → P x → IsFirstWith P (x ∷ xs) (Some x)
+  first_here x xs h = ([], xs, refl, All-nil (λ y. ¬ P y), h)
 
-same_rank : (e f : BuildError) → rank_of e < 8 → rank_of e ≡ rank_of f → e ≡ f
-same_rank e f low same = grind arith
+  first_next : (x : X) (xs : List X) (r : Option X) → ¬ P x → IsFirstWith P xs r → IsFirstWith P (x ∷ xs) r
+  first_next x xs None other h = All-cons (λ y. ¬ P y) x xs other h
+  first_next x xs (Some y) other h = (x ∷ h.0, h.1, ap (λ ys. x ∷ ys) h.2, All-cons (λ y. ¬ P y) x h.0 other h.3, h.4)
+
+  first_alone : (x : X) (xs : List X) (y : X) → P x → IsFirstWith P (x ∷ xs) (Some y) → y ≡ x
+  first_alone x xs y h ([], after, same, none, is) = (let head : x ≡ y = cc in sym head)
+  first_alone x xs y h (b ∷ before, after, same, none, is) =
+      absurd (let head : x ≡ b = cc in All-head (λ z. ¬ P z) b before none (subst P head h))
+
+  -- by a test of each
+  first_tested : (tests : List (X × Bool)) → AllByRecursion (λ t. IsTrue t.1 ↔ P t.0) tests →
+      IsFirstWith P (map (λ t. t.0) tests) (option_map (λ t. t.0) (find (λ t. t.1) tests))
+  first_tested [] h = All-nil (λ y. ¬ P y)
+  first_tested ((x, true) ∷ tests) h = first_here x (map (λ t. t.0) tests) (h.0.0 refl)
+  first_tested ((x, false) ∷ tests) h =
+      first_next x (map (λ t. t.0) tests) _ (λ is. true≢false (sym (h.0.1 is))) (first_tested tests h.1)
+
+-- the faults past the first two
+abbrev others : List BuildError
+others = Class ∷ Mapping ∷ Chain ∷ Length ∷ Pair ∷ []
 
 module _ (records : List RecordValue) (uts46 : List Uts46RecordValue) where
-  -- no error past the seventh is a fault of the records by themselves
-  low_rank : (e : BuildError) → HasFault records uts46 e → rank_of e < 8
-  unfolding HasFault
-  low_rank (Unfit marker condition) h = absurd h
-  low_rank TableFull h = absurd h
-  low_rank Memory h = absurd h
-  low_rank Order h = omega arith
-  low_rank _ h = omega arith
+  pub unrefused : IsFirstRefusal records uts46 None → (e : BuildError) → ¬ HasFault records uts46 e
+  unfolding IsFirstRefusal HasFault
+  unrefused none Order = none 0 Order (omega arith)
+  unrefused none Fixed = none 1 Order (omega arith)
+  unrefused none Class = none 2 Order (omega arith)
+  unrefused none Mapping = none 3 Order (omega arith)
+  unrefused none Chain = none 4 Order (omega arith)
+  unrefused none Length = none 5 Order (omega arith)
+  unrefused none Pair = none 6 Order (omega arith)
+  unrefused none _ = λ fault. fault
 
-  pub one_fault : (e f : BuildError) → HasFault records uts46 e → rank_of e ≡ rank_of f → e ≡ f
-  one_fault e f h same = same_rank e f (low_rank e h) same
-
-  -- none of the faults of these errors
-  abbrev NoneBelow : ℕ → Type 0
-  NoneBelow n = (s : BuildError) → rank_of s < n → HasFault records uts46 s → ⊥
-
-  none_at_all : NoneBelow 1
-  none_at_all s low = let some = some_rank s in absurd (omega arith)
-
-  none_more : (r : BuildError) → NoneBelow (rank_of r) → (HasFault records uts46 r → ⊥) → NoneBelow (rank_of r + 1)
-  none_more r below not s low fault = absurd (grind (arith, one_fault s r fault, below s, not))
-
-  no_order_fault : AreRising records → AreMapperRising uts46 → NoneBelow 2
-  unfolding HasFault HasOrderFault
-  no_order_fault rising mapper = none_more Order none_at_all (λ h. h (rising, mapper))
-
-  -- one test after another
-  test : (r : BuildError) (b : Bool) (rest : Option BuildError) → IsTrue b ↔ HasFault records uts46 r → NoneBelow (rank_of r) → (NoneBelow (rank_of r + 1) → IsFirstRefusal records uts46 rest) →
-      IsFirstRefusal records uts46 (if b then Some r else rest)
-  unfolding IsFirstRefusal
-  test r true rest h below further = (h.0 refl, below)
-  test r false rest h below further = further (none_more r below (λ fault. true≢false (sym (h.1 fault))))
-
-  pub first_among-is : AreRising records → AreMapperRising uts46 → has_fixed_fault records uts46 ≡ false → (class mapping chain long pair : Bool) → IsTrue class ↔ HasClassFault records uts46 →
-      mapping ≡ has_mapping_fault records uts46 → IsTrue chain ↔ HasChainFault records → IsTrue long ↔ HasLengthFault records uts46 → IsTrue pair ↔ HasPairFault records →
-      IsFirstRefusal records uts46 (first_among class mapping chain long pair)
-  unfolding HasFault IsFirstRefusal
-  first_among-is rising mapper fixed class mapping chain long pair a b c d e =
-      let none = none_more Fixed (no_order_fault rising mapper) (λ h. true≢false (sym h ∙ fixed)) in
-      test Class class _ a none (λ below. test Mapping mapping _ (λ h. sym b ∙ h, λ h. b ∙ h) below (λ below. test Chain chain _ c below (λ below. test Length long _ d below
-      (λ below. test Pair pair _ e below (λ below e fault. below e (low_rank e fault) fault)))))
+  abbrev P : BuildError → Type 0
+  P = HasFault records uts46
 
   pub order_first : HasOrderFault records uts46 → IsFirstRefusal records uts46 (Some Order)
   unfolding HasFault IsFirstRefusal
-  order_first h = (h, none_at_all)
+  order_first h = first_here P Order (Fixed ∷ others) h
 
   -- if records don't rise, that is the refusal
   pub order_alone : (e : BuildError) → HasOrderFault records uts46 → IsFirstRefusal records uts46 (Some e) → e ≡ Order
   unfolding HasFault IsFirstRefusal
-  order_alone e fault first = elim (cases_lt (rank_of Order) (rank_of e)) [
-    | inl above ↦ absurd (first.1 Order above fault)
-    | inr low ↦ let some = some_rank e in same_rank e Order (omega arith) (omega arith)
-  ]
+  order_alone e fault first = first_alone P Order (Fixed ∷ others) e fault first
 
-  pub fixed_first : AreRising records → AreMapperRising uts46 → has_fixed_fault records uts46 ≡ true → IsFirstRefusal records uts46 (Some Fixed)
-  unfolding HasFault IsFirstRefusal
-  fixed_first rising mapper h = (h, no_order_fault rising mapper)
+  -- records that rise, and what is tested of them
+  module _ (rising : AreRising records) (mapper : AreMapperRising uts46) where
+    behind_order : (xs : List BuildError) (r : Option BuildError) → IsFirstWith P xs r → IsFirstWith P (Order ∷ xs) r
+    unfolding HasFault HasOrderFault
+    behind_order xs r = first_next P Order xs r (λ h. h (rising, mapper))
+
+    pub fixed_first : has_fixed_fault records uts46 ≡ true → IsFirstRefusal records uts46 (Some Fixed)
+    unfolding HasFault IsFirstRefusal
+    fixed_first h = behind_order (Fixed ∷ others) (Some Fixed) (first_here P Fixed others h)
+
+    pub by_tests : has_fixed_fault records uts46 ≡ false → (tests : List (BuildError × Bool)) →
+        map (λ t. t.0) tests ≡ others → AllByRecursion (λ t. IsTrue t.1 ↔ P t.0) tests →
+        IsFirstRefusal records uts46 (option_map (λ t. t.0) (find (λ t. t.1) tests))
+    unfolding HasFault IsFirstRefusal
+    by_tests fixed tests are h =
+        let r = option_map (λ (t : BuildError × Bool). t.0) (find (λ t. t.1) tests) in
+        behind_order (Fixed ∷ others) r (first_next P Fixed others r (λ fault. true≢false (sym fault ∙ fixed)) (subst (λ xs. IsFirstWith P xs r) are (first_tested P tests h)))
 
 -- whether a character is checked, by the set of those on long chains
 module _ (records : List RecordValue) (uts46 : List Uts46RecordValue) (long : BTreeSet ℕ) (is : IsSetOf (IsOnLongChain records) long) (c : ℕ) where
