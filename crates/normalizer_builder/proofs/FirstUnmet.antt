@@ -1,8 +1,8 @@
 -- The first requirement that isn't met: of two lists of requirements put together, of the data of each kind, and of all.
-use Rattle.std.proofs.Common.{◌≡◌, ◌∙◌, ◌⊎◌, inl, inr, ℕ, suc, ◌<◌, ◌≤◌, ◌==◌, Bool, true, false, List, [], ◌∷◌, ◌++◌, length, map, flat_map, get_or, All, Option, Some, None, IfSome}
+use Rattle.std.proofs.Common.{◌≡◌, ◌∙◌, ◌↔◌, ◌⊎◌, inl, inr, ℕ, suc, ◌<◌, ◌≤◌, ◌==◌, Bool, true, false, List, [], ◌∷◌, ◌++◌, length, map, flat_map, get_or, All, Option, Some, None, IfSome}
 use Rattle.std.proofs.Common.{ap, eqb-true, if◌then◌else◌, subst, sym, refl, arith}
 use Rattle.std.proofs.lemmas.Bool.Decides.{nat_tests}
-use Rattle.std.proofs.lemmas.List.{append_assoc, get_or-map, length-append, length-map}
+use Rattle.std.proofs.lemmas.List.{append_assoc, get_or_default, get_or-map, length-append, length-map}
 use Rattle.std.proofs.lemmas.List.Elements.{All-append, All-cons, All-contains, All-nil}
 use Rattle.std.specs.Option.{option_map}
 use Rattle.normalizer_tables.specs.declared.condition.Condition.{Condition}
@@ -18,10 +18,13 @@ use Rattle.normalizer_packing.proofs.entry_data.EntryLemmas.{find-tells}
 use Rattle.normalizer_records.specs.RecordValue.{RecordValue}
 use Rattle.normalizer_records.specs.Meaning.{entry_of, canonical_mapping_of}
 use Rattle.normalizer_records.specs.Recorded.{recorded_step}
+use Rattle.normalizer_records.specs.Faults.{AreRising}
+use Rattle.normalizer_records.proofs.record_faults.LookupLemmas.{find-found}
 use Rattle.normalizer_builder.specs.declared.demand.Demand.{Demand}
 use Rattle.normalizer_builder.specs.declared.demand.Demand.TheVariants.{Asks, KeepsMappings}
 use Rattle.normalizer_builder.specs.Demands.{constructor_demands, every, IsFirstUnmet, KeepsMapping, loaded_of, Meets, reported_number}
 use Rattle.normalizer_builder.specs.inner.Earlier.{asked_of, conditions_of, earlier}
+use Rattle.normalizer_builder.specs.inner.Parts.{KeepsRecord}
 
 module _ {D : Type 0} (P : D → Type 0) where
   first_is : (Q : D → Type 0) (xs : List D) (r : Option D) → All Q xs → IsFirstFailing P xs r → IfSome r Q
@@ -176,6 +179,18 @@ module _ (p : Packed) where
       first_of_both (Meets records p) (on Canonical) on_others (of_on Canonical) of_others every 1 numbered a (earlier b m) (canonical records) others
 
 module _ (records : List RecordValue) (p : Packed) where
+  -- the data keep a record if they keep the mapping of its character
+  pub keeps_record : AreRising records → (k : ℕ) (r : RecordValue) → r ≡ get_or records k r → k < length records → KeepsRecord p r ↔ KeepsMapping records p r.c
+  unfolding KeepsMapping recorded_step canonical_mapping_of entry_of
+  keeps_record rising k r is within =
+      rw (find-found (λ (e : RecordValue). e.c) records rising r.c k r (record { within = within; there = λ d. ap (λ (e : RecordValue). e.c) (get_or_default records k d r within ∙ sym is) }) is)
+      (λ h. h, λ h. h)
+
+  keep_records : AreRising records → All (KeepsRecord p) records ↔ All (λ r. KeepsMapping records p r.c) records
+  keep_records rising =
+      let each = λ (k : ℕ) (d : RecordValue) (within : k < length records). keeps_record rising k (get_or records k d) (get_or_default records k d (get_or records k d) within) within in
+      (λ h k d within. (each k d within).0 (h k d within), λ h k d within. (each k d within).1 (h k d within))
+
   unrecorded_keeps : (n : ℕ) → entry_of records n ≡ None → KeepsMapping records p n
   unfolding KeepsMapping recorded_step canonical_mapping_of step_to
   unrecorded_keeps n missing = rw missing tt
@@ -191,14 +206,14 @@ module _ (records : List RecordValue) (p : Packed) where
   pub asked_unmet : (d : Demand) → IsFirstFailing (Meets records p) constructor_demands (Some d) → IsFirstUnmet records p (Some d)
   asked_unmet d h = first_in_front (Meets records p) constructor_demands (KeepsMappings ∷ []) d h
 
-  pub all_met : IsFirstFailing (Meets records p) constructor_demands None → All (λ r. KeepsMapping records p r.c) records → IsFirstUnmet records p None
+  pub all_met : AreRising records → IsFirstFailing (Meets records p) constructor_demands None → All (KeepsRecord p) records → IsFirstUnmet records p None
   unfolding IsFirstFailing Meets
-  all_met met kept = All-append (Meets records p) constructor_demands (KeepsMappings ∷ []) met (All-cons (Meets records p) KeepsMappings [] (keeps_all kept) (All-nil (Meets records p)))
+  all_met rising met kept = All-append (Meets records p) constructor_demands (KeepsMappings ∷ []) met (All-cons (Meets records p) KeepsMappings [] (keeps_all ((keep_records rising).0 kept)) (All-nil (Meets records p)))
 
-  pub mappings_unkept : IsFirstFailing (Meets records p) constructor_demands None → (¬ All (λ r. KeepsMapping records p r.c) records) → IsFirstUnmet records p (Some KeepsMappings)
+  pub mappings_unkept : AreRising records → IsFirstFailing (Meets records p) constructor_demands None → (¬ All (KeepsRecord p) records) → IsFirstUnmet records p (Some KeepsMappings)
   unfolding IsFirstFailing Meets
-  mappings_unkept met lost =
-      first_behind (Meets records p) constructor_demands (KeepsMappings ∷ []) (Some KeepsMappings) met (IsFirstFailing-here (Meets records p) KeepsMappings [] (λ all. lost (λ k d within. all (get_or records k d).c)))
+  mappings_unkept rising met lost =
+      first_behind (Meets records p) constructor_demands (KeepsMappings ∷ []) (Some KeepsMappings) met (IsFirstFailing-here (Meets records p) KeepsMappings [] (λ all. lost ((keep_records rising).1 (λ k d within. all (get_or records k d).c))))
 
   -- the data of each kind meet all that is required of them
   pub fit_kind : IsFirstUnmet records p None → (kind : Kind) → All (IsMet (loaded_of p kind)) (conditions_of kind)

@@ -21,7 +21,7 @@ use Rattle.normalizer_records.specs.declared.records.Mappings.{Mappings}
 use Rattle.normalizer_records.specs.declared.records.Mappings.TheVariants.{Canonical, All as AllMappings}
 use Rattle.normalizer_records.specs.declared.records.BuildError.TheVariants as error
 use Rattle.normalizer_records.specs.RecordValue.{RecordValue, Uts46RecordValue, Status, MapsTo, IsIgnored, IsDisallowed}
-use Rattle.normalizer_records.specs.Faults.{AreRising, HasFault, HasOrderFault, HasClassFault, HasWrongClass, has_fixed_fault, HasLengthFault, HasLongList}
+use Rattle.normalizer_records.specs.Faults.{AreRising, HasFault, HasOrderFault, HasClassFault, HasWrongClass, HasWrongOwnClass, has_fixed_fault, HasLengthFault, HasLongList, HasLongOwnList}
 use Rattle.normalizer_records.specs.Faults.{IsFirstRefusal, IsTooLong, IsWrong, has_mapping_fault, has_zero, is_bad_mapping, is_bad_status, is_disallowed, is_fixed}
 use Rattle.normalizer_records.specs.Faults.{is_fixed_for_mapper, is_mark}
 use Rattle.normalizer_records.specs.Meaning.{canonical_list, class_of, compatibility_list, entry_of, expand_all, expansion, full_list, levels, list_of_status, mapped_list, mapper_list}
@@ -253,19 +253,19 @@ module _ (records : List RecordValue) (uts46 : List Uts46RecordValue) (none : Is
         (IsSound-flat_map Q given (expansion records Canonical levels) (IsSound-expansion Canonical levels) m x (no_zero Q given (m ∷ x) (good_status n (MapsTo (m ∷ x)) e)))
 
   pub IsGiven-recorded : (k : Kind) (n : ℕ) → IfSome (recorded_list records uts46 k n) (IsGiven records k n)
-  unfolding HasFault HasLengthFault HasLongList HasClassFault HasWrongClass mapper_list
+  unfolding HasFault HasLengthFault HasLongList HasLongOwnList HasClassFault HasWrongClass HasWrongOwnClass mapper_list
   IsGiven-recorded kind.Canonical n = record {
     sound = IsSound-full_list _ (λ m h _. h) Canonical n (λ h. h);
-    short = λ h. unrefused records uts46 none error.Length (n, asked records uts46 none n, inl h);
-    right = λ h. unrefused records uts46 none error.Class (n, asked records uts46 none n, inr (inl h));
+    short = λ h. unrefused records uts46 none error.Length (n, asked records uts46 none n, inl (inl h));
+    right = λ h. unrefused records uts46 none error.Class (n, asked records uts46 none n, inl (inr (inl h)));
   }
   IsGiven-recorded kind.Compatibility n = record {
     sound = IsSound-full_list _ (λ m h _. h) AllMappings n (λ h. h);
-    short = λ h. unrefused records uts46 none error.Length (n, asked records uts46 none n, inr (inl h));
-    right = λ h. unrefused records uts46 none error.Class (n, asked records uts46 none n, inr (inr (inl h)));
+    short = λ h. unrefused records uts46 none error.Length (n, asked records uts46 none n, inl (inr h));
+    right = λ h. unrefused records uts46 none error.Class (n, asked records uts46 none n, inl (inr (inr h)));
   }
   IsGiven-recorded kind.Mapper n = by (mapper_list records uts46 n) (IsSound-mapped _ (λ m h _. h) n (status_of uts46 n) refl (λ h. h))
-      (λ h. unrefused records uts46 none error.Length (n, asked records uts46 none n, inr (inr h))) (λ h. unrefused records uts46 none error.Class (n, asked records uts46 none n, inr (inr (inr h))))
+      (λ h. unrefused records uts46 none error.Length (n, asked records uts46 none n, inr h)) (λ h. unrefused records uts46 none error.Class (n, asked records uts46 none n, inr h))
     where
       by : (o : Option (List ℕ)) → IfSome o (IsSound (λ m. 0 < n → 0 < m)) → ¬ IsSomeAnd o IsTooLong → ¬ IsSomeAnd o (IsWrong records n false) → IfSome o (IsGiven records kind.Mapper n)
       by None sound short right = tt

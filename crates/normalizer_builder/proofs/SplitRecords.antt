@@ -26,7 +26,7 @@ use Rattle.normalizer_records.specs.declared.records.Mappings.TheVariants.{Canon
 use Rattle.normalizer_records.specs.declared.records.BuildError.{BuildError}
 use Rattle.normalizer_records.specs.declared.records.BuildError.TheVariants as error
 use Rattle.normalizer_records.specs.RecordValue.{RecordValue, Uts46RecordValue, IsDisallowed}
-use Rattle.normalizer_records.specs.Faults.{HasClassFault, HasFault, HasLengthFault, HasLongList, HasOrderFault, HasWrongClass, IsAsked, IsFirstRefusal, IsTooLong, IsWrong, faults, has_fixed_fault, has_mapping_fault, is_bad_mapping}
+use Rattle.normalizer_records.specs.Faults.{HasClassFault, HasFault, HasLengthFault, HasLongList, HasLongOwnList, HasOrderFault, HasWrongClass, HasWrongOwnClass, IsAsked, IsFirstRefusal, IsTooLong, IsWrong, faults, has_fixed_fault, has_mapping_fault, is_bad_mapping}
 use Rattle.normalizer_records.specs.Faults.{is_bad_status, is_fixed, is_fixed_for_mapper}
 use Rattle.normalizer_records.specs.Meaning.{canonical_list, canonical_mapping_of, class_of, compatibility_list, entry_of, full_list, list_of_status, mapped_list, mapper_list, status_of}
 use Rattle.normalizer_records.specs.Recorded.{AreExpanded, AreMadeOf, IsOfCharacters, entry_for, recorded_characters, recorded_step}
@@ -213,31 +213,31 @@ module _ (records : List RecordValue) (uts46 others : List Uts46RecordValue) (ra
   short_alone n h = true≢false (sym h.0)
 
   class_right : (n : ℕ) → is_in ranges n ≡ true → HasWrongClass records uts46 n → ⊥
-  unfolding HasWrongClass
+  unfolding HasWrongClass HasWrongOwnClass
   class_right n is wrong = elim wrong as (λ _. ⊥) [
-    | inl most ↦ (let class = class-in n is in omega arith)
-    | inr lists ↦ elim lists as (λ _. ⊥) [
-      | inl canonical ↦ right_alone n _ (subst (IsWrong records n _) (list-in Canonical n is) canonical)
-      | inr more ↦ elim more as (λ _. ⊥) [
-        | inl compatibility ↦ right_alone n _ (subst (IsWrong records n _) (list-in AllMappings n is) compatibility)
-        | inr mapper ↦ elim (mapper-in n is) as (λ _. ⊥) [
-          | inl alone ↦ right_alone n false (subst (λ (o : Option (List ℕ)). IsSomeAnd o (IsWrong records n false)) alone mapper)
-          | inr replaced ↦ right_replacement n (subst (λ (o : Option (List ℕ)). IsSomeAnd o (IsWrong records n false)) replaced mapper)
-        ]
+    | inl own ↦ elim own as (λ _. ⊥) [
+      | inl most ↦ (let class = class-in n is in omega arith)
+      | inr lists ↦ elim lists as (λ _. ⊥) [
+        | inl canonical ↦ right_alone n _ (subst (IsWrong records n _) (list-in Canonical n is) canonical)
+        | inr compatibility ↦ right_alone n _ (subst (IsWrong records n _) (list-in AllMappings n is) compatibility)
       ]
+    ]
+    | inr mapper ↦ elim (mapper-in n is) as (λ _. ⊥) [
+      | inl alone ↦ right_alone n false (subst (λ (o : Option (List ℕ)). IsSomeAnd o (IsWrong records n false)) alone mapper)
+      | inr replaced ↦ right_replacement n (subst (λ (o : Option (List ℕ)). IsSomeAnd o (IsWrong records n false)) replaced mapper)
     ]
   ]
 
   length_right : (n : ℕ) → is_in ranges n ≡ true → HasLongList records uts46 n → ⊥
-  unfolding HasLongList
+  unfolding HasLongList HasLongOwnList
   length_right n is long = elim long as (λ _. ⊥) [
-    | inl canonical ↦ short_alone n (subst IsTooLong (list-in Canonical n is) canonical)
-    | inr more ↦ elim more as (λ _. ⊥) [
-      | inl compatibility ↦ short_alone n (subst IsTooLong (list-in AllMappings n is) compatibility)
-      | inr mapper ↦ elim (mapper-in n is) as (λ _. ⊥) [
-        | inl alone ↦ short_alone n (subst (λ (o : Option (List ℕ)). IsSomeAnd o IsTooLong) alone mapper)
-        | inr replaced ↦ short_alone 0xFFFD (subst (λ (o : Option (List ℕ)). IsSomeAnd o IsTooLong) replaced mapper)
-      ]
+    | inl own ↦ elim own as (λ _. ⊥) [
+      | inl canonical ↦ short_alone n (subst IsTooLong (list-in Canonical n is) canonical)
+      | inr compatibility ↦ short_alone n (subst IsTooLong (list-in AllMappings n is) compatibility)
+    ]
+    | inr mapper ↦ elim (mapper-in n is) as (λ _. ⊥) [
+      | inl alone ↦ short_alone n (subst (λ (o : Option (List ℕ)). IsSomeAnd o IsTooLong) alone mapper)
+      | inr replaced ↦ short_alone 0xFFFD (subst (λ (o : Option (List ℕ)). IsSomeAnd o IsTooLong) replaced mapper)
     ]
   ]
 

@@ -119,7 +119,7 @@ fn first_unkept(records: &[Record], packed: &Packed) -> Option<char>
     ensures { IsCharacterOfFirst (λ r. r.c) (λ r. ¬ KeepsMapping records.now packed.now r.c) records.now result }
 {
     for recorded in records {
-        if !keeps_mapping(records, packed, recorded.c) {
+        if !keeps_mapping(packed, recorded) {
             return Some(recorded.c);
         }
     }

@@ -3,11 +3,10 @@
 
 ghost use Rattle.std.specs.Prelude.{◌≡◌, ◌++◌, List, [], None, IfOk, OnOk, IfSome, MatchResult, filter_map, flat_map};
 ghost use Rattle.std.specs.List.{cons_option};
-ghost use Rattle.normalizer_records.specs.Faults.{AreRising, is_disallowed};
+ghost use Rattle.normalizer_records.specs.Faults.{AreRising};
 ghost use Rattle.normalizer_records.specs.RecordValue.{Uts46RecordValue};
 ghost use Rattle.normalizer_records.specs.Ranges.{entries_of};
 ghost use Rattle.normalizer_records.specs.Recorded.{AreExpanded};
-ghost use Rattle.normalizer_records.specs.Statuses.{status_of};
 ghost use Rattle.normalizer_builder.specs.Building.{Builds, IsSmallest};
 ghost use Rattle.normalizer_builder.specs.Built.{data_in};
 ghost use Rattle.normalizer_builder.specs.Demands.{IsFirstUnmet};
@@ -27,7 +26,7 @@ use crate::built::Built;
 use crate::unmet::first_unmet;
 use normalizer_packing::{PackError, Packed, pack};
 use normalizer_records::{
-    BuildError, ExpandedRecords, Record, Uts46Range, Uts46Record, Uts46Status, expanded,
+    BuildError, ExpandedRecords, Record, Uts46Range, Uts46Record, expanded, is_disallowed,
     push_records, records_of_ranges,
 };
 use std::alloc::{AllocError, Global};
@@ -188,15 +187,6 @@ fn whole_range(records: &[Record], range: &Uts46Range) -> Option<(char, char)>
         ends_of(range.first, range.end)
     } else {
         None
-    }
-}
-
-fn is_disallowed(status: &Uts46Status) -> bool
-    ensures { result ≡ is_disallowed (status_of status.now) }
-{
-    match status {
-        Uts46Status::Disallowed => true,
-        _ => false,
     }
 }
 

@@ -1,5 +1,5 @@
 //! The first requirement that data that pack records don't meet.
-#![tactic(auto, using(crate::proofs::FirstUnmet::mappings_unkept, crate::proofs::FirstUnmet::asked_unmet, crate::proofs::FirstUnmet::all_met, crate::proofs::FirstUnmet::of_all_kinds), unfolding(crate::specs::Demands::KeepsMapping))]
+#![tactic(auto, using(crate::proofs::FirstUnmet::mappings_unkept, crate::proofs::FirstUnmet::asked_unmet, crate::proofs::FirstUnmet::all_met, crate::proofs::FirstUnmet::of_all_kinds))]
 
 ghost use Rattle.std.specs.Prelude.{◌≡◌, ◌↔◌, All, IsTrue, List, option_map};
 ghost use Rattle.normalizer_tables.specs.conditions.Conditions.{IsFirstFailing, IsMet};
@@ -9,12 +9,12 @@ ghost use Rattle.normalizer_builder.specs.Demands.{
   characters_of,
   constructor_demands,
   IsFirstUnmet,
-  KeepsMapping,
   loaded_of,
   Meets,
 };
 ghost use Rattle.normalizer_builder.specs.declared.demand.Demand.TheVariants.{Asks};
 ghost use Rattle.normalizer_builder.specs.inner.Earlier.{asked_of, conditions_of};
+ghost use Rattle.normalizer_builder.specs.inner.Parts.{KeepsRecord};
 
 use crate::demand::{Demand, earlier};
 use normalizer_check::check::first_failing;
@@ -109,23 +109,19 @@ pub(crate) fn characters_of(packed: &Packed, kind: Kind) -> CharacterData<'_>
 
 /// Whether the data keep the mappings of all records.
 fn keeps_mappings(records: &[Record], packed: &Packed) -> bool
-    requires { AreRising records.now }
-    ensures { IsTrue result ↔ All (λ r. KeepsMapping records.now packed.now r.c) records.now }
+    ensures { IsTrue result ↔ All (KeepsRecord packed.now) records.now }
 {
-    records
-        .iter()
-        .all(|recorded| keeps_mapping(records, packed, recorded.c))
+    records.iter().all(|record| keeps_mapping(packed, record))
 }
 
-/// Whether one step of a character is the mapping that is recorded of it.
-pub(crate) fn keeps_mapping(records: &[Record], packed: &Packed, character: char) -> bool
-    requires { AreRising records.now }
-    ensures { IsTrue result ↔ KeepsMapping records.now packed.now character }
+/// Whether one step of a record's character is its canonical mapping.
+pub(crate) fn keeps_mapping(packed: &Packed, record: &Record) -> bool
+    ensures { IsTrue result ↔ KeepsRecord packed.now «record».now }
 {
-    match recorded_step(records, character) {
+    match recorded_step(record) {
         Some(step) => {
             let characters = characters_of(packed, Kind::Canonical);
-            step_of(&characters, &packed.supplement, character) == Some(step)
+            step_of(&characters, &packed.supplement, record.c) == Some(step)
         }
         None => true,
     }

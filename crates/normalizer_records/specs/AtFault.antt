@@ -1,5 +1,5 @@
 -- Which record is at fault, if records are refused.
-use Rattle.std.specs.Prelude.{◌≡◌, ℕ, true, false, ◌⊎◌, nat_lt, List, [], ◌∷◌, map, IsSomeAnd, count_by, ◌==◌}
+use Rattle.std.specs.Prelude.{◌≡◌, ℕ, true, false, nat_lt, List, [], ◌∷◌, map, IsSomeAnd, count_by, ◌==◌}
 use Rattle.std.specs.Prelude.{◌<◌, ◌&&◌, Option, Some, None, if◌then◌else◌}
 use Rattle.std.specs.Option.{option_map, option_or}
 use Rattle.normalizer_tables.specs.Pairs.{Pair}
@@ -9,10 +9,10 @@ use Rattle.normalizer_records.specs.declared.records.BuildError.{BuildError}
 use Rattle.normalizer_records.specs.declared.records.BuildError.TheVariants.{Order, Fixed, Class, Mapping, Chain}
 use Rattle.normalizer_records.specs.declared.records.BuildError.TheVariants.{Length, Pair as SamePair}
 use Rattle.normalizer_records.specs.RecordValue.{RecordValue, Uts46RecordValue}
-use Rattle.normalizer_records.specs.Faults.{is_bad_mapping, is_bad_status, is_fixed, is_fixed_for_mapper, is_mark}
-use Rattle.normalizer_records.specs.Faults.{IsAsked, IsFirstWith, IsOnLongChain, IsTooLong, IsWrong}
-use Rattle.normalizer_records.specs.Meaning.{canonical_list, class_of, compatibility_list, mapper_list}
-use Rattle.normalizer_records.specs.Meaning.{pair_of_record, pairs_of}
+use Rattle.normalizer_records.specs.Faults.{HasLongOwnList, HasWrongOwnClass, IsAsked, IsFirstWith, IsOnLongChain}
+use Rattle.normalizer_records.specs.Faults.{IsTooLong, IsWrong, is_bad_mapping, is_bad_status, is_fixed}
+use Rattle.normalizer_records.specs.Faults.{is_fixed_for_mapper}
+use Rattle.normalizer_records.specs.Meaning.{mapper_list, pair_of_record, pairs_of}
 
 -- the character of the first element with P, or that there is none
 unfoldable pub IsCharacterOfFirst : {X : Type 0} → (X → ℕ) → (X → Type 0) → List X → Option ℕ → Type 0
@@ -35,17 +35,6 @@ unfoldable pub first_out_of_order : List RecordValue → List Uts46RecordValue �
 first_out_of_order records uts46 =
     option_or (option_map OfCharacter (first_not_rising (map (λ r. r.c) records)))
     (option_map OfMapper (first_not_rising (map (λ r. r.c) uts46)))
-
--- class 255, or the canonical or the compatibility list begins with a mark or is of one
-unfoldable pub HasWrongOwnClass : List RecordValue → ℕ → Type 0
-HasWrongOwnClass records c =
-    (class_of records c ≡ 255)
-    ⊎ (IsWrong records c (is_mark records c) (canonical_list records c)
-    ⊎ IsWrong records c (is_mark records c) (compatibility_list records c))
-
--- one of these lists is too long
-unfoldable pub HasLongOwnList : List RecordValue → ℕ → Type 0
-HasLongOwnList records c = IsTooLong (canonical_list records c) ⊎ IsTooLong (compatibility_list records c)
 
 -- two records have the pair
 abbrev pub IsTwice : List Pair → Pair → Type 0

@@ -143,14 +143,17 @@ IsWrong records c is_mark list = ((is_mark ≡ true) ⊎ (begins_with_mark recor
 abbrev pub is_mark : List RecordValue → ℕ → Bool
 is_mark records c = nat_lt 0 (class_of records c)
 
--- class 255; or a class above 0 and a mapping; or a list that begins with a mark: the canonical list, the compatibility
--- list, or the mapper's if it doesn't ignore the character
-unfoldable pub HasWrongClass : List RecordValue → List Uts46RecordValue → ℕ → Type 0
-HasWrongClass records uts46 c =
+-- class 255; or a class above 0 and a mapping; or the canonical or the compatibility list begins with a mark
+unfoldable pub HasWrongOwnClass : List RecordValue → ℕ → Type 0
+HasWrongOwnClass records c =
     (class_of records c ≡ 255)
     ⊎ (IsWrong records c (is_mark records c) (canonical_list records c)
-    ⊎ (IsWrong records c (is_mark records c) (compatibility_list records c)
-    ⊎ IsSomeAnd (mapper_list records uts46 c) (IsWrong records c false)))
+    ⊎ IsWrong records c (is_mark records c) (compatibility_list records c))
+
+-- that, or the mapper's list begins with a mark, if it doesn't ignore the character
+unfoldable pub HasWrongClass : List RecordValue → List Uts46RecordValue → ℕ → Type 0
+HasWrongClass records uts46 c =
+    HasWrongOwnClass records c ⊎ IsSomeAnd (mapper_list records uts46 c) (IsWrong records c false)
 
 -- some character has such a class or such a list
 unfoldable pub HasClassFault : List RecordValue → List Uts46RecordValue → Type 0
@@ -166,11 +169,13 @@ is_long list = nat_lt 17 (length list) || (nat_lt 16 (length list) && list_any (
 abbrev pub IsTooLong : List ℕ → Type 0
 IsTooLong list = (is_long list ≡ true) × (list ≢ fdfa_list)
 
--- one of the lists is
+-- the canonical or the compatibility list is
+unfoldable pub HasLongOwnList : List RecordValue → ℕ → Type 0
+HasLongOwnList records c = IsTooLong (canonical_list records c) ⊎ IsTooLong (compatibility_list records c)
+
+-- one of these, or the mapper's
 unfoldable pub HasLongList : List RecordValue → List Uts46RecordValue → ℕ → Type 0
-HasLongList records uts46 c =
-    IsTooLong (canonical_list records c)
-    ⊎ (IsTooLong (compatibility_list records c) ⊎ IsSomeAnd (mapper_list records uts46 c) IsTooLong)
+HasLongList records uts46 c = HasLongOwnList records c ⊎ IsSomeAnd (mapper_list records uts46 c) IsTooLong
 
 -- some character has such a list
 unfoldable pub HasLengthFault : List RecordValue → List Uts46RecordValue → Type 0

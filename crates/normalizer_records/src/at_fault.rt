@@ -21,8 +21,10 @@ use crate::chains::on_long_chains;
 use crate::faults::{
     are_mapper_rising, are_rising, is_bad_mapping, is_bad_status, is_fixed, is_fixed_for_mapper,
 };
-use crate::list_faults::{mapper_faults, own_faults};
+use crate::list_faults::checked_entry;
+use crate::lookup::SortedRecords;
 use crate::pair_list::{pair_of_record, unsorted_pairs};
+use crate::recorded::characters_of;
 use crate::records::{BuildError, Record, Uts46Record};
 use crate::refusals::is_among;
 use std::alloc::{AllocError, Global};
@@ -51,7 +53,7 @@ impl RecordAtFault {
 /// Records, and what they show together, by which each is looked at.
 #[derive(Drop)]
 struct Findings<'a> {
-    records: &'a [Record],
+    records: SortedRecords<'a>,
     uts46: &'a [Uts46Record],
     long: BTreeSet<char>,
     pairs: Vec<(char, char, char)>,
@@ -74,10 +76,12 @@ pub fn first_at_fault(
     if !are_rising(records) || !are_mapper_rising(uts46) {
         return first_out_of_order(alloc, records, uts46);
     }
+    let sorted = SortedRecords::new(alloc, records)?;
+    let long = on_long_chains(alloc, &sorted)?;
     let findings = Findings {
-        records,
+        records: sorted,
         uts46,
-        long: on_long_chains(alloc, records)?,
+        long,
         pairs: unsorted_pairs(alloc, records)?,
     };
     first_showing(alloc, &findings, error)
@@ -106,12 +110,6 @@ fn of_mapper(character: Option<char>) -> Option<RecordAtFault>
     character.map(|c| RecordAtFault::OfMapper(c))
 }
 
-fn characters_of(alloc: Global, records: &[Record]) -> Result<Vec<char>, AllocError>
-    ensures { IfOk result (λ v. v.items ≡ map (λ r. r.c) records.now) }
-{
-    records.iter().map(|record| record.c).collect(alloc)
-}
-
 fn mapper_characters_of(alloc: Global, uts46: &[Uts46Record]) -> Result<Vec<char>, AllocError>
     ensures { IfOk result (λ v. v.items ≡ map (λ r. r.c) uts46.now) }
 {
@@ -137,7 +135,7 @@ fn first_showing(
     error: BuildError,
 ) -> Result<Option<RecordAtFault>, AllocError>
     requires { AreFound findings.now }
-    ensures { IfOk result (IsFirstShowing findings.now.records.now findings.now.uts46.now error) }
+    ensures { IfOk result (IsFirstShowing findings.now.records findings.now.uts46.now error) }
 {
     if let Some(c) = first_record(alloc, findings, error)? {
         return Ok(Some(RecordAtFault::OfCharacter(c)));
@@ -153,9 +151,9 @@ fn first_record(
 ) -> Result<Option<char>, AllocError>
     requires { AreFound findings.now }
     ensures { IfOk result (IsCharacterOfFirst (λ r. r.c)
-        (ShowsFault findings.now.records.now findings.now.uts46.now error) findings.now.records.now) }
+        (ShowsFault findings.now.records findings.now.uts46.now error) findings.now.records) }
 {
-    let records = findings.records;
+    let records = findings.records.as_slice();
     for record in records {
         if shows_fault(alloc, findings, error, record)? {
             return Ok(Some(record.c));
@@ -171,7 +169,7 @@ fn first_mapper_record(
 ) -> Result<Option<char>, AllocError>
     requires { AreFound findings.now }
     ensures { IfOk result (IsCharacterOfFirst (λ r. r.c)
-        (MapperShowsFault findings.now.records.now findings.now.uts46.now error) findings.now.uts46.now) }
+        (MapperShowsFault findings.now.records findings.now.uts46.now error) findings.now.uts46.now) }
 {
     let uts46 = findings.uts46;
     for record in uts46 {
@@ -185,7 +183,7 @@ fn first_mapper_record(
 /// Whether the lists of a character are checked: it leads to no long chain.
 fn is_asked(findings: &Findings<'_>, c: char) -> bool
     requires { AreFound findings.now }
-    ensures { IsTrue result ↔ IsAsked findings.now.records.now findings.now.uts46.now c }
+    ensures { IsTrue result ↔ IsAsked findings.now.records findings.now.uts46.now c }
 {
     !is_among(&findings.long, findings.uts46, c)
 }
@@ -200,19 +198,19 @@ fn shows_fault(
 ) -> Result<bool, AllocError>
     requires { AreFound findings.now }
     ensures { IfOk result (λ b. IsTrue b
-        ↔ ShowsFault findings.now.records.now findings.now.uts46.now error «record».now) }
+        ↔ ShowsFault findings.now.records findings.now.uts46.now error «record».now) }
 {
     match error {
         BuildError::Fixed => Ok(is_fixed(record.c)),
         BuildError::Class => {
-            let faults = own_faults(alloc, findings.records, record.c)?;
-            Ok(is_asked(findings, record.c) && faults.class)
+            let checked = checked_entry(alloc, &findings.records, findings.uts46, record.c)?;
+            Ok(is_asked(findings, record.c) && checked.own.class)
         }
         BuildError::Mapping => Ok(is_bad_mapping(record)),
         BuildError::Chain => Ok(findings.long.contains(&record.c)),
         BuildError::Length => {
-            let faults = own_faults(alloc, findings.records, record.c)?;
-            Ok(is_asked(findings, record.c) && faults.length)
+            let checked = checked_entry(alloc, &findings.records, findings.uts46, record.c)?;
+            Ok(is_asked(findings, record.c) && checked.own.length)
         }
         BuildError::Pair => Ok(has_pair_twice(&findings.pairs, record)),
         _ => Ok(false),
@@ -229,18 +227,18 @@ fn mapper_shows_fault(
 ) -> Result<bool, AllocError>
     requires { AreFound findings.now }
     ensures { IfOk result (λ b. IsTrue b
-        ↔ MapperShowsFault findings.now.records.now findings.now.uts46.now error «record».now) }
+        ↔ MapperShowsFault findings.now.records findings.now.uts46.now error «record».now) }
 {
     match error {
         BuildError::Fixed => Ok(is_fixed_for_mapper(record)),
         BuildError::Class => {
-            let faults = mapper_faults(alloc, findings.records, findings.uts46, record.c)?;
-            Ok(is_asked(findings, record.c) && faults.class)
+            let checked = checked_entry(alloc, &findings.records, findings.uts46, record.c)?;
+            Ok(is_asked(findings, record.c) && checked.mapped.class)
         }
         BuildError::Mapping => Ok(is_bad_status(&record.status)),
         BuildError::Length => {
-            let faults = mapper_faults(alloc, findings.records, findings.uts46, record.c)?;
-            Ok(is_asked(findings, record.c) && faults.length)
+            let checked = checked_entry(alloc, &findings.records, findings.uts46, record.c)?;
+            Ok(is_asked(findings, record.c) && checked.mapped.length)
         }
         _ => Ok(false),
     }

@@ -3,11 +3,19 @@ ghost use Rattle.std.specs.Prelude.{◌≡◌, ◌↔◌, ◌||◌, ◌&&◌, �
 ghost use Rattle.std.specs.BTreeSet.{contains, IsFromIterResult};
 ghost use Rattle.std.specs.List.{list_any};
 ghost use Rattle.std.specs.Ordering.{nat_cmp};
-ghost use Rattle.normalizer_records.specs.inner.Chains.{beginning, IsBetween, IsLedTo, IsSetOf, LeadsOn};
+ghost use Rattle.normalizer_records.specs.inner.Chains.{
+  beginning,
+  IsBetween,
+  IsLedTo,
+  IsSetOf,
+  leading,
+  leads_on,
+  LeadsOn,
+};
 ghost use Rattle.normalizer_records.specs.Faults.{AreRising, IsOnLongChain};
 ghost use Rattle.normalizer_records.specs.Meaning.{mapping_of};
 
-use crate::lookup::mapping_of;
+use crate::lookup::SortedRecords;
 use crate::records::Record;
 use std::alloc::{AllocError, Global};
 use std::collections::BTreeSet;
@@ -16,10 +24,14 @@ use std::collections::BTreeSet;
 pub(crate) const CHAIN_LIMIT: u8 = 16;
 
 /// The characters of records.
-fn recorded(alloc: Global, records: &[Record]) -> Result<BTreeSet<char>, AllocError>
+fn recorded(alloc: Global, records: &SortedRecords<'_>) -> Result<BTreeSet<char>, AllocError>
     ensures { IfOk result (IsFromIterResult nat_cmp (map (λ r. r.c) records.now)) }
 {
-    records.iter().map(|record| record.c).collect(alloc)
+    records
+        .as_slice()
+        .iter()
+        .map(|record| record.c)
+        .collect(alloc)
 }
 
 /// Whether a list has one of these characters.
@@ -43,12 +55,13 @@ fn beginning<'a>(set: &BTreeSet<char>, record: &'a Record) -> &'a [char]
 /// The characters of records that lead to one of these.
 fn beginnings(
     alloc: Global,
-    records: &[Record],
+    records: &SortedRecords<'_>,
     set: &BTreeSet<char>,
 ) -> Result<BTreeSet<char>, AllocError>
     ensures { IfOk result (IsFromIterResult nat_cmp (flat_map (beginning set.now) records.now)) }
 {
     records
+        .as_slice()
         .iter()
         .flat_map(|record| beginning(set, record).iter().copied())
         .collect(alloc)
@@ -57,14 +70,13 @@ fn beginnings(
 /// What the records of these characters lead to.
 fn all_ends(
     alloc: Global,
-    records: &[Record],
+    records: &SortedRecords<'_>,
     set: &BTreeSet<char>,
 ) -> Result<BTreeSet<char>, AllocError>
-    requires { AreRising records.now }
     ensures { IfOk result (IsFromIterResult nat_cmp (flat_map (mapping_of records.now) set.now.keys)) }
 {
     set.iter()
-        .flat_map(|c| mapping_of(records, *c).iter().copied())
+        .flat_map(|c| records.mapping_of(*c).iter().copied())
         .collect(alloc)
 }
 
@@ -85,7 +97,7 @@ fn add_common(
 /// characters between are added to `found`.
 fn leading_on(
     alloc: Global,
-    records: &[Record],
+    records: &SortedRecords<'_>,
     count: u8,
     led: &BTreeSet<char>,
     found: &mut BTreeSet<char>,
@@ -108,15 +120,53 @@ fn leading_on(
     Ok(leading)
 }
 
-/// Whether no chain has more than 16 records: some number of at most 16 records leads to no character.
-fn are_chains_short(alloc: Global, records: &[Record]) -> Result<bool, AllocError>
-    requires { AreRising records.now }
+/// Whether a record leads on from a character.
+fn leads_on(records: &SortedRecords<'_>, c: char) -> bool
+    ensures { result ≡ leads_on records.now c }
+{
+    0 < records.mapping_of(c).len()
+}
+
+/// Whether a record leads on from a character of a list.
+fn any_leads_on(records: &SortedRecords<'_>, mapping: &[char]) -> bool
+    ensures { result ≡ list_any (leads_on records.now) mapping.now }
+{
+    mapping.iter().any(|member| leads_on(records, *member))
+}
+
+/// A mapping, if a record leads on from one of its members.
+fn leading<'a>(records: &SortedRecords<'_>, mapping: &'a [char]) -> &'a [char]
+    ensures { result.now ≡ leading records.now mapping.now }
+{
+    if any_leads_on(records, mapping) {
+        mapping
+    } else {
+        &[]
+    }
+}
+
+/// What the records of these characters lead to, without mappings from which no record leads on.
+fn next_led(
+    alloc: Global,
+    records: &SortedRecords<'_>,
+    led: &BTreeSet<char>,
+) -> Result<BTreeSet<char>, AllocError>
+    ensures { IfOk result
+        (IsFromIterResult nat_cmp (flat_map (λ c. leading records.now (mapping_of records.now c)) led.now.keys)) }
+{
+    led.iter()
+        .flat_map(|c| leading(records, records.mapping_of(*c)).iter().copied())
+        .collect(alloc)
+}
+
+/// Whether fewer than 16 records lead to no character from which one leads on. Then no chain has more than 16 records.
+fn are_chains_short(alloc: Global, records: &SortedRecords<'_>) -> Result<bool, AllocError>
     ensures { IfOk result (λ b. IsTrue b → (c : ℕ) → ¬ IsOnLongChain records.now c) }
 {
     let mut led = recorded(alloc, records)?;
     let mut count = 0;
-    while count < CHAIN_LIMIT && !led.is_empty() {
-        led = all_ends(alloc, records, &led)?;
+    while count + 1 < CHAIN_LIMIT && !led.is_empty() {
+        led = next_led(alloc, records, &led)?;
         count += 1;
     }
     Ok(led.is_empty())
@@ -125,7 +175,7 @@ fn are_chains_short(alloc: Global, records: &[Record]) -> Result<bool, AllocErro
 /// The characters on chains of more than 16 records, each with the next one's character in its mapping.
 pub(crate) fn on_long_chains(
     alloc: Global,
-    records: &[Record],
+    records: &SortedRecords<'_>,
 ) -> Result<BTreeSet<char>, AllocError>
     requires { AreRising records.now }
     ensures { IfOk result (IsSetOf (IsOnLongChain records.now)) }

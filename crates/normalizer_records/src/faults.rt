@@ -77,7 +77,8 @@ pub(crate) fn is_fixed_for_mapper(record: &Uts46Record) -> bool
     is_fixed(record.c) && !is_filler && !(record.c == '\u{FFFD}' && is_disallowed(&record.status))
 }
 
-fn is_disallowed(status: &Uts46Status) -> bool
+/// Returns whether the mapper disallows a character of this status.
+pub fn is_disallowed(status: &Uts46Status) -> bool
     ensures { result ≡ is_disallowed (status_of status.now) }
 {
     match status {

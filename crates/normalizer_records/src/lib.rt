@@ -17,7 +17,8 @@ mod records;
 mod refusals;
 
 pub use at_fault::{RecordAtFault, first_at_fault};
-pub use lookup::{canonical_mapping_of, class_of, recorded_step};
+pub use faults::is_disallowed;
+pub use lookup::recorded_step;
 pub use pair_list::pairs;
 pub use ranges::{Uts46Range, push_records, records_of_ranges};
 pub use records::{BuildError, Mappings, Record, Uts46Record, Uts46Status};

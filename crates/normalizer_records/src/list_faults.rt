@@ -1,5 +1,5 @@
 //! The faults that the lists of characters show.
-ghost use Rattle.std.specs.Prelude.{◌≡◌, ◌<◌, ◌↔◌, ◌∷◌, [], Some, map, true, false, nat_lt};
+ghost use Rattle.std.specs.Prelude.{◌≡◌, ◌<◌, ◌↔◌, ◌∷◌, ◌⊎◌, [], Some, map, true, false, nat_lt};
 ghost use Rattle.std.specs.Prelude.{IfOk, IsSomeAnd, IsTrue};
 ghost use Rattle.std.specs.List.{list_any};
 ghost use Rattle.std.specs.Option.{option_map};
@@ -7,23 +7,22 @@ ghost use Rattle.normalizer_tables.specs.SpecialLists.{fixed_list_of};
 ghost use Rattle.normalizer_records.specs.inner.CutLists.{HasRoom};
 ghost use Rattle.normalizer_records.specs.Faults.{
   AreMapperRising,
-  AreRising,
   begins_with_mark,
-  HasLongList,
-  HasWrongClass,
+  HasLongOwnList,
+  HasWrongOwnClass,
   IsFixedForm,
   IsFreeForm,
   IsTooLong,
   IsWrong,
   is_long,
+  is_mark,
 };
-ghost use Rattle.normalizer_records.specs.AtFault.{HasLongOwnList, HasWrongOwnClass};
 ghost use Rattle.normalizer_records.specs.Meaning.{class_of, mapper_list};
 ghost use Rattle.normalizer_records.specs.Recorded.{IsOfCharacters, entry_for};
 
 use crate::cut_lists::{cut_list, cut_mapper_list};
-use crate::lookup::{class_of, recorded_step};
-use crate::records::{Mappings, Record, Uts46Record};
+use crate::lookup::SortedRecords;
+use crate::records::{Mappings, Uts46Record};
 use normalizer_tables::entry::Entry;
 use normalizer_tables::members::Members;
 use normalizer_tables::special::fixed_list_of;
@@ -38,26 +37,24 @@ pub(crate) struct ListFaults {
 }
 
 /// Whether a list begins with a mark.
-fn begins_with_mark(records: &[Record], list: &[char]) -> bool
-    requires { AreRising records.now }
+fn begins_with_mark(records: &SortedRecords<'_>, list: &[char]) -> bool
     ensures { result ≡ begins_with_mark records.now list.now }
 {
     match list {
         [] => false,
-        [first, ..] => 0 < class_of(records, *first),
+        [first, ..] => 0 < records.class_of(*first),
     }
 }
 
 /// Whether a list has these classes, one after another.
-fn have_classes(records: &[Record], list: &[char], classes: &[u8]) -> bool
-    requires { AreRising records.now }
+fn have_classes(records: &SortedRecords<'_>, list: &[char], classes: &[u8]) -> bool
     ensures { IsTrue result ↔ (classes.now ≡ map (class_of records.now) list.now) }
 {
     if list.len() != classes.len() {
         return false;
     }
     for place in 0..list.len() {
-        if class_of(records, list[place]) != classes[place] {
+        if records.class_of(list[place]) != classes[place] {
             return false;
         }
     }
@@ -80,14 +77,13 @@ fn has_members(list: &[char], members: &Members<'_>) -> bool
 }
 
 /// Whether a list is the fixed one of a character, and the classes are its.
-fn is_fixed_form(records: &[Record], c: char, list: &[char]) -> bool
-    requires { AreRising records.now }
+fn is_fixed_form(records: &SortedRecords<'_>, c: char, list: &[char]) -> bool
     ensures { IsTrue result ↔ IsFixedForm records.now c list.now }
 {
     match fixed_list_of(c) {
         None => false,
         Some(fixed) => {
-            fixed.class() == class_of(records, c)
+            fixed.class() == records.class_of(c)
                 && has_members(list, &fixed.members())
                 && have_classes(records, list, fixed.member_classes())
         }
@@ -104,16 +100,14 @@ fn is_alone(c: char, list: &[char]) -> bool
 }
 
 /// Whether a list is other than the character alone and its fixed one.
-fn is_free_form(records: &[Record], c: char, list: &[char]) -> bool
-    requires { AreRising records.now }
+fn is_free_form(records: &SortedRecords<'_>, c: char, list: &[char]) -> bool
     ensures { IsTrue result ↔ IsFreeForm records.now c list.now }
 {
     !is_alone(c, list) && !is_fixed_form(records, c, list)
 }
 
 /// Whether such a list begins with a mark, or its character is one.
-fn is_wrong(records: &[Record], c: char, is_mark: bool, list: &[char]) -> bool
-    requires { AreRising records.now }
+fn is_wrong(records: &SortedRecords<'_>, c: char, is_mark: bool, list: &[char]) -> bool
     ensures { IsTrue result ↔ IsWrong records.now c is_mark list.now }
 {
     (is_mark || begins_with_mark(records, list)) && is_free_form(records, c, list)
@@ -141,8 +135,7 @@ fn is_too_long(list: &[char]) -> bool
 }
 
 /// The faults that one list of a character shows.
-fn list_faults(records: &[Record], c: char, is_mark: bool, list: &[char]) -> ListFaults
-    requires { AreRising records.now }
+fn list_faults(records: &SortedRecords<'_>, c: char, is_mark: bool, list: &[char]) -> ListFaults
     ensures class { IsTrue result.class ↔ IsWrong records.now c is_mark list.now }
     ensures length { IsTrue result.length ↔ IsTooLong list.now }
 {
@@ -153,8 +146,7 @@ fn list_faults(records: &[Record], c: char, is_mark: bool, list: &[char]) -> Lis
 }
 
 /// The same of the mapper's list, if it doesn't ignore the character.
-fn mapped_faults(records: &[Record], c: char, mapped: &Option<Vec<char>>) -> ListFaults
-    requires { AreRising records.now }
+fn mapped_faults(records: &SortedRecords<'_>, c: char, mapped: &Option<Vec<char>>) -> ListFaults
     ensures class { IsTrue result.class ↔
         IsSomeAnd (option_map (λ v. v.items) mapped.now) (IsWrong records.now c false) }
     ensures length { IsTrue result.length ↔ IsSomeAnd (option_map (λ v. v.items) mapped.now) IsTooLong }
@@ -169,71 +161,59 @@ fn mapped_faults(records: &[Record], c: char, mapped: &Option<Vec<char>>) -> Lis
 }
 
 /// The faults that the class of a character and its canonical and compatibility lists show.
-pub(crate) fn own_faults(
-    alloc: Global,
-    records: &[Record],
+fn own_faults(
+    records: &SortedRecords<'_>,
     c: char,
-) -> Result<ListFaults, AllocError>
-    requires { AreRising records.now }
-    ensures class { IfOk result (λ faults. IsTrue faults.class ↔ HasWrongOwnClass records.now c) }
-    ensures length { IfOk result (λ faults. IsTrue faults.length ↔ HasLongOwnList records.now c) }
+    canonical: &[char],
+    compatibility: &[char],
+) -> ListFaults
+    ensures class { IsTrue result.class ↔ ((class_of records.now c ≡ 255) ⊎
+        (IsWrong records.now c (is_mark records.now c) canonical.now
+        ⊎ IsWrong records.now c (is_mark records.now c) compatibility.now)) }
+    ensures length { IsTrue result.length ↔ (IsTooLong canonical.now ⊎ IsTooLong compatibility.now) }
 {
-    let canonical = cut_list(alloc, records, Mappings::Canonical, c)?;
-    let compatibility = cut_list(alloc, records, Mappings::All, c)?;
-    let class = class_of(records, c);
-    let own = list_faults(records, c, 0 < class, &canonical);
-    let other = list_faults(records, c, 0 < class, &compatibility);
-    Ok(ListFaults {
+    let class = records.class_of(c);
+    let own = list_faults(records, c, 0 < class, canonical);
+    let other = list_faults(records, c, 0 < class, compatibility);
+    ListFaults {
         class: (class == 255) | (own.class | other.class),
         length: own.length | other.length,
-    })
+    }
 }
 
-/// The faults that the mapper's list of a character shows.
-pub(crate) fn mapper_faults(
-    alloc: Global,
-    records: &[Record],
-    uts46: &[Uts46Record],
-    c: char,
-) -> Result<ListFaults, AllocError>
-    requires records { AreRising records.now }
-    requires mapper { AreMapperRising uts46.now }
-    ensures class { IfOk result (λ faults. IsTrue faults.class
-        ↔ IsSomeAnd (mapper_list records.now uts46.now c) (IsWrong records.now c false)) }
-    ensures length { IfOk result (λ faults. IsTrue faults.length
-        ↔ IsSomeAnd (mapper_list records.now uts46.now c) IsTooLong) }
-{
-    let canonical = cut_list(alloc, records, Mappings::Canonical, c)?;
-    let mapper = cut_mapper_list(alloc, records, uts46, c, &canonical)?;
-    Ok(mapped_faults(records, c, &mapper))
+/// What records say of a character, and what is wrong with it. A list that is too long is cut.
+#[derive(Drop)]
+pub(crate) struct CheckedEntry {
+    pub(crate) entry: Entry,
+    /// The faults of its class, and of its canonical and its compatibility list.
+    pub(crate) own: ListFaults,
+    /// Those of the mapper's list.
+    pub(crate) mapped: ListFaults,
 }
 
-/// What records say of a character, and the faults that its lists show. A list that is too long is cut.
 pub(crate) fn checked_entry(
     alloc: Global,
-    records: &[Record],
+    records: &SortedRecords<'_>,
     uts46: &[Uts46Record],
     c: char,
-) -> Result<(Entry, ListFaults), AllocError>
-    requires records { AreRising records.now }
-    requires mapper { AreMapperRising uts46.now }
-    ensures class { IfOk result (λ both. IsTrue both.1.class ↔ HasWrongClass records.now uts46.now c) }
-    ensures length { IfOk result (λ both. IsTrue both.1.length ↔ HasLongList records.now uts46.now c) }
-    ensures entry { IfOk result (λ both. HasRoom records.now uts46.now c → both.0 ≡ entry_for records.now uts46.now c) }
-    ensures characters { IfOk result (λ both. IsOfCharacters both.0) }
+) -> Result<CheckedEntry, AllocError>
+    requires { AreMapperRising uts46.now }
+    ensures own_class { IfOk result (λ e. IsTrue e.own.class ↔ HasWrongOwnClass records.now c) }
+    ensures own_length { IfOk result (λ e. IsTrue e.own.length ↔ HasLongOwnList records.now c) }
+    ensures class { IfOk result (λ e. IsTrue e.mapped.class
+        ↔ IsSomeAnd (mapper_list records.now uts46.now c) (IsWrong records.now c false)) }
+    ensures length { IfOk result (λ e. IsTrue e.mapped.length
+        ↔ IsSomeAnd (mapper_list records.now uts46.now c) IsTooLong) }
+    ensures entry { IfOk result (λ e. HasRoom records.now uts46.now c → e.entry ≡ entry_for records.now uts46.now c) }
+    ensures characters { IfOk result (λ e. IsOfCharacters e.entry) }
 {
     let canonical = cut_list(alloc, records, Mappings::Canonical, c)?;
     let compatibility = cut_list(alloc, records, Mappings::All, c)?;
     let mapper = cut_mapper_list(alloc, records, uts46, c, &canonical)?;
-    let class = class_of(records, c);
-    let own = list_faults(records, c, 0 < class, &canonical);
-    let other = list_faults(records, c, 0 < class, &compatibility);
+    let own = own_faults(records, c, &canonical, &compatibility);
     let mapped = mapped_faults(records, c, &mapper);
-    let faults = ListFaults {
-        class: (class == 255) | (own.class | (other.class | mapped.class)),
-        length: own.length | (other.length | mapped.length),
-    };
-    let mapping = recorded_step(records, c).unwrap_or(Step::Default);
+    let class = records.class_of(c);
+    let mapping = records.step_of(c).unwrap_or(Step::Default);
     let entry = Entry {
         character: c,
         class,
@@ -242,5 +222,5 @@ pub(crate) fn checked_entry(
         mapper,
         mapping,
     };
-    Ok((entry, faults))
+    Ok(CheckedEntry { entry, own, mapped })
 }

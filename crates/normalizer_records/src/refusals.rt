@@ -22,8 +22,8 @@ ghost use Rattle.normalizer_records.specs.Recorded.{AreExpanded, IsOfCharacters,
 
 use crate::chains::{has_any, on_long_chains};
 use crate::faults::{are_mapper_rising, are_rising, has_fixed_fault, has_mapping_fault};
-use crate::list_faults::{ListFaults, checked_entry};
-use crate::lookup::uts46_record_of;
+use crate::list_faults::{CheckedEntry, ListFaults, checked_entry};
+use crate::lookup::{SortedRecords, uts46_record_of};
 use crate::pair_list::{are_rising as are_rising_pairs, pairs};
 use crate::recorded::sorted_characters;
 use crate::records::{BuildError, Record, Uts46Record, Uts46Status};
@@ -56,13 +56,12 @@ pub(crate) fn is_among(long: &BTreeSet<char>, uts46: &[Uts46Record], c: char) ->
 /// The entries of these characters, and the faults of those that are checked.
 fn checked_entries(
     alloc: Global,
-    records: &[Record],
+    records: &SortedRecords<'_>,
     uts46: &[Uts46Record],
     long: &BTreeSet<char>,
     characters: &[char],
 ) -> Result<(Vec<Entry>, ListFaults), AllocError>
     requires chains { IsSetOf (IsOnLongChain records.now) long.now }
-    requires rising { AreRising records.now }
     requires mapper { AreMapperRising uts46.now }
     ensures class { IfOk result (λ both. IsTrue both.1.class ↔
         IsOfSome (λ c. IsAsked records.now uts46.now c × HasWrongClass records.now uts46.now c)
@@ -79,10 +78,11 @@ fn checked_entries(
     let mut length = false;
     for place in 0..characters.len() {
         let c = characters[place];
-        let (entry, faults) = checked_entry(alloc, records, uts46, c)?;
+        let checked = checked_entry(alloc, records, uts46, c)?;
+        let CheckedEntry { entry, own, mapped } = checked;
         if !is_among(long, uts46, c) {
-            class = faults.class | class;
-            length = faults.length | length;
+            class = (own.class | mapped.class) | class;
+            length = (own.length | mapped.length) | length;
         }
         entries.push(entry)?;
     }
@@ -110,9 +110,10 @@ fn expanded_of_rising(
     ensures { MatchResult result (λ x. AreExpanded records.now uts46.now x.entries.items x.pairs.items)
         (IsRefusal records.now uts46.now) }
 {
-    let long = on_long_chains(alloc, records)?;
+    let sorted = SortedRecords::new(alloc, records)?;
+    let long = on_long_chains(alloc, &sorted)?;
     let characters = sorted_characters(alloc, records, uts46)?;
-    let (entries, faults) = checked_entries(alloc, records, uts46, &long, &characters)?;
+    let (entries, faults) = checked_entries(alloc, &sorted, uts46, &long, &characters)?;
     let pairs = pairs(alloc, records)?;
     let tests = [
         (BuildError::Class, faults.class),

@@ -5,7 +5,7 @@ use Rattle.std.proofs.lemmas.Bool.Decides.{nat_tests}
 use Rattle.normalizer_tables.specs.SpecialLists.{fdfa_list}
 use Rattle.normalizer_records.specs.declared.records.BuildError.TheVariants as error
 use Rattle.normalizer_records.specs.RecordValue.{RecordValue, Uts46RecordValue}
-use Rattle.normalizer_records.specs.Faults.{HasFault, HasChainFault, HasLengthFault, HasLongList, IsAsked, IsFirstRefusal, IsOnLongChain, IsTooLong, mapped_to}
+use Rattle.normalizer_records.specs.Faults.{HasFault, HasChainFault, HasLengthFault, HasLongList, HasLongOwnList, IsAsked, IsFirstRefusal, IsOnLongChain, IsTooLong, mapped_to}
 use Rattle.normalizer_records.specs.Meaning.{mapper_list, status_of}
 use Rattle.normalizer_records.specs.inner.CutLists.{HasRoom}
 use Rattle.normalizer_records.proofs.record_faults.RefusalLemmas.{unrefused}
@@ -30,9 +30,9 @@ module _ (records : List RecordValue) (uts46 : List Uts46RecordValue) (none : Is
   asked c = record { off_chain = off_chain c; mapped_off_chain = λ k d within. off_chain (get_or (mapped_to (status_of uts46 c)) k d) }
 
   pub room : (c : ℕ) → HasRoom records uts46 c
-  unfolding HasFault HasLengthFault HasLongList
+  unfolding HasFault HasLengthFault HasLongList HasLongOwnList
   room c = record {
-    canonical = short _ (λ h. unrefused records uts46 none error.Length (c, asked c, inl h));
-    compatibility = short _ (λ h. unrefused records uts46 none error.Length (c, asked c, inr (inl h)));
-    mapper = short_if_some (mapper_list records uts46 c) (λ h. unrefused records uts46 none error.Length (c, asked c, inr (inr h)));
+    canonical = short _ (λ h. unrefused records uts46 none error.Length (c, asked c, inl (inl h)));
+    compatibility = short _ (λ h. unrefused records uts46 none error.Length (c, asked c, inl (inr h)));
+    mapper = short_if_some (mapper_list records uts46 c) (λ h. unrefused records uts46 none error.Length (c, asked c, inr h));
   }

@@ -15,7 +15,7 @@ use Rattle.normalizer_records.specs.RecordValue.{RecordValue, IsIgnored, Uts46Re
 use Rattle.normalizer_records.specs.Meaning.{entry_of, class_of, replacement, expansion, full_list, recorded_classes, status_of, mapper_list, mapped_list, levels}
 use Rattle.normalizer_records.specs.inner.Lookup.{no_entry}
 use Rattle.normalizer_records.specs.inner.CutLists.{IsOfSome}
-use Rattle.normalizer_records.specs.Faults.{is_fixed, has_fixed_fault, begins_with_mark, HasWrongClass, HasLongList, IsAsked, HasClassFault, HasLengthFault}
+use Rattle.normalizer_records.specs.Faults.{is_fixed, has_fixed_fault, begins_with_mark, HasWrongClass, HasWrongOwnClass, HasLongList, HasLongOwnList, IsAsked, HasClassFault, HasLengthFault}
 use Rattle.normalizer_records.proofs.checked_lists.ChecksOfCuts.{begins-order}
 use Rattle.normalizer_records.proofs.replacing.ExpansionLemmas.{expansion-alone, expansion-replaced}
 use Rattle.normalizer_records.proofs.record_faults.LookupLemmas.{stands_or_none}
@@ -94,12 +94,12 @@ module _ (records : List RecordValue) (uts46 : List Uts46RecordValue) (fixed : h
         (begins-order records (expansion records mappings levels c) ∙ bare.0, omega arith)
 
   HasWrongClass-unrecorded : (c : ℕ) → entry_of records c ≡ None → status_of uts46 c ≡ None → HasWrongClass records uts46 c → ⊥
-  unfolding HasWrongClass mapper_list mapped_list
+  unfolding HasWrongClass HasWrongOwnClass mapper_list mapped_list
   HasWrongClass-unrecorded c h k wrong =
       absurd (grind (arith, nat_tests, class_of-unrecorded c h, (full_list-bare Canonical c h).0, (full_list-bare AllMappings c h).0))
 
   HasLongList-unrecorded : (c : ℕ) → entry_of records c ≡ None → status_of uts46 c ≡ None → HasLongList records uts46 c → ⊥
-  unfolding HasLongList mapper_list mapped_list
+  unfolding HasLongList HasLongOwnList mapper_list mapped_list
   HasLongList-unrecorded c h k long = absurd (grind (arith, nat_tests, (full_list-bare Canonical c h).1, (full_list-bare AllMappings c h).1))
 
   -- every character is recorded in one way or the other, or in none

@@ -10,7 +10,7 @@ use Rattle.std.proofs.lemmas.List.Folds.{Any-from_list_any, list_any_at}
 use Rattle.normalizer_records.specs.Meaning.{status_of}
 use Rattle.normalizer_records.specs.inner.Chains.{IsSetOf}
 use Rattle.normalizer_records.specs.declared.records.BuildError.{BuildError}
-use Rattle.normalizer_records.specs.declared.records.BuildError.TheVariants.{Order, Fixed, Class, Mapping, Chain, Length, Pair, Unfit, TableFull, Memory}
+use Rattle.normalizer_records.specs.declared.records.BuildError.TheVariants.{Order, Fixed, Class, Mapping, Chain, Length, Pair}
 use Rattle.normalizer_records.specs.RecordValue.{RecordValue, Uts46RecordValue}
 use Rattle.normalizer_records.specs.Faults.{AreMapperRising, AreRising, faults, has_fixed_fault, HasFault, HasOrderFault, IsAsked, IsFirstRefusal, IsFirstWith, IsOnLongChain, mapped_to}
 

@@ -4,12 +4,12 @@ use Rattle.std.proofs.Common.{inl, inr, sym, ap, subst, ◌∙◌, arith, append
 use Rattle.std.specs.BTreeSet.{BTreeSet, contains, IsFromIterResult}
 use Rattle.std.specs.Option.{option_map_or}
 use Rattle.std.specs.Ordering.{nat_cmp}
-use Rattle.std.proofs.lemmas.Bool.{cases_eq, true≢false}
+use Rattle.std.proofs.lemmas.Bool.{cases_eq, lt-ltb, true≢false}
 use Rattle.std.proofs.lemmas.Cmp.{nat_cmp_total}
 use Rattle.std.proofs.lemmas.Bool.Decides.{Decides-and, Decides-or, nat_tests}
 use Rattle.std.specs.List.{list_any}
 use Rattle.std.proofs.Math.Seq.{split_at}
-use Rattle.std.proofs.lemmas.List.{get_or_default, get_or-map, length-map, take_all, take_more, length-take}
+use Rattle.std.proofs.lemmas.List.{get_or_default, get_or-map, length-drop, length-map, take_all, take_more, length-take}
 use Rattle.std.proofs.lemmas.List.Elements.{Contains-get_or, Contains-append_cases, Contains-append_left, Contains-append_right}
 use Rattle.std.proofs.lemmas.List.Folds.{Any-from_list_any, list_any-from_Any}
 use Rattle.std.proofs.lemmas.Map.Lookups.{exact_unsigned}
@@ -17,7 +17,7 @@ use Rattle.std.proofs.lemmas.Map.Views.{btree_set_contains_from_list, btree_set_
 use Rattle.normalizer_records.specs.RecordValue.{RecordValue}
 use Rattle.normalizer_records.specs.Meaning.{entry_of, mapping_of}
 use Rattle.normalizer_records.specs.Faults.{AreRising, IsRecorded, IsChain, IsOnLongChain, HasChainFault}
-use Rattle.normalizer_records.specs.inner.Chains.{beginning, IsBetween, IsLedTo, IsSetOf, LeadsOn}
+use Rattle.normalizer_records.specs.inner.Chains.{beginning, HasLed, IsBetween, IsLedTo, IsSetOf, leading, leads_on, LeadsOn}
 use Rattle.normalizer_records.specs.inner.Lookup.{no_entry}
 use Rattle.normalizer_records.proofs.record_faults.LookupLemmas.{find-found, stands_or_none}
 
@@ -133,15 +133,25 @@ module _ (records : List RecordValue) where
       unfolding IsBetween
       IsBetween-more n on from = rw is (Decides-or _ _ from (Decides-and _ _ (on c) (h c)))
 
-  -- if no character is led to by so many records, no chain is long
-  pub no_long_chain : (k : ℕ) (led : BTreeSet ℕ) → k ≤ 16 → IsSetOf (IsLedTo records k) led → length led.keys ≡ 0 → (c : ℕ) → IsOnLongChain records c → ⊥
+  leads-by_member : (b c : ℕ) → Contains (mapping_of records b) c → leads_on records b ≡ true
+  leads-by_member b c h = let within = h.1 in lt-ltb 0 (length (mapping_of records b)) (omega arith)
+
+  leads_in_chain : (d : ℕ) (rest : List ℕ) → 0 < length rest → IsChain records (d ∷ rest) → leads_on records d ≡ true
+  unfolding IsChain
+  leads_in_chain d [] some chain = absurd (omega arith)
+  leads_in_chain d (e ∷ rest) some chain = leads-by_member d e chain.1
+
+  -- if so few records lead to no character from which one leads on, no chain is long
+  pub no_long_chain : (k : ℕ) (led : BTreeSet ℕ) → k < 16 → HasLed records k led → length led.keys ≡ 0 → (c : ℕ) → IsOnLongChain records c → ⊥
   unfolding IsOnLongChain
   no_long_chain k led low is none c (before, after, chain, long) =
       let xs = before ++ c ∷ after in
       let d = get_or xs k 0 in
       let split : xs ≡ take k xs ++ d ∷ drop (suc k) xs = split_at xs k 0 (omega arith) in
-      let reached = led_from_chain k d (take k xs) (drop (suc k) xs) (omega (arith, length-take k xs)) (subst (IsChain records) split chain) in
-      let within = ((btree_set_contains_iff nat_cmp_total exact_unsigned led d).0 ((is d).1 reached)).1 in
+      let there = subst (IsChain records) split chain in
+      let reached = led_from_chain k d (take k xs) (drop (suc k) xs) (omega (arith, length-take k xs)) there in
+      let on = leads_in_chain d (drop (suc k) xs) (omega (arith, length-drop (suc k) xs)) (descend (take k xs) (d ∷ drop (suc k) xs) there) in
+      let within = ((btree_set_contains_iff nat_cmp_total exact_unsigned led d).0 (is d reached on)).1 in
       absurd (omega arith)
 
   -- some character is on a long chain exactly if there is one
@@ -181,6 +191,10 @@ module _ (records : List RecordValue) where
         λ h. let r = record_of c h in have.1 (subst (Contains (map (λ (e : RecordValue). e.c) records)) r.2 (Contains-map (λ (e : RecordValue). e.c) records r.0 r.1)),
       )
 
+  pub HasLed-recorded : (s : BTreeSet ℕ) → IsFromIterResult nat_cmp (map (λ r. r.c) records) s → HasLed records 0 s
+  unfolding IsLedTo
+  HasLed-recorded s is c recorded on = (IsSetOf-recorded s is c).1 recorded
+
   module _ (rising : AreRising records) where
     -- a mapping is that of a record
     mapping-of_record : (r : RecordValue) → Contains records r → mapping_of records r.c ≡ r.mapping
@@ -214,6 +228,16 @@ module _ (records : List RecordValue) where
               let (r, inside, same, (k, in_mapping, at)) = record_with c d h in
               let yes = list_any-from_Any (contains nat_cmp set) r.mapping (k, d, in_mapping, at, (on d).1 further) in
               Contains-flat_map (beginning set) records c r inside (rw yes (0, omega arith, same))
+
+  leading-member : (mapping : List ℕ) (c : ℕ) → Contains mapping c → leads_on records c ≡ true → Contains (leading records mapping) c
+  leading-member mapping c (k, within, is) on = rw (list_any-from_Any (leads_on records) mapping (k, c, within, is, on)) (k, within, is)
+
+  pub HasLed-more : (n : ℕ) (set s : BTreeSet ℕ) → HasLed records n set → IsFromIterResult nat_cmp (flat_map (λ c. leading records (mapping_of records c)) set.keys) s → HasLed records (suc n) s
+  unfolding IsLedTo
+  HasLed-more n set s led is c (b, member, further) on =
+      let listed = (btree_set_contains_iff nat_cmp_total exact_unsigned set b).0 (led b further (leads-by_member b c member)) in
+      (btree_set_contains_from_list nat_cmp_total exact_unsigned (flat_map (λ e. leading records (mapping_of records e)) set.keys) s is c).1
+      (Contains-flat_map (λ e. leading records (mapping_of records e)) set.keys c b listed (leading-member (mapping_of records b) c member on))
 
   pub IsLedTo-more : (n : ℕ) (set s : BTreeSet ℕ) → IsSetOf (IsLedTo records n) set → IsFromIterResult nat_cmp (flat_map (mapping_of records) set.keys) s → IsSetOf (IsLedTo records (suc n)) s
   unfolding IsLedTo

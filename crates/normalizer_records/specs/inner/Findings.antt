@@ -7,7 +7,7 @@ use Rattle.normalizer_records.specs.inner.Chains.{IsSetOf}
 
 -- records that are sorted, the characters on long chains, and the pairs
 pub record AreFound (f : Findings) : Type 0 where
-  pub rising : AreRising f.records.now
+  pub rising : AreRising f.records
   pub mapper : AreMapperRising f.uts46.now
-  pub chains : IsSetOf (IsOnLongChain f.records.now) f.long
-  pub pairs : f.pairs.items ≡ pairs_of f.records.now
+  pub chains : IsSetOf (IsOnLongChain f.records) f.long
+  pub pairs : f.pairs.items ≡ pairs_of f.records

@@ -38,4 +38,5 @@ returns-then-not-are_rising c first =
 pub returns : goal.returns
 returns c first =
     ordered c.args.records.now c.args.uts46.now c.args.error first (c.are_rising.ensures.0 c.if-not-are_rising.false)
-    (c.are_mapper_rising.ensures.0 c.if-not-are_mapper_rising.false) _ c.first_showing.ensures
+    (c.are_mapper_rising.ensures.0 c.if-not-are_mapper_rising.false) _
+    (subst (λ (xs : List RecordValue). IfOk c.first_showing.result (IsFirstShowing xs c.args.uts46.now c.args.error)) (c.sorted.view_is ∙ c.in_ok-sorted.ensures) c.first_showing.ensures)

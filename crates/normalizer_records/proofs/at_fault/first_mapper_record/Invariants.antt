@@ -4,4 +4,4 @@ use Rattle.normalizer_records.proofs.at_fault.first_mapper_record.Given as goal
 
 abbrev pub invariant-loop-record : goal.invariant-loop-record
 invariant-loop-record l =
-    All (λ r. ¬ MapperShowsFault l.findings.records.now l.findings.uts46.now l.error r) (take l.record-index l.uts46)
+    All (λ r. ¬ MapperShowsFault l.findings.records l.findings.uts46.now l.error r) (take l.record-index l.uts46)

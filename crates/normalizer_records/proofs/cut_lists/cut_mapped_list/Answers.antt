@@ -10,6 +10,6 @@ pub returns-in_ok-vec-in-Disallowed-clause-list : goal.returns-in_ok-vec-in-Disa
 unfolding list_of_status
 returns-in_ok-vec-in-Disallowed-clause-list c = rw (c.in-Disallowed.is, c.in_ok-vec-in-Disallowed.ensures.items) (StandsFor-itself c.args.records.now _)
 
-pub returns-in_ok-list-in-Mapped-clause-list : goal.returns-in_ok-list-in-Mapped-clause-list
+pub returns-in_ok-cut_text-in-Mapped-clause-list : goal.returns-in_ok-cut_text-in-Mapped-clause-list
 unfolding list_of_status
-returns-in_ok-list-in-Mapped-clause-list c = rw c.in-Mapped.is (rw c.deref.ensures.value at c.in_ok-list-in-Mapped.ensures.list)
+returns-in_ok-cut_text-in-Mapped-clause-list c = rw c.in-Mapped.is (rw c.deref.ensures.value at c.in_ok-cut_text-in-Mapped.ensures.list)

@@ -4,11 +4,11 @@ use Rattle.normalizer_records.specs.Statuses.{status_of as status_value}
 use Rattle.normalizer_records.specs.Meaning.{mapper_list, mapped_list, status_of}
 use Rattle.normalizer_records.proofs.cut_lists.cut_mapper_list.Goals as goal
 
-pub returns-in_ok-list-in-None-clause-list : goal.returns-in_ok-list-in-None-clause-list
+pub returns-in_ok-from_slice-in-None-clause-list : goal.returns-in_ok-from_slice-in-None-clause-list
 unfolding mapper_list mapped_list
-returns-in_ok-list-in-None-clause-list c =
+returns-in_ok-from_slice-in-None-clause-list c =
     let none : status_of c.args.uts46.now c.args.c ≡ None = sym c.in-None.ensures in
-    rw (none, c.in_ok-list-in-None.ensures.items) c.requires.canonical
+    rw (none, c.in_ok-from_slice-in-None.ensures.items) c.requires.canonical
 
 pub returns-in-Some-clause-list : goal.returns-in-Some-clause-list
 unfolding mapper_list mapped_list

@@ -1,5 +1,4 @@
-use Rattle.std.proofs.Common.{◌≡◌, ◌↔◌, ℕ, Bool, false, find, List, [], ◌∷◌, All, Contains, length, map, IsTrue, None, inr, refl, sym, subst, ◌∙◌}
-use Rattle.std.specs.List.{AllByRecursion}
+use Rattle.std.proofs.Common.{◌≡◌, ◌↔◌, ℕ, Bool, false, find, List, [], ◌∷◌, All, Contains, length, IsTrue, None, inr, refl, sym, subst, ◌∙◌}
 use Rattle.std.specs.Option.{option_map}
 use Rattle.normalizer_records.specs.declared.records.BuildError.{BuildError}
 use Rattle.normalizer_records.specs.declared.records.BuildError.TheVariants.{Class, Mapping, Chain, Length, Pair}
@@ -37,13 +36,14 @@ returns-in-None c =
     let uts46 = c.args.uts46.now in
     let listed = c.in_ok-characters.ensures in
     let same = c.deref.ensures.value in
+    let sorted = c.in_ok-sorted.ensures in
     let none : IsFirstRefusal records uts46 None = subst (IsFirstRefusal records uts46) (sym c.in-None.ensures)
-    (by_characters records uts46 c.requires.rising c.requires.mapper c.requires.fixed _ listed.all _ _ _ _ _ (rw same at c.in_ok-entries.ensures.class) c.has_mapping_fault.ensures
-    (HasChainFault-some records _ c.in_ok-long.ensures _ c.is_empty.ensures) (rw same at c.in_ok-entries.ensures.length)
+    (by_characters records uts46 c.requires.rising c.requires.mapper c.requires.fixed _ listed.all _ _ _ _ _ (rw (same, sorted) at c.in_ok-entries.ensures.class) c.has_mapping_fault.ensures
+    (HasChainFault-some records _ (rw sorted at c.in_ok-long.ensures) _ c.is_empty.ensures) (rw (same, sorted) at c.in_ok-entries.ensures.length)
     (decides records _ c.in_ok-pairs.ensures.same c.in_ok-pairs.ensures.sorted _ (rw c.deref-2.ensures.value at c.are_rising.ensures))) in
     record {
       unrefused = none;
-      made = record { characters = _; listed = listed; made = rw same at c.in_ok-entries.ensures.entries (room records uts46 none) };
+      made = record { characters = _; listed = listed; made = (rw (same, sorted) at c.in_ok-entries.ensures.entries) (room records uts46 none) };
       characters = c.in_ok-entries.ensures.characters;
       same_pairs = c.in_ok-pairs.ensures.same;
       rising_pairs = c.in_ok-pairs.ensures.rising (unrefused records uts46 none Pair);
@@ -54,7 +54,8 @@ returns c =
     let records = c.args.records.now in
     let uts46 = c.args.uts46.now in
     let same = c.deref.ensures.value in
+    let sorted = c.in_ok-sorted.ensures in
     inr (subst (IsFirstRefusal records uts46) (sym c.in-Some.ensures)
-    (by_characters records uts46 c.requires.rising c.requires.mapper c.requires.fixed _ c.in_ok-characters.ensures.all _ _ _ _ _ (rw same at c.in_ok-entries.ensures.class) c.has_mapping_fault.ensures
-    (HasChainFault-some records _ c.in_ok-long.ensures _ c.is_empty.ensures) (rw same at c.in_ok-entries.ensures.length)
+    (by_characters records uts46 c.requires.rising c.requires.mapper c.requires.fixed _ c.in_ok-characters.ensures.all _ _ _ _ _ (rw (same, sorted) at c.in_ok-entries.ensures.class) c.has_mapping_fault.ensures
+    (HasChainFault-some records _ (rw sorted at c.in_ok-long.ensures) _ c.is_empty.ensures) (rw (same, sorted) at c.in_ok-entries.ensures.length)
     (decides records _ c.in_ok-pairs.ensures.same c.in_ok-pairs.ensures.sorted _ (rw c.deref-2.ensures.value at c.are_rising.ensures))))
