@@ -150,13 +150,12 @@ fn parts_of(alloc: Global, records: &[Record], ranges: &[Uts46Range]) -> Result<
     let mut others = Vec::new(alloc);
     let mut disallowed = Vec::new(alloc);
     for range in ranges {
-        put_range(alloc, records, range, &mut others, &mut disallowed)?;
+        put_range(records, range, &mut others, &mut disallowed)?;
     }
     Ok(Parts { others, disallowed })
 }
 
 fn put_range(
-    alloc: Global,
     records: &[Record],
     range: &Uts46Range,
     others: &mut Vec<Uts46Record>,
@@ -171,7 +170,7 @@ fn put_range(
             disallowed.push(ends)?;
             Ok(())
         }
-        None => push_records(alloc, others, range),
+        None => push_records(others, range),
     }
 }
 

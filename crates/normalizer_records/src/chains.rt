@@ -120,18 +120,13 @@ fn leading_on(
     Ok(leading)
 }
 
-/// Whether a record leads on from a character.
-fn leads_on(records: &SortedRecords<'_>, c: char) -> bool
-    ensures { result ≡ leads_on records.now c }
-{
-    0 < records.mapping_of(c).len()
-}
-
 /// Whether a record leads on from a character of a list.
 fn any_leads_on(records: &SortedRecords<'_>, mapping: &[char]) -> bool
     ensures { result ≡ list_any (leads_on records.now) mapping.now }
 {
-    mapping.iter().any(|member| leads_on(records, *member))
+    mapping
+        .iter()
+        .any(|member| 0 < records.mapping_of(*member).len())
 }
 
 /// A mapping, if a record leads on from one of its members.

@@ -175,6 +175,7 @@ fn own_faults(
     let class = records.class_of(c);
     let own = list_faults(records, c, 0 < class, canonical);
     let other = list_faults(records, c, 0 < class, compatibility);
+    // (`|`, since each is known)
     ListFaults {
         class: (class == 255) | (own.class | other.class),
         length: own.length | other.length,

@@ -41,7 +41,7 @@ pub fn records_of_ranges(
 {
     let mut records = Vec::new(alloc);
     for range in ranges {
-        push_records(alloc, &mut records, range)?;
+        push_records(&mut records, range)?;
     }
     Ok(records)
 }
@@ -51,22 +51,17 @@ pub fn records_of_ranges(
 /// # Errors
 /// [`AllocError`] if an allocation failed.
 #[tactic(auto, unfolding(crate::specs::Ranges::entries_of))]
-pub fn push_records(
-    alloc: Global,
-    records: &mut Vec<Uts46Record>,
-    range: &Uts46Range,
-) -> Result<(), AllocError>
+pub fn push_records(records: &mut Vec<Uts46Record>, range: &Uts46Range) -> Result<(), AllocError>
     ensures { OnOk result (records.new.items ≡ records.old.items ++ entries_of range.now) }
 {
     for code in range.first..range.end {
-        push_record(alloc, records, code, &range.status)?;
+        push_record(records, code, &range.status)?;
     }
     Ok(())
 }
 
 /// Adds the record of a character; a surrogate is none.
 fn push_record(
-    alloc: Global,
     records: &mut Vec<Uts46Record>,
     code: u32,
     status: &Uts46Status,
@@ -74,18 +69,8 @@ fn push_record(
     ensures { OnOk result (records.new.items ≡ records.old.items ++ entries_at (status_of_record status.now) code) }
 {
     if let Some(c) = char::from_u32(code) {
-        let status = copied(alloc, status)?;
+        let status = status.clone()?;
         records.push(Uts46Record { c, status })?;
     }
     Ok(())
-}
-
-fn copied(alloc: Global, status: &Uts46Status) -> Result<Uts46Status, AllocError>
-    ensures { IfOk result (λ s. status_of_record s ≡ status_of_record status.now) }
-{
-    match status {
-        Uts46Status::Mapped(mapping) => Ok(Uts46Status::Mapped(mapping.to_vec(alloc)?)),
-        Uts46Status::Ignored => Ok(Uts46Status::Ignored),
-        Uts46Status::Disallowed => Ok(Uts46Status::Disallowed),
-    }
 }
