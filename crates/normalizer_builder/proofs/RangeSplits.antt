@@ -14,7 +14,7 @@ use Rattle.normalizer_tables.specs.Hangul.{is_hangul_syllable}
 use Rattle.normalizer_packing.specs.Disallowed.{is_in}
 use Rattle.normalizer_records.specs.Faults.{is_disallowed, is_fixed}
 use Rattle.normalizer_records.specs.Meaning.{entry_of}
-use Rattle.normalizer_records.specs.Ranges.{RangeStatus, entries_of}
+use Rattle.normalizer_records.specs.Ranges.{Uts46RangeValue, entries_of}
 use Rattle.normalizer_records.specs.RecordValue.{IsDisallowed, IsIgnored, MapsTo, RecordValue, Status, Uts46RecordValue}
 use Rattle.normalizer_records.proofs.RangeRecords.{AreRanges, IsOfRange, character, of_ranges, record_in_range, records_of_range}
 use Rattle.normalizer_records.proofs.RisingLemmas.{rising}
@@ -35,7 +35,7 @@ filter_same p q [] h = refl
 filter_same p q (x ∷ xs) h = rw (All-head (λ y. p y ≡ q y) x xs h) (ap (λ ys. cond (q x) (x ∷ ys) ys) (filter_same p q xs (All-tail (λ y. p y ≡ q y) x xs h)))
 
 -- what is known of a range that stays one
-record IsWhole (records : List RecordValue) (r : RangeStatus) (ends : ℕ × ℕ) : Type 0 where
+record IsWhole (records : List RecordValue) (r : Uts46RangeValue) (ends : ℕ × ℕ) : Type 0 where
   status : r.status ≡ IsDisallowed
   first : ends.0 ≡ r.first
   last : ends.1 + 1 ≡ r.end
@@ -70,7 +70,7 @@ ends_are first end ends is = by _ refl is
         let last : end - 1 ≡ ends.1 = ap (λ (p : ℕ × ℕ). p.1) same in
         (sym (ap (λ (p : ℕ × ℕ). p.0) same), grind (arith, nat_tests))
 
-whole_is : (records : List RecordValue) (r : RangeStatus) (ends : ℕ × ℕ) → whole_range records r ≡ Some ends → IsWhole records r ends
+whole_is : (records : List RecordValue) (r : Uts46RangeValue) (ends : ℕ × ℕ) → whole_range records r ≡ Some ends → IsWhole records r ends
 unfolding whole_range entry_of
 whole_is records r ends is = by _ refl is
   where
@@ -94,13 +94,13 @@ unfolding is_in
 in_cons r ranges n = refl
 
 module _ (records : List RecordValue) where
-  abbrev all_of : List RangeStatus → List Uts46RecordValue
+  abbrev all_of : List Uts46RangeValue → List Uts46RecordValue
   all_of ranges = flat_map entries_of ranges
 
-  abbrev others_of : List RangeStatus → List Uts46RecordValue
+  abbrev others_of : List Uts46RangeValue → List Uts46RecordValue
   others_of ranges = flat_map (listed_of records) ranges
 
-  abbrev whole_of : List RangeStatus → List (ℕ × ℕ)
+  abbrev whole_of : List Uts46RangeValue → List (ℕ × ℕ)
   whole_of ranges = filter_map (whole_range records) ranges
 
   -- what is known of the records of ranges from n on
@@ -127,7 +127,7 @@ module _ (records : List RecordValue) where
     unfixed = λ m is. absurd (true≢false (sym is));
   }
 
-  module _ (n : ℕ) (r : RangeStatus) (later : n ≤ r.first) (some : r.first ≤ r.end) (all others : List Uts46RecordValue) (whole : List (ℕ × ℕ)) (rest : IsSplitFrom r.end all others whole) where
+  module _ (n : ℕ) (r : Uts46RangeValue) (later : n ≤ r.first) (some : r.first ≤ r.end) (all others : List Uts46RecordValue) (whole : List (ℕ × ℕ)) (rest : IsSplitFrom r.end all others whole) where
     own : All (IsOfRange r.first r.end r.status) (entries_of r)
     own = records_of_range r some
 
@@ -208,7 +208,7 @@ module _ (records : List RecordValue) where
         by None is = listed_split
         by (Some ends) is = whole_split ends (whole_is records r ends is)
 
-  parts_of_rise : (n : ℕ) (r : RangeStatus) (ranges : List RangeStatus) → rise_from n (r ∷ ranges) ≡ true → (n ≤ r.first) × (r.first ≤ r.end) × (rise_from r.end ranges ≡ true)
+  parts_of_rise : (n : ℕ) (r : Uts46RangeValue) (ranges : List Uts46RangeValue) → rise_from n (r ∷ ranges) ≡ true → (n ≤ r.first) × (r.first ≤ r.end) × (rise_from r.end ranges ≡ true)
   unfolding rise_from
   parts_of_rise n r ranges h =
       let one = and_parts (nat_le n r.first) _ h in
@@ -217,13 +217,13 @@ module _ (records : List RecordValue) where
       let high : r.first ≤ r.end = (let e = two.0 in grind (arith, nat_tests)) in
       (low, high, two.1)
 
-  split_from : (n : ℕ) (ranges : List RangeStatus) → rise_from n ranges ≡ true → IsSplitFrom n (all_of ranges) (others_of ranges) (whole_of ranges)
+  split_from : (n : ℕ) (ranges : List Uts46RangeValue) → rise_from n ranges ≡ true → IsSplitFrom n (all_of ranges) (others_of ranges) (whole_of ranges)
   split_from n [] h = none_split n
   split_from n (r ∷ ranges) h =
       let parts = parts_of_rise n r ranges h in
       one_more n r parts.0 parts.1 (all_of ranges) (others_of ranges) (whole_of ranges) (split_from r.end ranges parts.2)
 
-  ranges_rise : (n : ℕ) (ranges : List RangeStatus) → rise_from n ranges ≡ true → (m : ℕ) × AreRanges n m ranges
+  ranges_rise : (n : ℕ) (ranges : List Uts46RangeValue) → rise_from n ranges ≡ true → (m : ℕ) × AreRanges n m ranges
   ranges_rise n [] h = (n, omega arith)
   ranges_rise n (r ∷ ranges) h =
       let parts = parts_of_rise n r ranges h in
@@ -231,7 +231,7 @@ module _ (records : List RecordValue) where
       (rest.0, (parts.0, parts.1, rest.1))
 
   -- all records of ranges that rise
-  pub ranges_split : (ranges : List RangeStatus) → rise_from 0 ranges ≡ true → IsSplit records (all_of ranges) (others_of ranges) (whole_of ranges)
+  pub ranges_split : (ranges : List Uts46RangeValue) → rise_from 0 ranges ≡ true → IsSplit records (all_of ranges) (others_of ranges) (whole_of ranges)
   ranges_split ranges h =
       let s = split_from 0 ranges h in
       let within = ranges_rise 0 ranges h in

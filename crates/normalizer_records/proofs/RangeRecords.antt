@@ -8,7 +8,7 @@ use Rattle.std.proofs.lemmas.Bool.{cases_Bool, cases_lt}
 use Rattle.std.proofs.lemmas.Bool.Decides.{nat_tests}
 use Rattle.std.proofs.lemmas.List.Elements.{All-append, All-cons, All-nil, Contains-append_left, Contains-append_right}
 use Rattle.normalizer_records.specs.RecordValue.{Status, Uts46RecordValue}
-use Rattle.normalizer_records.specs.Ranges.{RangeStatus, entries_at, entries_of}
+use Rattle.normalizer_records.specs.Ranges.{Uts46RangeValue, entries_at, entries_of}
 use Rattle.normalizer_records.proofs.RisingLemmas.{from_less, joined, AreWithin, IsWithin}
 
 abbrev is_scalar_value : ℕ → Bool
@@ -17,7 +17,7 @@ is_scalar_value n = is_in_range 0 0xD7FF n || is_in_range 0xE000 0x10FFFF n
 abbrev pub character : Uts46RecordValue → ℕ
 character r = r.c
 
-abbrev pub AreRanges : ℕ → ℕ → List RangeStatus → Type 0
+abbrev pub AreRanges : ℕ → ℕ → List Uts46RangeValue → Type 0
 AreRanges = IsWithin (λ r. r.first) (λ r. r.end)
 
 -- the record of a character, if it is one, and those of what follows
@@ -35,7 +35,7 @@ all_within status (suc count) first end is =
     (flat_map (entries_at status) (range_with_len (first + 1) count))
     (all_within status count (first + 1) end (omega arith))
 
-pub of_ranges : (n m : ℕ) (ranges : List RangeStatus) → AreRanges n m ranges →
+pub of_ranges : (n m : ℕ) (ranges : List Uts46RangeValue) → AreRanges n m ranges →
     AreWithin character n m (flat_map entries_of ranges)
 unfolding entries_of
 of_ranges n m [] h = h
@@ -81,10 +81,10 @@ module _ (status : Status) where
         Contains-append_left (entries_at status first) _ _ (rw (same, values_of_scalars n scalar) (0, omega arith, refl)))
   ]
 
-pub records_of_range : (r : RangeStatus) → r.first ≤ r.end → All (IsOfRange r.first r.end r.status) (entries_of r)
+pub records_of_range : (r : Uts46RangeValue) → r.first ≤ r.end → All (IsOfRange r.first r.end r.status) (entries_of r)
 unfolding entries_of
 records_of_range r some = each_of r.status (r.end - r.first) r.first r.end (omega arith)
 
-pub record_in_range : (r : RangeStatus) (n : ℕ) → r.first ≤ n → n < r.end → IsScalar n → Contains (entries_of r) (record { c = n; status = r.status })
+pub record_in_range : (r : Uts46RangeValue) (n : ℕ) → r.first ≤ n → n < r.end → IsScalar n → Contains (entries_of r) (record { c = n; status = r.status })
 unfolding entries_of
 record_in_range r n low high scalar = listed_of r.status (r.end - r.first) r.first n low (omega arith) scalar

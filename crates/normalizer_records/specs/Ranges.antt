@@ -5,7 +5,7 @@ use Rattle.std.specs.List.{flat_map, range_with_len}
 use Rattle.normalizer_records.specs.RecordValue.{Status, Uts46RecordValue}
 
 -- the code points from first on, before end, and what is done with them
-pub record RangeStatus : Type 0 where
+pub record Uts46RangeValue : Type 0 where
   pub first : ℕ
   pub end : ℕ
   pub status : Status
@@ -16,5 +16,5 @@ entries_at status c =
     if is_in_range 0 0xD7FF c || is_in_range 0xE000 0x10FFFF c then record { c = c; status = status } ∷ [] else []
 
 -- a record for each character of a range
-unfoldable pub entries_of : RangeStatus → List Uts46RecordValue
+unfoldable pub entries_of : Uts46RangeValue → List Uts46RecordValue
 entries_of r = flat_map (entries_at r.status) (range_with_len r.first (r.end - r.first))

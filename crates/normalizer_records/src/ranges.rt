@@ -20,9 +20,9 @@ pub struct Uts46Range {
 }
 
 impl Model for Uts46Range {
-    ghost use Rattle.normalizer_records.specs.Ranges.{RangeStatus};
+    ghost use Rattle.normalizer_records.specs.Ranges.{Uts46RangeValue};
 
-    ghost Value = { RangeStatus };
+    ghost Value = { Uts46RangeValue };
 
     ghost use Rattle.normalizer_records.specs.Statuses.{status_of};
 

@@ -7,11 +7,11 @@ use Rattle.std.specs.List.{list_any}
 use Rattle.normalizer_packing.specs.Disallowed.{is_in}
 use Rattle.normalizer_records.specs.Faults.{AreMapperRising, is_disallowed, is_fixed}
 use Rattle.normalizer_records.specs.Meaning.{entry_of}
-use Rattle.normalizer_records.specs.Ranges.{RangeStatus, entries_of}
+use Rattle.normalizer_records.specs.Ranges.{Uts46RangeValue, entries_of}
 use Rattle.normalizer_records.specs.RecordValue.{IsDisallowed, RecordValue, Uts46RecordValue}
 
 -- each range begins at or after the end of the one before, the first one at n or after it
-unfoldable pub rise_from : ℕ → List RangeStatus → Bool
+unfoldable pub rise_from : ℕ → List Uts46RangeValue → Bool
 rise_from n [] = true
 rise_from n (r ∷ ranges) = nat_le n r.first && (nat_le r.first r.end && rise_from r.end ranges)
 
@@ -35,13 +35,13 @@ ends_of first end =
     && (is_in_range 0 0xD7FF (end - 1) || is_in_range 0xE000 0x10FFFF (end - 1))) then Some (first, end - 1) else None
 
 -- the ends of a range that stays one: it is only recorded of its characters that the mapper disallows them
-unfoldable pub whole_range : List RecordValue → RangeStatus → Option (ℕ × ℕ)
+unfoldable pub whole_range : List RecordValue → Uts46RangeValue → Option (ℕ × ℕ)
 whole_range records r =
     if is_disallowed r.status && (is_free r.first r.end && not (is_recorded records r.first r.end))
     then ends_of r.first r.end else None
 
 -- the records of a range that doesn't
-abbrev pub listed_of : List RecordValue → RangeStatus → List Uts46RecordValue
+abbrev pub listed_of : List RecordValue → Uts46RangeValue → List Uts46RecordValue
 listed_of records r = elim (whole_range records r) [ Some ends ↦ [] | None ↦ entries_of r ]
 
 -- of all records of the mapper, those that aren't in ranges, which have disallowed characters of which nothing else is
