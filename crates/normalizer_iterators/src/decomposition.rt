@@ -23,7 +23,7 @@ ghost use Rattle.normalizer_tables.specs.Pairs.{Pair};
 
 use crate::error::NormalizeError;
 use crate::pending::{PendingChar, read_from};
-use crate::reading::{push_others, read_on};
+use crate::reading::{is_at_boundary, push_others, read_on};
 use crate::waiting::{ClassedChar, WaitingList};
 use normalizer_tables::characters::{CharacterData, IgnoredCharacters};
 use normalizer_tables::condition::GREATEST_BOUNDS;
@@ -223,7 +223,7 @@ pub fn decomposed<'data, I: Iterator<Item = char> + Drop>(
     Decomposition::over(characters, ignored, delegate)
 }
 
-/// Whether a character is its own list, and a boundary follows it.
+/// Whether a character is known to be its own list, and a boundary follows it.
 #[inline(always)]
 fn is_whole_chunk(
     characters: &CharacterData<'_>,
@@ -236,13 +236,7 @@ fn is_whole_chunk(
     ensures { IsTrue result → IsWholeChunk (has_class_form characters.now)
         (reading_by characters.now ignored []) read.character (character_of following) }
 {
-    if read.class_of_itself(characters).is_none() {
-        return false;
-    }
-    match following {
-        Some(next) => next.has_boundary_before(characters, ignored),
-        None => true,
-    }
+    read.is_plain() && is_at_boundary(characters, ignored, following)
 }
 
 /// The first member of the list of a character after a boundary; the others are buffered, with the lists of the

@@ -1,7 +1,8 @@
 //! Reading further characters, up to a boundary.
 ghost use Rattle.std.specs.Prelude.{◌≡◌, ◌+◌, ◌<◌, ◌≤◌, ◌∷◌, length, drop, IsOk, IfOk, OnOk, OnErr, []};
-ghost use Rattle.normal_forms.specs.ShortRuns.{buffer_limit};
-ghost use Rattle.normalizer_tables.specs.Characters.{list_of};
+ghost use Rattle.std.specs.Prelude.{false, IfSome, IsTrue};
+ghost use Rattle.normal_forms.specs.ShortRuns.{buffer_limit, continues};
+ghost use Rattle.normalizer_tables.specs.Characters.{has_class_form, list_of};
 ghost use Rattle.normalizer_tables.specs.Ignored.{ignored_list};
 ghost use Rattle.normalizer_tables.specs.Readings.{reading_by};
 ghost use Rattle.normalizer_iterators.specs.Delegate.{IsReadyAfter};
@@ -46,6 +47,23 @@ pub(crate) fn read_on<I: Iterator<Item = char> + Drop>(
     }
     waiting.put_in_order()?;
     Ok(None)
+}
+
+/// Whether a boundary precedes a character that was read, or none was.
+#[inline(always)]
+pub(crate) fn is_at_boundary(
+    characters: &CharacterData<'_>,
+    ignored: IgnoredCharacters,
+    read: Option<PendingChar>,
+) -> bool
+    requires { HasOwnWords characters.now read }
+    ensures { IsTrue result → IfSome (character_of read) (λ c.
+        continues (has_class_form characters.now) (reading_by characters.now ignored []) c ≡ false) }
+{
+    match read {
+        Some(read) => read.has_boundary_before(characters, ignored),
+        None => true,
+    }
 }
 
 /// Buffers the list of a character.

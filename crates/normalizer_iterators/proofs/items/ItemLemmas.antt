@@ -1,9 +1,8 @@
 -- What an iterator of normalized text yields, by what it has still to yield.
 use Rattle.std.proofs.Common.{◌≡◌, ℕ, Bool, IfOk, IfErr, IsOk, List, [], ◌∷◌, ◌++◌, map, Option, Some}
-use Rattle.std.proofs.Common.{None, Result, Ok, Err, All, MatchOption, MatchResult, option_to_list, refl, sym, ap, subst, append-nil, ◌∙◌}
+use Rattle.std.proofs.Common.{None, Result, Ok, Err, All, MatchOption, MatchResult, refl, sym, ap, subst, append-nil, ◌∙◌}
 use Rattle.std.proofs.lemmas.List.Elements.{All-nil, All-cons, All-head, All-tail}
 use Rattle.std.specs.Iterator.{Yields}
-use Rattle.normal_forms.specs.Forms.{nfd}
 use Rattle.normal_forms.specs.Reading.{Reading}
 use Rattle.normal_forms.specs.ShortRuns.{HasShortRuns}
 use Rattle.normalizer_text.specs.DecodingSteps.{Spells}
@@ -11,7 +10,6 @@ use Rattle.normalizer_iterators.specs.DecompositionItems.{WillYield, StaysShort,
 use Rattle.normalizer_iterators.specs.CompositionItems as composition
 use Rattle.normalizer_iterators.specs.CompositionItems.{CompositionSteps, pairing_by}
 use Rattle.normalizer_iterators.specs.StayingMarks.{staying_marks}
-use Rattle.normalizer_iterators.specs.WaitingList.{ordered_text}
 use Rattle.normalizer_iterators.specs.declared.composition.Composition.{Composition}
 use Rattle.normalizer_iterators.specs.declared.decomposition.Decomposition.{Decomposition}
 use Rattle.normalizer_iterators.specs.declared.error.NormalizeError.{NormalizeError}
