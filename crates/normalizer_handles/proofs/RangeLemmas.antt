@@ -4,7 +4,7 @@ use Rattle.std.proofs.Common.{◌≡◌, ◌-◌, List, [], ◌∷◌, refl, ◌
 use Rattle.std.specs.List.{flat_map, list_all, range_with_len}
 use Rattle.std.proofs.lemmas.List.Concat.{length-flat_map}
 use Rattle.std.proofs.lemmas.List.Folds.{sum_by-zero}
-use Rattle.icu_normalizer.specs.MapperRanges.{entries_at, entries_of, RangeStatus}
+use Rattle.icu_normalizer.specs.MapperRanges.{entries_at, entries_of, Uts46RangeValue}
 use Rattle.icu_normalizer.specs.RecordValue.{Uts46RecordValue}
 use Rattle.normalizer_ucd.specs.Fields.{is_scalar_value}
 
@@ -23,7 +23,7 @@ listed_if true r = refl
 listed_if false r = refl
 
 -- a range lists no records if and only if it has no characters
-pub has_no_character : (r : RangeStatus) → (length (entries_of r) == 0)
+pub has_no_character : (r : Uts46RangeValue) → (length (entries_of r) == 0)
     ≡ list_all (λ c. not (is_scalar_value c)) (range_with_len r.first (r.end - r.first))
 unfolding entries_of
 has_no_character r =

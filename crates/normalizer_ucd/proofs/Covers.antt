@@ -5,7 +5,7 @@ use Rattle.std.proofs.Common.{arith}
 use Rattle.std.specs.Prelude.{Contains, OnOk, ◌||◌}
 use Rattle.std.specs.Option.{ok_or, option_and_then}
 use Rattle.std.proofs.lemmas.Bool.{ltb-true, ltb-false, eqb-true}
-use Rattle.normalizer_records.specs.Ranges.{RangeStatus}
+use Rattle.normalizer_records.specs.Ranges.{Uts46RangeValue}
 use Rattle.normalizer_ucd.specs.declared.error.LineFault.{LineFault}
 use Rattle.normalizer_ucd.specs.declared.error.Place.{Place}
 use Rattle.normalizer_ucd.specs.declared.error.Problem.TheVariants as problems
@@ -65,7 +65,7 @@ end_is at next first last e h =
     let ge : first ≤ next = ltb-false next first b.0 in
     (omega arith, sym (ok_is (last + 1) e b.1))
 
-fields_end : (choice : Disallowed) (at : Place) (next : ℕ) (line : List ℕ) (r : ℕ × Option RangeStatus) →
+fields_end : (choice : Disallowed) (at : Place) (next : ℕ) (line : List ℕ) (r : ℕ × Option Uts46RangeValue) →
     read_fields choice at next line ≡ Ok r →
     (first last : ℕ) × (first_of at line ≡ Ok first) × (last_of at line ≡ Ok last) × (next ≡ first) × (r.0 ≡ last + 1)
 unfolding read_fields
@@ -76,7 +76,7 @@ fields_end choice at next line r h =
     let d = bound (name_of at line) _ r c.2 in
     let e = bound (status_of choice at line a.0 b.0 d.0) _ r d.2 in
     let f = end_is at next a.0 b.0 c.0 c.1 in
-    let same = ap (λ (x : ℕ × Option RangeStatus). x.0) (ok_is _ r e.2) in
+    let same = ap (λ (x : ℕ × Option Uts46RangeValue). x.0) (ok_is _ r e.2) in
     (a.0, b.0, a.1, b.1, f.0, sym same ∙ f.1)
 
 lists : (at : Place) (line : List ℕ) (first last c : ℕ) → first_of at (data_of line) ≡ Ok first →
@@ -88,17 +88,17 @@ lists at line first last c f l above below =
     = found (field (data_of line) 0) (λ text. code_point (last_text text)) _ _ last l in
     (rw one above, rw other below)
 
-line_step : (choice : Disallowed) (n : ℕ) (s : Covered) (line : List ℕ) (r : Covered × Option RangeStatus) (c : ℕ) →
+line_step : (choice : Disallowed) (n : ℕ) (s : Covered) (line : List ℕ) (r : Covered × Option Uts46RangeValue) (c : ℕ) →
     read_line choice n s line ≡ Ok r → c < r.0.end → (c < s.end) ⊎ Lists line c
 unfolding read_line
 line_step choice n s line r c h lt =
     ⊎_elim
     (λ none.
-    let same : s.end ≡ r.0.end = ap (λ (x : Covered × Option RangeStatus). x.0.end) (ok_is (s, None) r none.1) in
+    let same : s.end ≡ r.0.end = ap (λ (x : Covered × Option Uts46RangeValue). x.0.end) (ok_is (s, None) r none.1) in
     inl (omega (arith, same, lt)))
     (λ some.
     let a = bound (read_fields choice (place n) s.end (data_of line)) _ r some.1 in
-    let same : a.0.0 ≡ r.0.end = ap (λ (x : Covered × Option RangeStatus). x.0.end) (ok_is _ r a.2) in
+    let same : a.0.0 ≡ r.0.end = ap (λ (x : Covered × Option Uts46RangeValue). x.0.end) (ok_is _ r a.2) in
     let f = fields_end choice (place n) s.end (data_of line) a.0 a.1 in
     let begins : s.end ≡ f.0 = f.4 in
     let ends : a.0.0 ≡ f.1 + 1 = f.5 in
@@ -108,17 +108,17 @@ line_step choice n s line r c h lt =
     (below_or c f.0 (ltb c f.0) refl))
     (one_way (eqb (length (data_of line)) 0) _ _ r h)
 
-covered : (choice : Disallowed) (n : ℕ) (s : Covered) (parts : List (List ℕ)) (r : Covered × List RangeStatus) (c : ℕ) →
+covered : (choice : Disallowed) (n : ℕ) (s : Covered) (parts : List (List ℕ)) (r : Covered × List Uts46RangeValue) (c : ℕ) →
     read_each (read_line choice) n s parts ≡ Ok r → c < r.0.end →
     (c < s.end) ⊎ ((line : List ℕ) × Contains parts line × Lists line c)
 unfolding read_each
 covered choice n s [] r c h lt =
-    let same : s.end ≡ r.0.end = ap (λ (x : Covered × List RangeStatus). x.0.end) (ok_is (s, []) r h) in
+    let same : s.end ≡ r.0.end = ap (λ (x : Covered × List Uts46RangeValue). x.0.end) (ok_is (s, []) r h) in
     inl (omega (arith, same, lt))
 covered choice n s (line ∷ rest) r c h lt =
     let a = bound (read_line choice n s line) _ r h in
     let b = bound (read_each (read_line choice) (n + 1) a.0.0 rest) _ r a.2 in
-    let same : b.0.0.end ≡ r.0.end = ap (λ (x : Covered × List RangeStatus). x.0.end) (ok_is _ r b.2) in
+    let same : b.0.0.end ≡ r.0.end = ap (λ (x : Covered × List Uts46RangeValue). x.0.end) (ok_is _ r b.2) in
     let inside : c < b.0.0.end = omega (arith, same, lt) in
     ⊎_elim
     (λ below. ⊎_elim (λ before. inl before) (λ has. inr (line, (0, omega arith, refl), has))
@@ -130,7 +130,7 @@ full : (s : Covered) (t : Unit {0}) → full_end s ≡ Ok t → s.end ≡ 0x1100
 full s t h = ⊎_elim (λ yes. eqb-true s.end 0x110000 yes.0) (λ no. absurd (let e = no.1 in cc))
     (one_way (eqb s.end 0x110000) _ _ t h)
 
-pub covers : (choice : Disallowed) (parts : List (List ℕ)) (ranges : List RangeStatus) →
+pub covers : (choice : Disallowed) (parts : List (List ℕ)) (ranges : List Uts46RangeValue) →
     ranges_in choice parts ≡ Ok ranges → ListsAll parts
 unfolding ranges_in
 covers choice parts ranges h c lt =
@@ -142,7 +142,7 @@ covers choice parts ranges h c lt =
     (covered choice 1 start parts a.0 c a.1 inside)
 
 -- what is read is of a table that lists each code point
-pub whole : {V : Type 0} (view : V → List RangeStatus) (exclusions : List ℕ) (choice : Disallowed) (table : List ℕ)
+pub whole : {V : Type 0} (view : V → List Uts46RangeValue) (exclusions : List ℕ) (choice : Disallowed) (table : List ℕ)
     (result : Result V UcdError) → Gives view result (read_table exclusions choice table) →
     OnOk result (ListsAll (lines table))
 unfolding read_table

@@ -7,7 +7,7 @@ use Rattle.std.specs.List.{filter_map, flat_map}
 use Rattle.std.proofs.lemmas.Bool.{ltb-false}
 use Rattle.normalizer_records.specs.Faults.{AreMapperRising}
 use Rattle.normalizer_records.proofs.RangeRecords.{AreRanges, character, of_ranges}
-use Rattle.normalizer_records.specs.Ranges.{RangeStatus, entries_of}
+use Rattle.normalizer_records.specs.Ranges.{Uts46RangeValue, entries_of}
 use Rattle.normalizer_records.specs.RecordValue.{Status, Uts46RecordValue}
 use Rattle.normalizer_ucd.specs.declared.error.LineFault.{LineFault}
 use Rattle.normalizer_ucd.specs.declared.error.Place.{Place}
@@ -52,7 +52,7 @@ of_status : (next first end : ℕ) (status : Option Status) → next ≤ first �
 of_status next first end None after fits = omega arith
 of_status next first end (Some status) after fits = (after, omega arith, omega arith)
 
-fields_within : (choice : Disallowed) (at : Place) (next end : ℕ) (line : List ℕ) (found : Option RangeStatus) →
+fields_within : (choice : Disallowed) (at : Place) (next end : ℕ) (line : List ℕ) (found : Option Uts46RangeValue) →
     read_fields choice at next line ≡ Ok (end, found) → AreRanges next end (option_to_list found)
 unfolding read_fields
 fields_within choice at next end line found h =
@@ -63,31 +63,31 @@ fields_within choice at next end line found h =
     let status = bound (status_of choice at line first.value last.value name.value) _ _ name.then_is in
     let both = parts_of_ok ended.value end (range_status first.value ended.value status.value) found status.then_is in
     let within = ends at next first.value last.value ended.value ended.is in
-    subst (λ (f : Option RangeStatus). AreRanges next end (option_to_list f)) both.1
+    subst (λ (f : Option Uts46RangeValue). AreRanges next end (option_to_list f)) both.1
     (subst (λ (e : ℕ). AreRanges next e (option_to_list (range_status first.value ended.value status.value))) both.0
     (of_status next first.value ended.value status.value within.0 within.1))
 
-abbrev covered_by : ℕ → ℕ × Option RangeStatus → Result (Covered × Option RangeStatus) LineFault
+abbrev covered_by : ℕ → ℕ × Option Uts46RangeValue → Result (Covered × Option Uts46RangeValue) LineFault
 covered_by n read = Ok (record { end = read.0; line = n }, read.1)
 
-blank_or : (blank : Bool) (n : ℕ) (covered next : Covered) (found : Option RangeStatus)
-    (read : Result (ℕ × Option RangeStatus) LineFault) →
+blank_or : (blank : Bool) (n : ℕ) (covered next : Covered) (found : Option Uts46RangeValue)
+    (read : Result (ℕ × Option Uts46RangeValue) LineFault) →
     (if blank then Ok (covered, None) else (read >>= covered_by n)) ≡ Ok (next, found) →
-    ((end : ℕ) (f : Option RangeStatus) → read ≡ Ok (end, f) → AreRanges covered.end end (option_to_list f)) →
+    ((end : ℕ) (f : Option Uts46RangeValue) → read ≡ Ok (end, f) → AreRanges covered.end end (option_to_list f)) →
     AreRanges covered.end next.end (option_to_list found)
 blank_or true n covered next found read h of_read =
     let both = parts_of_ok covered next None found h in
-    subst (λ (f : Option RangeStatus). AreRanges covered.end next.end (option_to_list f)) both.1
+    subst (λ (f : Option Uts46RangeValue). AreRanges covered.end next.end (option_to_list f)) both.1
     (subst (λ (q : Covered). covered.end ≤ q.end) both.0 (omega arith))
 blank_or false n covered next found read h of_read =
     let fields = bound read (covered_by n) _ h in
     let made : Covered = record { end = fields.value.0; line = n } in
     let both = parts_of_ok made next fields.value.1 found fields.then_is in
-    subst (λ (f : Option RangeStatus). AreRanges covered.end next.end (option_to_list f)) both.1
+    subst (λ (f : Option Uts46RangeValue). AreRanges covered.end next.end (option_to_list f)) both.1
     (subst (λ (q : Covered). AreRanges covered.end q.end (option_to_list fields.value.1)) both.0
     (of_read fields.value.0 fields.value.1 fields.is))
 
-line_within : (choice : Disallowed) (n : ℕ) (covered next : Covered) (line : List ℕ) (found : Option RangeStatus) →
+line_within : (choice : Disallowed) (n : ℕ) (covered next : Covered) (line : List ℕ) (found : Option Uts46RangeValue) →
     read_line choice n covered line ≡ Ok (next, found) → AreRanges covered.end next.end (option_to_list found)
 unfolding read_line
 line_within choice n covered next line found h =
@@ -95,7 +95,7 @@ line_within choice n covered next line found h =
     (read_fields choice (place n) covered.end (data_of line)) h
     (λ end f. fields_within choice (place n) covered.end end (data_of line) f)
 
-of_lines : (choice : Disallowed) (parts : List (List ℕ)) (ranges : List RangeStatus) →
+of_lines : (choice : Disallowed) (parts : List (List ℕ)) (ranges : List Uts46RangeValue) →
     ranges_in choice parts ≡ Ok ranges → AreMapperRising (flat_map entries_of ranges)
 unfolding ranges_in
 of_lines choice parts ranges h =
@@ -105,11 +105,11 @@ of_lines choice parts ranges h =
     let within : AreRanges 0 read.value.0.end read.value.1 =
     read_within (λ r. r.first) (λ r. r.end) (λ c. c.end) (read_line choice) (line_within choice) 1 start
     read.value.0 parts read.value.1 (let e = read.is in cc) in
-    subst (λ (rs : List RangeStatus). AreMapperRising (flat_map entries_of rs)) same
+    subst (λ (rs : List Uts46RangeValue). AreMapperRising (flat_map entries_of rs)) same
     (rising character 0 read.value.0.end (flat_map entries_of read.value.1)
     (of_ranges 0 read.value.0.end read.value.1 within))
 
-pub ranges_are_rising : (exclusions : List ℕ) (choice : Disallowed) (table : List ℕ) (ranges : List RangeStatus) →
+pub ranges_are_rising : (exclusions : List ℕ) (choice : Disallowed) (table : List ℕ) (ranges : List Uts46RangeValue) →
     read_table exclusions choice table ≡ Ok ranges → AreMapperRising (flat_map entries_of ranges)
 unfolding read_table
 ranges_are_rising exclusions choice table ranges h =
@@ -118,7 +118,7 @@ ranges_are_rising exclusions choice table ranges h =
     (stated_in parts.value)) (tt {0})) _ _ parts.then_is in
     of_lines choice parts.value ranges same.then_is
 
-by_fault : (o : Option LineFault) (ranges : List RangeStatus) (records : List Uts46RecordValue) →
+by_fault : (o : Option LineFault) (ranges : List Uts46RangeValue) (records : List Uts46RecordValue) →
     (unless o ranges ≡ Ok ranges → AreMapperRising (flat_map entries_of ranges)) →
     unless o (flat_map entries_of ranges) ≡ Ok records → AreMapperRising records
 by_fault (Some e) ranges records rises h = absurd (cc)

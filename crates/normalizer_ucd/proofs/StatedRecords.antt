@@ -2,7 +2,7 @@
 use Rattle.std.proofs.Common.{◌≡◌, ℕ, List, Option, Ok, subst}
 use Rattle.std.specs.List.{filter_map}
 use Rattle.std.specs.Prelude.{Contains}
-use Rattle.normalizer_records.specs.Ranges.{RangeStatus, entries_of}
+use Rattle.normalizer_records.specs.Ranges.{Uts46RangeValue, entries_of}
 use Rattle.normalizer_records.specs.RecordValue.{RecordValue, Uts46RecordValue}
 use Rattle.normalizer_ucd.specs.declared.idna_table.Disallowed.{Disallowed}
 use Rattle.normalizer_ucd.specs.FileLines.{AreStated, AreStatuses, data_lines, DataLine, listed as listed_by, range_by, record_by}
@@ -20,7 +20,7 @@ records_are_stated unicode_data exclusions records h =
     (λ r. found (λ (l : DataLine). record_by (listed_by (data_lines exclusions)) l.text) (data_lines unicode_data) r)
 
 module _ (choice : Disallowed) where
-  abbrev range_at : DataLine → Option RangeStatus
+  abbrev range_at : DataLine → Option Uts46RangeValue
   range_at l = range_by choice l.text
 
   pub statuses_are_stated : (exclusions table : List ℕ) (records : List Uts46RecordValue) →

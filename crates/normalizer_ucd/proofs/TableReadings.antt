@@ -6,7 +6,7 @@ use Rattle.std.specs.Option.{option_map, option_map_or, option_or}
 use Rattle.std.specs.List.{last_or, slice_split}
 use Rattle.std.proofs.lemmas.Option.{slice_get-get_or}
 use Rattle.std.proofs.lemmas.List.Splits.{length-slice_split}
-use Rattle.normalizer_records.specs.Ranges.{RangeStatus}
+use Rattle.normalizer_records.specs.Ranges.{Uts46RangeValue}
 use Rattle.normalizer_ucd.specs.declared.error.LineFault.{LineFault}
 use Rattle.normalizer_ucd.specs.declared.error.Problem.TheVariants as problems
 use Rattle.normalizer_ucd.specs.declared.error.UcdFile.TheVariants as files
@@ -52,7 +52,7 @@ module _ (choice : Disallowed) where
     next = next_after (text_of last)
 
     -- what is read, with the state after it
-    abbrev found : Result (Covered × Option RangeStatus) LineFault
+    abbrev found : Result (Covered × Option Uts46RangeValue) LineFault
     found = read_fields choice (place n) next d >>= λ read. Ok (record { end = read.0; line = n }, read.1)
 
     abbrev Outcome : Type 0
@@ -126,7 +126,7 @@ module _ (choice : Disallowed) where
     fields_told : Outcome
     fields_told = let first = first_field d in by_first first.0 first.1 (code_point (before_stop first.0)) refl
 
-  abbrev range_at : DataLine → Option RangeStatus
+  abbrev range_at : DataLine → Option Uts46RangeValue
   range_at l = range_by choice l.text
 
   skips : Skips files.IdnaMappingTable table_findings state range_at (read_line choice)
@@ -147,12 +147,12 @@ module _ (choice : Disallowed) where
       (then_unless (first_wrong files.IdnaMappingTable table_findings ls) (option_or (too_short ls) None) _ _
       (filter_map range_at ls) (ended ls (filter_map range_at ls)))
     where
-      by : (f : LineFault) (b : Bool) (xs : List RangeStatus) →
+      by : (f : LineFault) (b : Bool) (xs : List Uts46RangeValue) →
           ((if b then Ok (tt {0}) else Err f) >>= λ full. Ok xs) ≡ unless (option_or (if b then None else Some f) None) xs
       by f true xs = refl
       by f false xs = refl
 
-      ended : (ls : List DataLine) (xs : List RangeStatus) →
+      ended : (ls : List DataLine) (xs : List Uts46RangeValue) →
           (full_end (state (last_or None ls)) >>= λ full. Ok xs) ≡ unless (option_or (too_short ls) None) xs
       ended ls xs =
           by (fault (place (option_map_or (λ l. l.number) (last_or None ls) 1)) problems.TooShort)

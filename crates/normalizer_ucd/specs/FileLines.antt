@@ -5,7 +5,7 @@ use Rattle.std.specs.Prelude.{length, Contains, IsSomeAnd, Option, Some, None, i
 use Rattle.std.specs.Option.{option_map, option_map_or, unwrap_or}
 use Rattle.std.specs.List.{filter_map, list_any}
 use Rattle.normalizer_records.specs.RecordValue.{RecordValue, Status, MapsTo, IsIgnored, IsDisallowed, Uts46RecordValue}
-use Rattle.normalizer_records.specs.Ranges.{RangeStatus, entries_of}
+use Rattle.normalizer_records.specs.Ranges.{Uts46RangeValue, entries_of}
 use Rattle.normalizer_ucd.specs.declared.idna_table.Disallowed.{Disallowed}
 use Rattle.normalizer_ucd.specs.declared.idna_table.Disallowed.TheVariants as choices
 use Rattle.normalizer_ucd.specs.declared.idna_table.StatusName.{StatusName}
@@ -78,7 +78,7 @@ done choice text (Some names.Disallowed) =
 done choice text _ = None
 
 -- those characters, from the first to the last, with that
-abbrev pub range_by : Disallowed → List ℕ → Option RangeStatus
+abbrev pub range_by : Disallowed → List ℕ → Option Uts46RangeValue
 range_by choice text = option_map (λ s. record {
   first = unwrap_or (first text) 0;
   end = unwrap_or (last text) 0 + 1;

@@ -3,7 +3,7 @@ use Rattle.std.specs.Prelude.{ℕ, ◌+◌, ◌==◌, ◌||◌, nat_lt, List, le
 use Rattle.std.specs.Prelude.{if◌then◌else◌}
 use Rattle.std.specs.Option.{ok_or, option_map}
 use Rattle.normalizer_records.specs.RecordValue.{Status, MapsTo, IsIgnored, IsDisallowed}
-use Rattle.normalizer_records.specs.Ranges.{RangeStatus}
+use Rattle.normalizer_records.specs.Ranges.{Uts46RangeValue}
 use Rattle.normalizer_ucd.specs.declared.error.LineFault.{LineFault}
 use Rattle.normalizer_ucd.specs.declared.error.Place.{Place}
 use Rattle.normalizer_ucd.specs.declared.error.Problem.TheVariants as problems
@@ -54,7 +54,7 @@ status_of choice at line first last names.Mapped = do
   mapping ← mapping_of at line
   Ok (Some (MapsTo mapping))
 
-abbrev pub range_status : ℕ → ℕ → Option Status → Option RangeStatus
+abbrev pub range_status : ℕ → ℕ → Option Status → Option Uts46RangeValue
 range_status first end status = option_map (λ s. record { first = first; end = end; status = s }) status
 
 -- the end of a range, if it isn't empty and begins where the ranges before it end
@@ -64,7 +64,7 @@ end_of at next first last =
     else if nat_lt next first then Err (fault at problems.Gap)
     else Ok (last + 1)
 
-unfoldable pub read_fields : Disallowed → Place → ℕ → List ℕ → Result (ℕ × Option RangeStatus) LineFault
+unfoldable pub read_fields : Disallowed → Place → ℕ → List ℕ → Result (ℕ × Option Uts46RangeValue) LineFault
 read_fields choice at next line = do
   first ← first_of at line
   last ← last_of at line
@@ -78,7 +78,7 @@ abbrev pub start : Covered
 start = record { end = 0; line = 1 }
 
 -- a line without data says nothing
-unfoldable pub read_line : Disallowed → ℕ → Covered → List ℕ → Result (Covered × Option RangeStatus) LineFault
+unfoldable pub read_line : Disallowed → ℕ → Covered → List ℕ → Result (Covered × Option Uts46RangeValue) LineFault
 read_line choice n covered line =
     if length (data_of line) == 0 then Ok (covered, None)
     else do
@@ -89,14 +89,14 @@ read_line choice n covered line =
 abbrev pub full_end : Covered → Result (Unit {0}) LineFault
 full_end covered = if covered.end == 0x110000 then Ok tt else Err (fault (place covered.line) problems.TooShort)
 
-unfoldable pub ranges_in : Disallowed → List (List ℕ) → Result (List RangeStatus) LineFault
+unfoldable pub ranges_in : Disallowed → List (List ℕ) → Result (List Uts46RangeValue) LineFault
 ranges_in choice parts = do
   read ← read_each (read_line choice) 1 start parts
   full ← full_end read.0
   Ok read.1
 
 -- the ranges that reading the table beside the exclusions yields
-unfoldable pub read_table : (exclusions : List ℕ) → Disallowed → List ℕ → Result (List RangeStatus) LineFault
+unfoldable pub read_table : (exclusions : List ℕ) → Disallowed → List ℕ → Result (List Uts46RangeValue) LineFault
 read_table exclusions choice table = do
   parts ← unless (cut_off files.IdnaMappingTable table) (lines table)
   same ← unless (other_version (stated_in (lines exclusions)) files.IdnaMappingTable (stated_in parts)) (tt {0})
