@@ -1,5 +1,5 @@
 //! The three encodings as one trait, over which every loop is written once.
-ghost use Rattle.std.specs.Prelude.{◌≡◌, ◌==◌, ℕ, ◌+◌, ◌<◌, ◌≤◌, min, MatchOption};
+ghost use Rattle.std.specs.Prelude.{◌≡◌, ◌==◌, ℕ, ◌+◌, ◌<◌, ◌≤◌, min, IfSome, MatchOption};
 ghost use Rattle.std.specs.Prelude.{List, [], length, take, drop, slice_index};
 ghost use Rattle.std.specs.Prelude.{nat_lt};
 ghost use Rattle.normalizer_sets.specs.CharacterSets.{has};
@@ -9,6 +9,7 @@ ghost use Rattle.normalizer_text.specs.Encodings.{Encoding, first_in, trails_in}
 ghost use Rattle.normalizer_text.specs.Scans.{width_within};
 
 use crate::decoding_step::Step;
+use crate::utf8::Lead;
 use crate::{members, utf8, utf16};
 use normalizer_sets::CharacterSet;
 
@@ -32,6 +33,11 @@ pub trait Units: Copy {
     fn step_at(self, position: usize) -> Step
         requires { position < length (units self) }
         ensures { result ≡ first_in encoding (drop position (units self)) };
+
+    /// Returns the step at a position, if it is seen at once to be a sequence of two bytes.
+    fn two_byte_step_at(self, position: usize) -> Option<Step>
+        requires { position < length (units self) }
+        ensures { IfSome result (λ step. step ≡ first_in encoding (drop position (units self))) };
 
     /// Returns whether the unit at a position can come after the first one of a step. No character begins with such a
     /// unit.
@@ -122,6 +128,16 @@ impl<'a> Units for &'a str {
         }
     }
 
+    #[inline(always)]
+    fn two_byte_step_at(self, position: usize) -> Option<Step> {
+        let bytes = &self.as_bytes()[position..];
+        if Lead::OfTwo.matches(bytes[0]) {
+            Some(utf8::first_step_of_well_formed(bytes))
+        } else {
+            None
+        }
+    }
+
     fn trails_at(self, position: usize) -> bool {
         utf8::is_continuation(self.as_bytes()[position])
     }
@@ -154,6 +170,11 @@ impl<'a> Units for &'a [u8] {
         utf8::first_step(&self[position..])
     }
 
+    #[inline(always)]
+    fn two_byte_step_at(self, position: usize) -> Option<Step> {
+        utf8::first_if_of_two(&self[position..])
+    }
+
     fn trails_at(self, position: usize) -> bool {
         utf8::is_continuation(self[position])
     }
@@ -184,6 +205,11 @@ impl<'a> Units for &'a [u16] {
     #[inline(always)]
     fn step_at(self, position: usize) -> Step {
         utf16::first_step(&self[position..])
+    }
+
+    #[inline(always)]
+    fn two_byte_step_at(self, _position: usize) -> Option<Step> {
+        None
     }
 
     fn trails_at(self, position: usize) -> bool {

@@ -1,5 +1,5 @@
 //! Decoding bytes that may not be UTF-8, with U+FFFD for ill-formed sequences (The Unicode Standard, section 3.9).
-ghost use Rattle.std.specs.Prelude.{◌≡◌, ◌+◌, ◌<◌, ◌≤◌, if◌then◌else◌, IsTrue};
+ghost use Rattle.std.specs.Prelude.{◌≡◌, ◌+◌, ◌<◌, ◌≤◌, if◌then◌else◌, IfSome, IsTrue};
 ghost use Rattle.std.specs.Prelude.{length, option_map, slice_index, slice_index_or};
 ghost use Rattle.std.specs.Str.{continuation_len};
 ghost use Rattle.normalizer_sets.specs.CharacterSets.{has};
@@ -123,7 +123,8 @@ impl Trail {
     }
 }
 
-/// The character of a well-formed sequence (table 3-6).
+/// The character of a well-formed sequence (table 3-6). Remainders keep the bits of each byte apart, so that the last six
+/// of the number need no sum.
 #[inline(always)]
 #[tactic(auto, using(crate::proofs::sequences::SubpartLemmas::bounds_of_sequence))]
 fn character_of(sequence: &[u8]) -> char
@@ -132,11 +133,10 @@ fn character_of(sequence: &[u8]) -> char
 {
     let code = match sequence {
         [a] => *a as u32,
-        [a, b] => (*a as u32 - 0xC0) * 64 + (*b as u32 - 0x80),
-        [a, b, c] => ((*a as u32 - 0xE0) * 64 + (*b as u32 - 0x80)) * 64 + (*c as u32 - 0x80),
+        [a, b] => (*a as u32 % 32) * 64 + *b as u32 % 64,
+        [a, b, c] => ((*a as u32 % 16) * 64 + *b as u32 % 64) * 64 + *c as u32 % 64,
         [a, b, c, d] => {
-            (((*a as u32 - 0xF0) * 64 + (*b as u32 - 0x80)) * 64 + (*c as u32 - 0x80)) * 64
-                + (*d as u32 - 0x80)
+            (((*a as u32 % 8) * 64 + *b as u32 % 64) * 64 + *c as u32 % 64) * 64 + *d as u32 % 64
         }
         _ => unreachable!(),
     };
@@ -311,16 +311,27 @@ pub(crate) fn first_step(bytes: &[u8]) -> Step
     }
 }
 
+/// Returns the first step, if it is a sequence of two.
+#[inline(always)]
+pub(crate) fn first_if_of_two(bytes: &[u8]) -> Option<Step>
+    ensures { IfSome result (λ step. step ≡ first_of_utf8 bytes.now) }
+{
+    if begins_with_two(bytes) {
+        Some(Step::read(character_of(&bytes[..2]), 2))
+    } else {
+        None
+    }
+}
+
 /// Returns the first step, at once if it is a sequence of two.
 #[inline(always)]
 fn first_step_of_two(bytes: &[u8]) -> Step
     requires { 0 < length bytes.now }
     ensures { result ≡ first_of_utf8 bytes.now }
 {
-    if begins_with_two(bytes) {
-        Step::read(character_of(&bytes[..2]), 2)
-    } else {
-        first_step_of_more(bytes)
+    match first_if_of_two(bytes) {
+        Some(step) => step,
+        None => first_step_of_more(bytes),
     }
 }
 

@@ -1,7 +1,7 @@
 use Rattle.std.proofs.Common.{◌∙◌, length-take-le, sym, ap}
 use Rattle.normalizer_text.specs.DecodingSteps.{read}
 use Rattle.normalizer_text.proofs.sequences.SubpartLemmas.{first-begins}
-use Rattle.normalizer_text.proofs.utf8.first_step_of_two.Goals as goal
+use Rattle.normalizer_text.proofs.utf8.first_if_of_two.Goals as goal
 
 pub slice_bounds-character_of-end : goal.slice_bounds-character_of-end
 slice_bounds-character_of-end c = sym (length-take-le _ _ (c.begins_with_two.ensures c.if-begins_with_two.true).0)
