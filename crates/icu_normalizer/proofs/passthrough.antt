@@ -3,3 +3,5 @@ pub mod ClassReadings
 pub mod PassthroughLemmas
 pub mod RunParts
 pub mod RunSteps
+pub mod SeenClasses
+pub mod WordClassLemmas

@@ -17,13 +17,14 @@ ghost use Rattle.icu_normalizer.specs.BoundaryBefore.{HasBoundaryBefore};
 ghost use Rattle.icu_normalizer.specs.Forms.{composing_by, decomposing_by, form_in, form_of, HasShortUnits, MadeForm};
 ghost use Rattle.icu_normalizer.specs.inner.Offences.{IsFirstOrNone};
 ghost use Rattle.icu_normalizer.specs.inner.PassthroughRuns.{IsSeenSegment, CanFollowMark, CanPassThrough};
-ghost use Rattle.icu_normalizer.specs.inner.PassthroughRuns.{composing_class, IsOwnListOfClass};
+ghost use Rattle.icu_normalizer.specs.inner.PassthroughRuns.{class_in_order, composing_class, IsOwnListOfClass};
 ghost use Rattle.icu_normalizer.specs.inner.WrittenParts.{NothingOffered, WritesText};
 
 use crate::boundaries::is_taken_as_boundary;
 use crate::composing_form::ComposingForm;
 use crate::decomposing_form::DecomposingForm;
 use crate::kept::{SeenSegment, Unseen, seen_segment};
+use crate::word_classes::{class_if_backward, is_own_from, is_unflagged_or_mark_from};
 use crate::writing::{first_item, write_items};
 use normalizer_iterators::{MarkRun, NormalizeError, SegmentBuffers};
 use normalizer_sets::CharacterSet;
@@ -62,6 +63,11 @@ pub trait Forming {
     /// the class before is greater.
     fn passthrough_class(&self, character: char) -> Option<u8>
         ensures { result ≡ passthrough_class self.now character };
+
+    /// Returns the class of a character that is passed on after one of class `last`, if its word alone says so.
+    fn seen_class(&self, last: u8, character: char) -> Option<u8>
+        ensures passes { IfSome result (λ class. passthrough_class self.now character ≡ Some class) }
+        ensures in_order { IfSome result (λ class. class_in_order last class ≡ Some class) };
 
     /// Returns a set of characters that are passed on, with class 0. They aren't looked up.
     fn passing(&self) -> &CharacterSet
@@ -198,6 +204,16 @@ impl<'a> Forming for DecomposingForm<'a> {
         class_by(&self.characters, character, word)
     }
 
+    #[inline(always)]
+    fn seen_class(&self, last: u8, character: char) -> Option<u8> {
+        let word = self.characters.word_of(character);
+        if is_own_from(word, last) {
+            Some(low_byte(word))
+        } else {
+            None
+        }
+    }
+
     fn passing(&self) -> &CharacterSet {
         self.characters.plain()
     }
@@ -280,6 +296,18 @@ impl<'a> Forming for ComposingForm<'a> {
         } else {
             None
         }
+    }
+
+    #[inline(always)]
+    fn seen_class(&self, last: u8, character: char) -> Option<u8> {
+        let word = self.characters.word_of(character);
+        if !is_unflagged_or_mark_from(word, last) {
+            return None;
+        }
+        if may_be_second(self.pairs, character) {
+            return None;
+        }
+        Some(class_if_backward(word))
     }
 
     #[tactic(auto, unfolding(crate::specs::inner::PassthroughRuns::composing_class, normalizer_tables::specs::conditions::PairConditions::is_composing_passthrough, normalizer_tables::specs::TableSets::has_no_flag))]

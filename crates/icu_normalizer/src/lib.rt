@@ -60,6 +60,7 @@ mod splits;
 mod to_sinks;
 mod unchecked;
 pub mod uts46;
+mod word_classes;
 mod writing;
 
 pub use all_normalizers::AllNormalizers;

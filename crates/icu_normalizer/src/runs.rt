@@ -1,10 +1,10 @@
 //! The ends of runs of characters that are passed on as they are, and of the segments between them.
-ghost use Rattle.std.specs.Prelude.{◌≡◌, ◌≢◌, ◌<◌, drop, false, length, take, IfSome, IsTrue, MatchOption};
+ghost use Rattle.std.specs.Prelude.{◌≡◌, ◌≢◌, ◌+◌, ◌^◌, ◌<◌, drop, length, take, IfSome, MatchOption, Some};
 ghost use Rattle.normalizer_text.specs.Encodings.{first_in};
 ghost use Rattle.normalizer_text.specs.InputCut.{IsInputNormalized};
 ghost use Rattle.normalizer_text.specs.DecodingSteps.{IsBoundary};
 ghost use Rattle.icu_normalizer.specs.inner.PassthroughRuns.{next_class, IsBeforeLast, IsComposite, IsKeptTo, IsPart};
-ghost use Rattle.icu_normalizer.specs.inner.PassthroughRuns.{IsRunEnd, IsSegmentEnd};
+ghost use Rattle.icu_normalizer.specs.inner.PassthroughRuns.{GoesOn, IsRunEnd, IsRunSoFar, IsSegmentEnd};
 
 use crate::forming::Forming;
 use crate::kept::Unseen;
@@ -17,6 +17,16 @@ struct Run {
     marks: usize,
     end: usize,
     next: Option<Step>,
+}
+
+/// A run so far: where the marks at its end begin, where it ends, and the class of its last character. `gaps` tells how
+/// many units came between marks.
+#[derive(Clone, Copy)]
+struct RunSoFar {
+    marks: usize,
+    end: usize,
+    last: u8,
+    gaps: u8,
 }
 
 /// A segment that is seen to become one character: its end, and that character.
@@ -60,34 +70,36 @@ fn next_class<N: Forming>(normalizer: &N, last: u8, step: Step) -> Option<u8>
     }
 }
 
-/// How many starters in a row are looked up one by one where letters and marks alternate.
-const PATIENCE: usize = 6;
-
-/// How few units between marks say that letters and marks alternate.
-const NEAR: usize = 6;
-
-/// Characters below this, as Latin letters, are mostly followed by others like them.
-const LOW: u32 = 0xC0;
-
-/// Whether letters and marks alternate, if so many units were passed over together between marks. Then they are looked
-/// up one by one: each change between the two kinds of loop is a branch that isn't foreseen.
+/// Returns the class of a step that is seen to be passed on as it is after a character of class `last`.
 #[inline(always)]
-fn alternates_after(passed: usize) -> bool {
-    passed < NEAR
+fn seen_class<N: Forming>(normalizer: &N, last: u8, step: Step) -> Option<u8>
+    ensures { IfSome result (λ class. next_class (N.passthrough_class normalizer.now) last step ≡ Some class) }
+{
+    if step.character == char::REPLACEMENT_CHARACTER {
+        return None;
+    }
+    normalizer.seen_class(last, step.character)
 }
 
-/// Returns how many starters are at the end, after a character of a class. A low one counts as many.
+/// How many characters are looked up one by one where letters and marks alternate.
+const PATIENCE: usize = 64;
+
+/// How many units between two marks are counted at most.
+const FAR: usize = 16;
+
+/// The sum of such counts below which letters and marks alternate.
+const NEAR: u8 = 24;
+
+/// Returns the sum of the counts of units between marks, each 7/8 of the one after it, if each is this one.
 #[inline(always)]
-fn starters_after(starters: usize, class: u8, character: char) -> usize
-    requires { starters < 6 }
-    ensures { 0 < result → class ≡ 0 }
-{
-    let count = if (character as u32) < LOW {
-        PATIENCE
-    } else {
-        1
-    };
-    if class == 0 { starters + count } else { 0 }
+fn gaps_of(passed: usize) -> u8 {
+    8 * passed.min(FAR) as u8
+}
+
+/// Returns the sum after one more count.
+#[inline(always)]
+fn gaps_after(gaps: u8, passed: usize) -> u8 {
+    gaps - gaps / 8 + passed.min(FAR) as u8
 }
 
 /// Returns where the marks at an end begin, after a character of a class.
@@ -99,19 +111,131 @@ fn marks_after(marks: usize, class: u8, end: usize) -> usize
     if class == 0 { end } else { marks }
 }
 
-/// Whether what follows a character of a class is looked up together: after a starter, or where letters and marks
-/// alternate after many.
+/// Returns the run with one more character of a class.
 #[inline(always)]
-fn begins_members(alternates: bool, starters: usize, class: u8) -> bool
-    requires { 0 < starters → class ≡ 0 }
-    ensures starter { IsTrue result → class ≡ 0 }
-    ensures few { result ≡ false → starters < 6 }
+fn with_step(run: RunSoFar, step: Step, class: u8) -> RunSoFar
+    requires { run.end + step.width < 2 ^ 64 }
+    ensures end { result.end ≡ run.end + step.width }
+    ensures last { result.last ≡ class }
+    ensures starter { class ≡ 0 → result.marks ≡ result.end }
+    ensures mark { class ≢ 0 → result.marks ≡ run.marks }
 {
-    if alternates {
-        starters >= PATIENCE
-    } else {
-        class == 0
+    let end = run.end + step.width;
+    RunSoFar {
+        marks: marks_after(run.marks, class, end),
+        end,
+        last: class,
+        gaps: run.gaps,
     }
+}
+
+/// Returns the run with the step after it, if that is seen to pass.
+#[inline(always)]
+fn with_seen<U: Units, N: Forming>(
+    normalizer: &N,
+    units: U,
+    run: RunSoFar,
+    step: Step,
+) -> Option<RunSoFar>
+    requires run { IsRunSoFar (N.passthrough_class normalizer.now) U.encoding (U.units units) run }
+    requires some { run.end < length (U.units units) }
+    requires step { step ≡ first_in U.encoding (drop run.end (U.units units)) }
+    requires fits { length (U.units units) < 2 ^ 64 }
+    ensures { IfSome result (GoesOn (N.passthrough_class normalizer.now) U.encoding (U.units units) run) }
+{
+    let Some(class) = seen_class(normalizer, run.last, step) else {
+        return None;
+    };
+    Some(with_step(run, step, class))
+}
+
+/// Returns the run with the next character, if that is seen to pass.
+#[inline(always)]
+fn with_next<U: Units, N: Forming>(normalizer: &N, units: U, run: RunSoFar) -> Option<RunSoFar>
+    requires run { IsRunSoFar (N.passthrough_class normalizer.now) U.encoding (U.units units) run }
+    requires some { run.end < length (U.units units) }
+    requires fits { length (U.units units) < 2 ^ 64 }
+    ensures { IfSome result (GoesOn (N.passthrough_class normalizer.now) U.encoding (U.units units) run) }
+{
+    match units.two_byte_step_at(run.end) {
+        Some(step) => with_seen(normalizer, units, run, step),
+        None => with_seen(normalizer, units, run, units.step_at(run.end)),
+    }
+}
+
+/// Returns the run with characters after it that are looked up one by one, without a branch that tells starters from
+/// marks. It isn't inlined, so that its loop has the registers for itself.
+#[inline(never)]
+fn with_several<U: Units, N: Forming>(normalizer: &N, units: U, run: RunSoFar) -> RunSoFar
+    requires { IsRunSoFar (N.passthrough_class normalizer.now) U.encoding (U.units units) run }
+    ensures { GoesOn (N.passthrough_class normalizer.now) U.encoding (U.units units) run result }
+{
+    let mut left = PATIENCE;
+    let mut longer = run;
+    while left > 0 && longer.end < units.len() {
+        let Some(more) = with_next(normalizer, units, longer) else {
+            return longer;
+        };
+        longer = more;
+        left -= 1;
+    }
+    longer
+}
+
+/// Returns the run, which ends with a starter, with the members of a set after it, which are passed over together.
+#[inline(always)]
+fn with_members<U: Units, N: Forming>(normalizer: &N, units: U, run: RunSoFar) -> RunSoFar
+    requires run { IsRunSoFar (N.passthrough_class normalizer.now) U.encoding (U.units units) run }
+    requires starter { run.last ≡ 0 }
+    ensures { GoesOn (N.passthrough_class normalizer.now) U.encoding (U.units units) run result }
+{
+    let end = units.end_of_members(run.end, normalizer.passing());
+    RunSoFar {
+        marks: end,
+        end,
+        last: 0,
+        gaps: gaps_after(run.gaps, end - run.end),
+    }
+}
+
+/// Returns the run with the members of a set after it, if it ends with a starter. A mark that comes after one of class
+/// `before`, if this isn't 0, has no units before it.
+#[inline(always)]
+fn with_starters<U: Units, N: Forming>(
+    normalizer: &N,
+    units: U,
+    run: RunSoFar,
+    before: u8,
+) -> RunSoFar
+    requires { IsRunSoFar (N.passthrough_class normalizer.now) U.encoding (U.units units) run }
+    ensures { GoesOn (N.passthrough_class normalizer.now) U.encoding (U.units units) run result }
+{
+    if run.last == 0 {
+        return with_members(normalizer, units, run);
+    }
+    if before == 0 {
+        return run;
+    }
+    RunSoFar {
+        marks: run.marks,
+        end: run.end,
+        last: run.last,
+        gaps: gaps_after(run.gaps, 0),
+    }
+}
+
+/// Returns the run with what is passed over at once after its last character, which comes after one of class `before`.
+/// Where letters and marks alternate, each change between the two kinds of loop is a branch that isn't foreseen.
+#[inline(always)]
+fn with_more<U: Units, N: Forming>(normalizer: &N, units: U, run: RunSoFar, before: u8) -> RunSoFar
+    requires { IsRunSoFar (N.passthrough_class normalizer.now) U.encoding (U.units units) run }
+    ensures { GoesOn (N.passthrough_class normalizer.now) U.encoding (U.units units) run result }
+{
+    let longer = with_starters(normalizer, units, run, before);
+    if longer.gaps < NEAR {
+        return with_several(normalizer, units, longer);
+    }
+    longer
 }
 
 /// Returns the run of characters that are passed on as they are: marks as long as their classes don't fall.
@@ -121,36 +245,27 @@ fn run_end<U: Units, N: Forming>(normalizer: &N, units: U) -> Run
     ensures next { MatchOption result.next (result.end ≡ length (U.units units))
         (λ next. next ≡ first_in U.encoding (drop result.end (U.units units))) }
 {
-    let passing = normalizer.passing();
-    let mut end = units.end_of_members(0, passing);
-    let mut marks = end;
-    let mut last = 0;
-    let mut starters = 0;
-    let mut alternates = alternates_after(end);
-    while end < units.len() {
-        let step = units.step_at(end);
-        let Some(class) = next_class(normalizer, last, step) else {
+    let end = units.end_of_members(0, normalizer.passing());
+    let mut run = RunSoFar {
+        marks: end,
+        end,
+        last: 0,
+        gaps: gaps_of(end),
+    };
+    while run.end < units.len() {
+        let step = units.step_at(run.end);
+        let Some(class) = next_class(normalizer, run.last, step) else {
             return Run {
-                marks,
-                end,
+                marks: run.marks,
+                end: run.end,
                 next: Some(step),
             };
         };
-        end += step.width;
-        marks = marks_after(marks, class, end);
-        starters = starters_after(starters, class, step.character);
-        last = class;
-        if begins_members(alternates, starters, class) {
-            let from = end;
-            end = units.end_of_members(from, passing);
-            marks = end;
-            starters = 0;
-            alternates = alternates_after(end - from);
-        }
+        run = with_more(normalizer, units, with_step(run, step, class), run.last);
     }
     Run {
-        marks,
-        end,
+        marks: run.marks,
+        end: run.end,
         next: None,
     }
 }

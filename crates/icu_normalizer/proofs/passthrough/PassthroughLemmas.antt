@@ -92,7 +92,7 @@ module _ (s : Characters) (bound : ℕ) (c : ℕ) where
     of_reading (OneCharacter a) read k is = absurd (cc)
     of_reading (Listed item low rest) read k is = absurd (cc)
 
-    of_itself : (k : ℕ) → class_of_itself (reading_of_word s c) ≡ Some k → (list_of s [] c ≡ c ∷ []) × (class_of s c ≡ k)
+    pub of_itself : (k : ℕ) → class_of_itself (reading_of_word s c) ≡ Some k → (list_of s [] c ≡ c ∷ []) × (class_of s c ≡ k)
     of_itself k is = of_reading (reading_of_word s c) refl k is
 
     -- one that passes with class 0
@@ -115,7 +115,7 @@ not-true : (b : Bool) → not b ≡ true → b ≡ false
 not-true true h = absurd (cc)
 not-true false h = refl
 
-or-true : (b : Bool) → (b || true) ≡ true
+pub or-true : (b : Bool) → (b || true) ≡ true
 or-true true = refl
 or-true false = refl
 

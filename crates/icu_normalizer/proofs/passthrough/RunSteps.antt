@@ -196,6 +196,13 @@ module _ (passed : ℕ → Option ℕ) (e : Encoding) (units : List ℕ) where
           subst (λ n. IsRun passed e units n (end + s.width) k) (sym (mark not_zero)) (IsRun-mark marks last k run passes not_zero)
     ]
 
+    -- the same of a run that is told by equations
+    pub IsRun-longer : (marks last new to k class : ℕ) → IsRun passed e units marks end last → next_class passed last s ≡ Some class → to ≡ end + s.width → k ≡ class
+        → (class ≡ 0 → new ≡ to) → (class ≢ 0 → new ≡ marks) → IsRun passed e units new to k
+    IsRun-longer marks last new to k class run passes ends same starter mark =
+        subst (λ n. IsRun passed e units new n k) (sym ends)
+        (subst (IsRun passed e units new (end + s.width)) (sym same) (IsRun-next marks last class new run passes (λ zero. starter zero ∙ ends) mark))
+
   -- without the last of the characters, a starter
   module _ (end : ℕ) (to : IsPassthroughTo passed e units end 0) (s : Step) (last : IsLastStep (first_in e) (take end units) s) where
     abbrev front : List ℕ

@@ -1,5 +1,5 @@
 -- Text whose form is made in parts: runs of characters that are passed on as they are, and what is between them.
-use Rattle.std.specs.Prelude.{◌≡◌, ◌≢◌, ℕ, ◌-◌, ◌<◌, Bool, true, false, not, ◌||◌, ◌&&◌, ◌==◌, nat_le, nat_lt}
+use Rattle.std.specs.Prelude.{◌≡◌, ◌≢◌, ℕ, ◌-◌, ◌<◌, ◌≤◌, Bool, true, false, not, ◌||◌, ◌&&◌, ◌==◌, nat_le, nat_lt}
 use Rattle.std.specs.Prelude.{if◌then◌else◌}
 use Rattle.std.specs.Prelude.{List, [], ◌∷◌, ◌++◌, length, take, drop, All, IfSome, Option, Some, None, option_and_then}
 use Rattle.normal_forms.specs.Reading.{Reading, IsStarter, ReadsAsItself}
@@ -19,6 +19,7 @@ use Rattle.normalizer_text.specs.DecodingSteps.{IsBoundary, IsLastStep}
 use Rattle.normalizer_text.specs.InputCut.{IsInputNormalized}
 use Rattle.icu_normalizer.specs.BoundaryBefore.{HasBoundaryBefore}
 use Rattle.icu_normalizer.specs.declared.runs.Composite.{Composite}
+use Rattle.icu_normalizer.specs.declared.runs.RunSoFar.{RunSoFar}
 
 -- however much of the rest is read after the front, both are normalized apart
 abbrev pub Divides : Reading → Form → List ℕ → List ℕ → Type 0
@@ -89,6 +90,14 @@ pub record IsRun (passed : ℕ → Option ℕ) (e : Encoding) (units : List ℕ)
   pub run_of_marks : List Step
   pub parts : to_end.boundary.before ≡ to_marks.boundary.before ++ run_of_marks
   pub no_starter : All (λ s. class_of_step passed s ≢ Some 0) run_of_marks
+
+-- the same of a run that the loop has found so far
+abbrev pub IsRunSoFar : (ℕ → Option ℕ) → Encoding → List ℕ → RunSoFar → Type 0
+IsRunSoFar passed e units run = IsRun passed e units run.marks run.end run.last
+
+-- a run goes on, or stays as it is
+abbrev pub GoesOn : (ℕ → Option ℕ) → Encoding → List ℕ → RunSoFar → RunSoFar → Type 0
+GoesOn passed e units run longer = IsRunSoFar passed e units longer × (run.end ≤ longer.end)
 
 -- a run that the next character doesn't continue, or at whose end the units end
 pub record IsRunEnd (passed : ℕ → Option ℕ) (e : Encoding) (units : List ℕ) (marks end : ℕ) : Type 0 where
