@@ -233,7 +233,29 @@ fn with_more<U: Units, N: Forming>(normalizer: &N, units: U, run: RunSoFar, befo
 {
     let longer = with_starters(normalizer, units, run, before);
     if longer.gaps < NEAR {
-        return with_several(normalizer, units, longer);
+        // The parts are copied one by one, so that the loop keeps them in registers.
+        let RunSoFar {
+            marks,
+            end,
+            last,
+            gaps,
+        } = longer;
+        let several = with_several(
+            normalizer,
+            units,
+            RunSoFar {
+                marks,
+                end,
+                last,
+                gaps,
+            },
+        );
+        return RunSoFar {
+            marks: several.marks,
+            end: several.end,
+            last: several.last,
+            gaps: several.gaps,
+        };
     }
     longer
 }

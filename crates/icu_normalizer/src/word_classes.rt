@@ -1,5 +1,5 @@
-//! The words of characters that pass after a character of a class. Starters and marks aren't told apart by branches, since
-//! they alternate in a text.
+//! The words of characters that pass after a character of a class. Starters and marks aren't told apart by branches,
+//! since they alternate in a text.
 ghost use Rattle.std.specs.Prelude.{◌≡◌, ◌<◌, ◌≤◌, ◌⊎◌, false, true, IsTrue};
 ghost use Rattle.normalizer_tables.specs.TableSets.{has_no_flag};
 ghost use Rattle.normalizer_tables.specs.Words.{is_backward_combining, is_ordinary_class_form, is_plain, low_byte};
@@ -21,8 +21,8 @@ const FLAG: u32 = 0x4000_0000;
 /// The higher flag, BACKWARD_COMBINING.
 const BACKWARD: u32 = 0x8000_0000;
 
-/// Returns whether a word, flags aside, is that of a starter that is its own list, or of a mark of a class from `last` on.
-/// The number before the word is looked at, so that 0 comes after all marks.
+/// Returns whether a word, flags aside, is that of a starter that is its own list, or of a mark of a class from `last`
+/// on. The number before the word is looked at, so that 0 comes after all marks.
 #[inline(always)]
 pub(crate) fn is_own_from(word: u32, last: u8) -> bool
     ensures { IsTrue result →

@@ -1,4 +1,4 @@
-use Rattle.std.proofs.Common.{◌-◌, ◌<◌, length}
+use Rattle.std.proofs.Common.{◌-◌, length}
 use Rattle.icu_normalizer.specs.inner.PassthroughRuns.{IsRunSoFar}
 use Rattle.icu_normalizer.proofs.runs.run_end.Given as goal
 
