@@ -81,7 +81,7 @@ pub(crate) fn seen_segment<U: Units>(
 {
     let first = units.step_at(0);
     let Some(starter) = kept_starter(form, first) else {
-        return Err(Unseen::Unknown);
+        return single_segment(form, units, first).ok_or(Unseen::Unknown);
     };
     let mut last = 0;
     let mut end = first.width;
@@ -110,6 +110,36 @@ pub(crate) fn seen_segment<U: Units>(
         end,
         is_before_run: false,
         becomes: None,
+    })
+}
+
+/// Returns the segment of the character of a step alone, if its list is one character, and what follows begins a new part.
+#[inline(always)]
+fn single_segment<U: Units>(
+    form: &ComposingForm<'_>,
+    units: U,
+    first: Step,
+) -> Option<SeenSegment>
+    requires some { 0 < length (U.units units) }
+    requires first { first ≡ first_in U.encoding (U.units units) }
+    ensures { let f = form.now in IfSome result (λ seen.
+        IsSeenSegment (is_taken_as_boundary f.characters f.bounds) U.encoding
+        (reading_by f.characters Dropped f.pairs.now) Composing (U.units units) seen.end seen.becomes) }
+{
+    let members = form
+        .characters
+        .members(first.character, IgnoredCharacters::Dropped);
+    if members.len() != 1 {
+        return None;
+    }
+    let end = first.width;
+    if end < units.len() && !form.begins(units.step_at(end).character) {
+        return None;
+    }
+    Some(SeenSegment {
+        end,
+        is_before_run: true,
+        becomes: Some(members.at(0)),
     })
 }
 

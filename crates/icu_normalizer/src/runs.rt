@@ -1,5 +1,6 @@
 //! The ends of runs of characters that are passed on as they are, and of the segments between them.
-ghost use Rattle.std.specs.Prelude.{◌≡◌, ◌≢◌, ◌+◌, ◌^◌, ◌<◌, drop, length, take, IfSome, MatchOption, Some};
+ghost use Rattle.std.specs.Prelude.{◌≡◌, ◌≢◌, ◌+◌, ◌^◌, ◌<◌, drop, length, take};
+ghost use Rattle.std.specs.Prelude.{IfSome, MatchOption, MatchResult, None, Some};
 ghost use Rattle.normalizer_text.specs.Encodings.{first_in};
 ghost use Rattle.normalizer_text.specs.InputCut.{IsInputNormalized};
 ghost use Rattle.normalizer_text.specs.DecodingSteps.{IsBoundary};
@@ -11,12 +12,20 @@ use crate::kept::Unseen;
 use normalizer_text::{Chars, Step, Units};
 
 /// A run of characters that are passed on as they are: where the marks at its end begin, where it ends, and the step
-/// that ends it, unless the units end.
+/// that ends it, unless the units end, and whether that is a mark out of order.
 #[derive(Clone, Copy)]
 struct Run {
     marks: usize,
     end: usize,
     next: Option<Step>,
+    is_unordered: bool,
+}
+
+/// The end of what is passed on as it is, and whether a mark out of order ends the run.
+#[derive(Clone, Copy)]
+pub(crate) struct Passed {
+    pub(crate) end: usize,
+    is_unordered: bool,
 }
 
 /// A run so far: where the marks at its end begin, where it ends, and the class of its last character. `gaps` tells how
@@ -53,30 +62,38 @@ pub(crate) struct Segment {
     pub(crate) is_before_run: bool,
 }
 
-/// Returns the class of a step that is passed on as it is after a character of class `last`.
+/// Returns the class of a step that is passed on as it is after a character of class `last`, or why it isn't.
 #[inline(always)]
 #[tactic(auto, unfolding(crate::specs::inner::PassthroughRuns::next_class, crate::specs::inner::PassthroughRuns::class_of_step, crate::specs::inner::PassthroughRuns::class_in_order))]
-fn next_class<N: Forming>(normalizer: &N, last: u8, step: Step) -> Option<u8>
-    ensures { result ≡ next_class (N.passthrough_class normalizer.now) last step }
+fn next_class<N: Forming>(normalizer: &N, last: u8, step: Step) -> Result<u8, Unseen>
+    ensures { MatchResult result (λ class. next_class (N.passthrough_class normalizer.now) last step ≡ Some class)
+        (λ _. next_class (N.passthrough_class normalizer.now) last step ≡ None) }
 {
     if step.character == char::REPLACEMENT_CHARACTER {
-        return None;
+        return Err(Unseen::Unknown);
     }
-    let class = normalizer.passthrough_class(step.character)?;
+    let Some(class) = normalizer.passthrough_class(step.character) else {
+        return Err(Unseen::Unknown);
+    };
     if class == 0 || last <= class {
-        Some(class)
+        Ok(class)
     } else {
-        None
+        Err(Unseen::Unordered)
     }
 }
 
-/// Returns the class of a step that is seen to be passed on as it is after a character of class `last`.
+/// Returns the class of a step that is seen to be passed on as it is after a character of class `last`. Low characters
+/// aren't looked up.
 #[inline(always)]
 fn seen_class<N: Forming>(normalizer: &N, last: u8, step: Step) -> Option<u8>
     ensures { IfSome result (λ class. next_class (N.passthrough_class normalizer.now) last step ≡ Some class) }
 {
+    normalizer.passthrough_is_normalized_apart();
     if step.character == char::REPLACEMENT_CHARACTER {
         return None;
+    }
+    if (step.character as u32) < normalizer.passthrough_bound() {
+        return Some(0);
     }
     normalizer.seen_class(last, step.character)
 }
@@ -88,15 +105,12 @@ const PATIENCE: usize = 64;
 const FAR: usize = 16;
 
 /// The sum of such counts below which letters and marks alternate.
-const NEAR: u8 = 24;
+const NEAR: u8 = 36;
 
-/// Returns the sum of the counts of units between marks, each 7/8 of the one after it, if each is this one.
-#[inline(always)]
-fn gaps_of(passed: usize) -> u8 {
-    8 * passed.min(FAR) as u8
-}
+/// The sum that a run begins with.
+const UNKNOWN: u8 = 48;
 
-/// Returns the sum after one more count.
+/// Returns the sum of the counts of units between marks, each 7/8 of the one after it, after one more count.
 #[inline(always)]
 fn gaps_after(gaps: u8, passed: usize) -> u8 {
     gaps - gaps / 8 + passed.min(FAR) as u8
@@ -182,56 +196,38 @@ fn with_several<U: Units, N: Forming>(normalizer: &N, units: U, run: RunSoFar) -
     longer
 }
 
-/// Returns the run, which ends with a starter, with the members of a set after it, which are passed over together.
+/// Returns the run with the members of a set after it, which are passed over together.
 #[inline(always)]
 fn with_members<U: Units, N: Forming>(normalizer: &N, units: U, run: RunSoFar) -> RunSoFar
-    requires run { IsRunSoFar (N.passthrough_class normalizer.now) U.encoding (U.units units) run }
-    requires starter { run.last ≡ 0 }
+    requires { IsRunSoFar (N.passthrough_class normalizer.now) U.encoding (U.units units) run }
     ensures { GoesOn (N.passthrough_class normalizer.now) U.encoding (U.units units) run result }
 {
     let end = units.end_of_members(run.end, normalizer.passing());
+    let gaps = gaps_after(run.gaps, end - run.end);
+    if end == run.end {
+        return RunSoFar {
+            marks: run.marks,
+            end: run.end,
+            last: run.last,
+            gaps,
+        };
+    }
     RunSoFar {
         marks: end,
         end,
         last: 0,
-        gaps: gaps_after(run.gaps, end - run.end),
+        gaps,
     }
 }
 
-/// Returns the run with the members of a set after it, if it ends with a starter. A mark that comes after one of class
-/// `before`, if this isn't 0, has no units before it.
+/// Returns the run with what is passed over at once after it. Where letters and marks alternate, each change between the
+/// two kinds of loop is a branch that isn't foreseen.
 #[inline(always)]
-fn with_starters<U: Units, N: Forming>(
-    normalizer: &N,
-    units: U,
-    run: RunSoFar,
-    before: u8,
-) -> RunSoFar
+fn with_more<U: Units, N: Forming>(normalizer: &N, units: U, run: RunSoFar) -> RunSoFar
     requires { IsRunSoFar (N.passthrough_class normalizer.now) U.encoding (U.units units) run }
     ensures { GoesOn (N.passthrough_class normalizer.now) U.encoding (U.units units) run result }
 {
-    if run.last == 0 {
-        return with_members(normalizer, units, run);
-    }
-    if before == 0 {
-        return run;
-    }
-    RunSoFar {
-        marks: run.marks,
-        end: run.end,
-        last: run.last,
-        gaps: gaps_after(run.gaps, 0),
-    }
-}
-
-/// Returns the run with what is passed over at once after its last character, which comes after one of class `before`.
-/// Where letters and marks alternate, each change between the two kinds of loop is a branch that isn't foreseen.
-#[inline(always)]
-fn with_more<U: Units, N: Forming>(normalizer: &N, units: U, run: RunSoFar, before: u8) -> RunSoFar
-    requires { IsRunSoFar (N.passthrough_class normalizer.now) U.encoding (U.units units) run }
-    ensures { GoesOn (N.passthrough_class normalizer.now) U.encoding (U.units units) run result }
-{
-    let longer = with_starters(normalizer, units, run, before);
+    let longer = with_members(normalizer, units, run);
     if longer.gaps < NEAR {
         // The parts are copied one by one, so that the loop keeps them in registers.
         let RunSoFar {
@@ -272,23 +268,27 @@ fn run_end<U: Units, N: Forming>(normalizer: &N, units: U) -> Run
         marks: end,
         end,
         last: 0,
-        gaps: gaps_of(end),
+        gaps: gaps_after(UNKNOWN, end),
     };
     while run.end < units.len() {
         let step = units.step_at(run.end);
-        let Some(class) = next_class(normalizer, run.last, step) else {
-            return Run {
-                marks: run.marks,
-                end: run.end,
-                next: Some(step),
-            };
-        };
-        run = with_more(normalizer, units, with_step(run, step, class), run.last);
+        match next_class(normalizer, run.last, step) {
+            Ok(class) => run = with_more(normalizer, units, with_step(run, step, class)),
+            Err(unseen) => {
+                return Run {
+                    marks: run.marks,
+                    end: run.end,
+                    next: Some(step),
+                    is_unordered: matches!(unseen, Unseen::Unordered),
+                };
+            }
+        }
     }
     Run {
         marks: run.marks,
         end: run.end,
         next: None,
+        is_unordered: false,
     }
 }
 
@@ -346,12 +346,27 @@ fn before_last<U: Units>(units: U, end: usize) -> usize
 
 /// Returns the end of the front of the units that is passed on as it is: of a run, unless what follows begins a new part,
 /// without the last starter and the marks after it if it may compose with what follows, and else without these marks.
-pub(crate) fn passthrough_end<U: Units, N: Forming>(normalizer: &N, units: U) -> usize
+pub(crate) fn passthrough_end<U: Units, N: Forming>(normalizer: &N, units: U) -> Passed
+    ensures { let m = N.made_form normalizer.now in 0 < result.end → IsPart U.encoding m.reading m.form (U.units units)
+        result.end × IsInputNormalized U.encoding m.reading m.form (take result.end (U.units units)) }
+{
+    let run = run_end(normalizer, units);
+    Passed {
+        end: end_before(normalizer, units, run),
+        is_unordered: run.is_unordered,
+    }
+}
+
+/// Returns that end, by the run.
+#[inline(always)]
+fn end_before<U: Units, N: Forming>(normalizer: &N, units: U, run: Run) -> usize
+    requires run { IsRunEnd (N.passthrough_class normalizer.now) U.encoding (U.units units) run.marks run.end }
+    requires next { MatchOption run.next (run.end ≡ length (U.units units))
+        (λ next. next ≡ first_in U.encoding (drop run.end (U.units units))) }
     ensures { let m = N.made_form normalizer.now in 0 < result → IsPart U.encoding m.reading m.form (U.units units)
         result × IsInputNormalized U.encoding m.reading m.form (take result (U.units units)) }
 {
     normalizer.passthrough_is_normalized_apart();
-    let run = run_end(normalizer, units);
     let Some(next) = run.next else {
         return run.end;
     };
@@ -367,8 +382,23 @@ pub(crate) fn passthrough_end<U: Units, N: Forming>(normalizer: &N, units: U) ->
     run.marks
 }
 
+impl Kept {
+    /// What is kept ends there, and nothing is known of the segment after it but whether its marks are out of order.
+    #[inline(always)]
+    fn to(end: usize, is_unordered: bool) -> Kept
+        ensures end { result.end ≡ end }
+        ensures composite { result.composite ≡ None }
+    {
+        Kept {
+            end,
+            composite: None,
+            is_unordered,
+        }
+    }
+}
+
 /// Returns the end of the front of the units that is kept as it is: runs, and segments between them that are seen to
-/// stay.
+/// stay. A segment whose marks are out of order doesn't.
 #[inline(always)]
 pub(crate) fn kept_end<U: Units, N: Forming>(normalizer: &N, units: U) -> Kept
     ensures kept { let m = N.made_form normalizer.now in
@@ -376,15 +406,11 @@ pub(crate) fn kept_end<U: Units, N: Forming>(normalizer: &N, units: U) -> Kept
     ensures composite { let m = N.made_form normalizer.now in IfSome result.composite (IsComposite
         (N.beginning normalizer.now) U.encoding m.reading m.form (drop result.end (U.units units))) }
 {
-    let end = passthrough_end(normalizer, units);
-    if end < units.len() && normalizer.holds_back() {
-        return kept_after(normalizer, units, end);
+    let passed = passthrough_end(normalizer, units);
+    if passed.end < units.len() && normalizer.holds_back() && !passed.is_unordered {
+        return kept_after(normalizer, units, passed.end);
     }
-    Kept {
-        end,
-        composite: None,
-        is_unordered: false,
-    }
+    Kept::to(passed.end, passed.is_unordered)
 }
 
 /// Returns the same end, which comes after a run.
@@ -401,13 +427,7 @@ fn kept_after<U: Units, N: Forming>(normalizer: &N, units: U, run: usize) -> Kep
         let rest = units.after(end);
         let seen = match normalizer.seen_segment(rest) {
             Ok(seen) => seen,
-            Err(unseen) => {
-                return Kept {
-                    end,
-                    composite: None,
-                    is_unordered: matches!(unseen, Unseen::Unordered),
-                };
-            }
+            Err(unseen) => return Kept::to(end, matches!(unseen, Unseen::Unordered)),
         };
         if let Some(character) = seen.becomes {
             let composite = Composite {
@@ -422,12 +442,12 @@ fn kept_after<U: Units, N: Forming>(normalizer: &N, units: U, run: usize) -> Kep
         }
         end += seen.end;
         if seen.is_before_run {
-            end += passthrough_end(normalizer, units.after(end));
+            let passed = passthrough_end(normalizer, units.after(end));
+            end += passed.end;
+            if passed.is_unordered {
+                return Kept::to(end, true);
+            }
         }
     }
-    Kept {
-        end,
-        composite: None,
-        is_unordered: false,
-    }
+    Kept::to(end, false)
 }

@@ -58,13 +58,13 @@ module _ (passed : ℕ → Option ℕ) where
       let later = class_after-last ss s i k rest in
       (later.0, ap (option_and_then (λ n. class_after passed n ss)) next ∙ later.1, later.2))
 
-  -- starters, after a starter
-  class_after-starters : (ss : List Step) → All (λ s. class_of_step passed s ≡ Some 0) ss → class_after passed 0 ss ≡ Some 0
+  -- starters, after any character, or no steps, after a starter
+  class_after-starters : (last : ℕ) (ss : List Step) → (ss ≡ [] → last ≡ 0) → All (λ s. class_of_step passed s ≡ Some 0) ss → class_after passed last ss ≡ Some 0
   unfolding class_after
-  class_after-starters [] all = refl
-  class_after-starters (s ∷ ss) all =
-      ap (option_and_then (λ i. class_after passed i ss)) (next_class-starter 0 s (All-head (λ t. class_of_step passed t ≡ Some 0) s ss all))
-      ∙ class_after-starters ss (All-tail (λ t. class_of_step passed t ≡ Some 0) s ss all)
+  class_after-starters last [] none all = ap (λ k. Some k) (none refl)
+  class_after-starters last (s ∷ ss) none all =
+      ap (option_and_then (λ i. class_after passed i ss)) (next_class-starter last s (All-head (λ t. class_of_step passed t ≡ Some 0) s ss all))
+      ∙ class_after-starters 0 ss (λ _. refl) (All-tail (λ t. class_of_step passed t ≡ Some 0) s ss all)
 
   -- if the last class is 0, the last step is a starter
   pub record EndsWithStarter (ss : List Step) : Type 0 where
@@ -125,8 +125,9 @@ module _ (passed : ℕ → Option ℕ) (e : Encoding) (units : List ℕ) where
         (cond-false (s.character == replacement) None (passed s.character) (ne_eqb s.character replacement is.0) ∙ is.1)
         (members_pass ss (All-tail (λ t. test t.character ≡ true) s ss all))
 
-    pub IsPassthroughTo-members : (end new : ℕ) → new ≡ end + width_within test (steps (first_in e) (drop end units)) → IsPassthroughTo passed e units end 0 → IsPassthroughTo passed e units new 0
-    IsPassthroughTo-members end new is so_far =
+    pub IsPassthroughTo-members : (last end new : ℕ) → new ≡ end + width_within test (steps (first_in e) (drop end units)) → (new ≡ end → last ≡ 0) → IsPassthroughTo passed e units end last
+        → IsPassthroughTo passed e units new 0
+    IsPassthroughTo-members last end new is none so_far =
         let b = so_far.boundary in
         let more = members_in_front test (steps (first_in e) (drop end units)) in
         record {
@@ -138,7 +139,8 @@ module _ (passed : ℕ → Option ℕ) (e : Encoding) (units : List ℕ) where
                 ∙ sym (append_assoc b.before more.front more.back);
             taken = (let k = b.taken in omega (arith, width_of-append b.before more.front, more.width, is));
           };
-          pass = class_after-append passed b.before more.front 0 0 so_far.pass ∙ class_after-starters passed more.front (members_pass more.front more.members);
+          pass = class_after-append passed b.before more.front 0 last so_far.pass
+              ∙ class_after-starters passed last more.front (λ no. none (omega (arith, is, more.width, ap width_of no))) (members_pass more.front more.members);
         }
 
   pub IsPassthroughTo-le : (end last : ℕ) → IsPassthroughTo passed e units end last → end ≤ length units

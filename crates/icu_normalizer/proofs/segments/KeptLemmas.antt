@@ -36,7 +36,7 @@ use Rattle.normalizer_iterators.proofs.composing.MarkLemmas.{join-above}
 use Rattle.icu_normalizer.specs.declared.kept.KeptStarter.{KeptStarter}
 use Rattle.icu_normalizer.specs.inner.Kept.{HasBase, IsKeptCharacter, IsKeptStarter, IsMarkAfter, JoinsStarter, StaysMark}
 use Rattle.icu_normalizer.specs.inner.PassthroughRuns.{Divides, IsKeptTo, IsPart, IsSeenSegment, IsStableStarter}
-use Rattle.icu_normalizer.proofs.segments.StableLemmas.{NeighboursFit-ordered, stable-composed, stable-ordered, stable-pair}
+use Rattle.icu_normalizer.proofs.segments.StableLemmas.{form_of_single, NeighboursFit-ordered, stable-composed, stable-ordered, stable-pair}
 
 -- ---- one kept part after another
 
@@ -341,6 +341,19 @@ module _ (d : Reading) (results : HasStarterResults d) (faithful : HasFaithfulRe
       record {
         well_formed = All-same (λ s. s.is_error ≡ false) _ _ same k.right;
         own = subst (λ l. normal_form d Composing l ≡ l) (sym text) (Settled-own d results r.character k.marks done.0 k.own done.1);
+      }
+
+  -- a character whose list is one character, if nothing comes after it that isn't normalized apart
+  pub IsSeenSegment-single : (beginning : ℕ → Bool) (s : Step) → 0 < length units → s ≡ first_in e (drop 0 units)
+      → (s.width < length units → beginning (first_in e (drop s.width units)).character ≡ true) → (c : ℕ) → d.list s.character ≡ c ∷ [] → IsSeenSegment beginning e d Composing units s.width (Some c)
+  unfolding boundary-first
+  IsSeenSegment-single beginning s some is begins c list =
+      let b : IsBoundary (first_in e) units s.width = boundary-first e units s (record { some = some; is = is }) in
+      record {
+        segment = record { some = (step-some e units 0 s some is).0; boundary = b; next = begins };
+        own = λ none. absurd (cc);
+        one = ap (λ l. normal_form d Composing (map (λ t. t.character) l)) (steps-parts e units s.width b).0
+            ∙ form_of_single d results s.character (ap length list) ∙ list;
       }
 
   -- a starter, and a character that joins it

@@ -153,6 +153,11 @@ last_member x place c all is =
     sym (take-append-drop place x)
     ∙ ap (λ l. take place x ++ l) (drop_member x place c is ∙ ap (λ n. c ∷ drop n x) all ∙ ap (λ l. c ∷ l) (drop-length x))
 
+pub one_member : (x : List ℕ) (a : ℕ) → length x ≡ 1 → slice_get x 0 ≡ Some a → x ≡ a ∷ []
+one_member [] a one is = absurd (omega (arith, one))
+one_member (b ∷ []) a one is = let same : b ≡ a = cc in ap (λ c. c ∷ []) same
+one_member (b ∷ e ∷ x) a one is = absurd (omega (arith, one))
+
 pub two_members : (x : List ℕ) (a : ℕ) → length x ≡ 2 → slice_get x 0 ≡ Some a → IsFirstOfTwo x a
 two_members [] a two is = absurd (omega (arith, two))
 two_members (b ∷ []) a two is = absurd (omega (arith, two))

@@ -34,15 +34,21 @@ pub overflow_add-end-then-seen : goal.overflow_add-end-then-seen
 overflow_add-end-then-seen g c =
     let so_far = IsKeptTo-more _ _ _ _ _ _ _ c.after-rest.ensures c.loop-end.invariant
     (λ _. (IsPart-segment _ _ _ _ _ c.passthrough_is_normalized_apart.ensures.begins _ c.in-Ok.ensures.segment, c.in-Ok.ensures.own c.in_default-becomes.is)) in
-    let all = IsKeptTo-more _ _ _ _ _ _ _ c.after.ensures so_far c.passthrough_end.ensures in
+    let all = IsKeptTo-more _ _ _ _ _ _ _ c.after.ensures so_far c.passthrough_end-passed.ensures in
     let most = IsKeptTo-le _ _ _ _ _ all in
     omega (arith, c.len.ensures)
 
-pub loop-end-preserved-then-seen : goal.loop-end-preserved-then-seen
-loop-end-preserved-then-seen g c =
+pub returns-then-passed-clause-kept : goal.returns-then-passed-clause-kept
+returns-then-passed-clause-kept g c =
     let so_far = IsKeptTo-more _ _ _ _ _ _ _ c.after-rest.ensures c.loop-end.invariant
     (λ _. (IsPart-segment _ _ _ _ _ c.passthrough_is_normalized_apart.ensures.begins _ c.in-Ok.ensures.segment, c.in-Ok.ensures.own c.in_default-becomes.is)) in
-    IsKeptTo-more _ _ _ _ _ _ _ c.after.ensures so_far c.passthrough_end.ensures
+    rw c.to-then-passed.ensures.end (IsKeptTo-more _ _ _ _ _ _ _ c.after.ensures so_far c.passthrough_end-passed.ensures)
+
+pub loop-end-preserved-else-passed : goal.loop-end-preserved-else-passed
+loop-end-preserved-else-passed g c =
+    let so_far = IsKeptTo-more _ _ _ _ _ _ _ c.after-rest.ensures c.loop-end.invariant
+    (λ _. (IsPart-segment _ _ _ _ _ c.passthrough_is_normalized_apart.ensures.begins _ c.in-Ok.ensures.segment, c.in-Ok.ensures.own c.in_default-becomes.is)) in
+    IsKeptTo-more _ _ _ _ _ _ _ c.after.ensures so_far c.passthrough_end-passed.ensures
 
 pub loop-end-preserved : goal.loop-end-preserved
 loop-end-preserved g c =

@@ -1,4 +1,4 @@
-use Rattle.std.proofs.Common.{arith, sym}
+use Rattle.std.proofs.Common.{arith, refl}
 use Rattle.normalizer_sets.specs.CharacterSets.{has}
 use Rattle.normalizer_sets.proofs.SetLemmas.{has-IsCandidate}
 use Rattle.normalizer_text.proofs.steps.StepBoundaries.{boundary-start, step-some}
@@ -11,7 +11,7 @@ end_of_members-end-requires g c = boundary-start g.U.Units.encoding (g.U.Units.u
 pub loop-run-init : goal.loop-run-init
 loop-run-init g c =
     IsRun-starters _ _ _ _
-    (IsPassthroughTo-members _ _ _ (has c.passing.result.now) (λ n is. ((has-IsCandidate c.passing.result.now n is).other, c.passing.ensures n is)) _ _ c.end_of_members-end.ensures (IsPassthroughTo-none _ _ _))
+    (IsPassthroughTo-members _ _ _ (has c.passing.result.now) (λ n is. ((has-IsCandidate c.passing.result.now n is).other, c.passing.ensures n is)) _ _ _ c.end_of_members-end.ensures (λ _. refl) (IsPassthroughTo-none _ _ _))
 
 pub with_step-requires : goal.with_step-requires
 with_step-requires g c =
@@ -19,7 +19,7 @@ with_step-requires g c =
 
 pub with_more-run-requires : goal.with_more-run-requires
 with_more-run-requires g c =
-    IsRun-longer _ _ _ _ _ c.step_at-step.ensures (omega (arith, c.len.ensures)) _ _ _ _ _ _ c.loop-run.invariant (sym c.in-Some.ensures)
+    IsRun-longer _ _ _ _ _ c.step_at-step.ensures (omega (arith, c.len.ensures)) _ _ _ _ _ _ c.loop-run.invariant c.in-Ok.ensures
     c.with_step.ensures.end c.with_step.ensures.last c.with_step.ensures.starter c.with_step.ensures.mark
 
 pub loop-run-preserved : goal.loop-run-preserved
