@@ -48,14 +48,7 @@ impl<'a> ComposingForm<'a> {
         composed(characters, dropped, self.pairs, self.bounds, iter)
     }
 
-    /// Whether a composing loop passes a character.
-    pub(crate) fn passes(&self, character: char) -> bool
-        ensures { result ≡ is_composing_passthrough self.now.characters self.now.bounds character }
-    {
-        self.passes_by(character, self.characters.word_of(character))
-    }
-
-    /// The same, by its word.
+    /// Whether a composing loop passes a character, by its word.
     #[tactic(auto, unfolding(normalizer_tables::specs::conditions::PairConditions::is_composing_passthrough))]
     #[inline(always)]
     pub(crate) fn passes_by(&self, character: char, word: u32) -> bool

@@ -1,9 +1,9 @@
 //! Segments of the composing form that stay as they are, or become one character.
-ghost use Rattle.std.specs.Prelude.{◌≡◌, ◌≢◌, ◌<◌, ◌≤◌, drop, length, IfOk, IfSome, None, Some};
+ghost use Rattle.std.specs.Prelude.{◌≡◌, ◌≢◌, ◌<◌, ◌≤◌, drop, length, true, IfOk, IfSome, None, Some};
 ghost use Rattle.normalizer_text.specs.Encodings.{first_in};
 ghost use Rattle.normal_forms.specs.declared.Form.TheVariants.{Composing};
 ghost use Rattle.normalizer_tables.specs.Characters.{word_of};
-ghost use Rattle.normalizer_tables.specs.conditions.PairConditions.{is_taken_as_boundary};
+ghost use Rattle.normalizer_tables.specs.conditions.PairConditions.{is_composing_passthrough, is_taken_as_boundary};
 ghost use Rattle.normalizer_tables.specs.Readings.{reading_by};
 ghost use Rattle.normalizer_tables.specs.declared.characters.IgnoredCharacters.TheVariants.{Dropped};
 ghost use Rattle.icu_normalizer.specs.inner.Kept.{IsFirstOfTwo, IsKeptCharacter, IsKeptStarter};
@@ -80,8 +80,9 @@ pub(crate) fn seen_segment<U: Units>(
         (reading_by f.characters Dropped f.pairs.now) Composing (U.units units) seen.end seen.becomes) }
 {
     let first = units.step_at(0);
-    let Some(starter) = kept_starter(form, first) else {
-        return single_segment(form, units, first).ok_or(Unseen::Unknown);
+    let word = form.characters.word_of(first.character);
+    let Some(starter) = kept_starter(form, first, word) else {
+        return single_segment(form, units, first, word).ok_or(Unseen::Unknown);
     };
     let mut last = 0;
     let mut end = first.width;
@@ -119,16 +120,18 @@ fn single_segment<U: Units>(
     form: &ComposingForm<'_>,
     units: U,
     first: Step,
+    word: u32,
 ) -> Option<SeenSegment>
     requires some { 0 < length (U.units units) }
     requires first { first ≡ first_in U.encoding (U.units units) }
+    requires word { word ≡ word_of form.now.characters first.character }
     ensures { let f = form.now in IfSome result (λ seen.
         IsSeenSegment (is_taken_as_boundary f.characters f.bounds) U.encoding
         (reading_by f.characters Dropped f.pairs.now) Composing (U.units units) seen.end seen.becomes) }
 {
     let members = form
         .characters
-        .members(first.character, IgnoredCharacters::Dropped);
+        .members_by(first.character, word, IgnoredCharacters::Dropped);
     if members.len() != 1 {
         return None;
     }
@@ -195,14 +198,14 @@ fn joined_segment<U: Units>(
 
 /// Returns the starter of a step, if that isn't an error and the starter composes to itself.
 #[inline(always)]
-fn kept_starter(form: &ComposingForm<'_>, step: Step) -> Option<KeptStarter>
+fn kept_starter(form: &ComposingForm<'_>, step: Step, word: u32) -> Option<KeptStarter>
+    requires { word ≡ word_of form.now.characters step.character }
     ensures { IfSome result
         (IsKeptStarter (reading_by form.now.characters Dropped form.now.pairs.now) step) }
 {
     if step.is_error {
         return None;
     }
-    let word = form.characters.word_of(step.character);
     match form.characters.class_of_itself(step.character, word) {
         Some(0) => Some(KeptStarter {
             character: step.character,
@@ -210,21 +213,23 @@ fn kept_starter(form: &ComposingForm<'_>, step: Step) -> Option<KeptStarter>
             last: 0,
         }),
         Some(_) => None,
-        None => kept_composite(form, step.character),
+        None if form.passes_by(step.character, word) => {
+            kept_composite(form, step.character, word)
+        }
+        None => None,
     }
 }
 
-/// Returns a character as a starter, if it passes.
-fn kept_composite(form: &ComposingForm<'_>, character: char) -> Option<KeptStarter>
+/// Returns a character that passes as a starter.
+fn kept_composite(form: &ComposingForm<'_>, character: char, word: u32) -> Option<KeptStarter>
+    requires word { word ≡ word_of form.now.characters character }
+    requires passes { is_composing_passthrough form.now.characters form.now.bounds character ≡ true }
     ensures { IfSome result
         (IsKeptCharacter (reading_by form.now.characters Dropped form.now.pairs.now) character) }
 {
-    if !form.passes(character) {
-        return None;
-    }
     let members = form
         .characters
-        .members(character, IgnoredCharacters::Dropped);
+        .members_by(character, word, IgnoredCharacters::Dropped);
     let count = members.len();
     if count == 0 {
         return None;

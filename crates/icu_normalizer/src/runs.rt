@@ -82,18 +82,13 @@ fn next_class<N: Forming>(normalizer: &N, last: u8, step: Step) -> Result<u8, Un
     }
 }
 
-/// Returns the class of a step that is seen to be passed on as it is after a character of class `last`. Low characters
-/// aren't looked up.
+/// Returns the class of a step that is seen to be passed on as it is after a character of class `last`.
 #[inline(always)]
 fn seen_class<N: Forming>(normalizer: &N, last: u8, step: Step) -> Option<u8>
     ensures { IfSome result (λ class. next_class (N.passthrough_class normalizer.now) last step ≡ Some class) }
 {
-    normalizer.passthrough_is_normalized_apart();
     if step.character == char::REPLACEMENT_CHARACTER {
         return None;
-    }
-    if (step.character as u32) < normalizer.passthrough_bound() {
-        return Some(0);
     }
     normalizer.seen_class(last, step.character)
 }
@@ -105,10 +100,10 @@ const PATIENCE: usize = 64;
 const FAR: usize = 16;
 
 /// The sum of such counts below which letters and marks alternate.
-const NEAR: u8 = 36;
+const NEAR: u8 = 28;
 
 /// The sum that a run begins with.
-const UNKNOWN: u8 = 48;
+const UNKNOWN: u8 = 32;
 
 /// Returns the sum of the counts of units between marks, each 7/8 of the one after it, after one more count.
 #[inline(always)]

@@ -13,7 +13,7 @@ returns c =
     let d = reading_by f.characters Dropped f.pairs.now in
     let list = d.list c.args.character in
     let apart = f.serves.composing.apart Dropped c.args.character
-    (record { scalar = c.ranges.character.0; passed = sym c.passes.ensures ∙ c.if-not-passes.false }) in
+    (record { scalar = c.ranges.character.0; passed = c.requires.passes }) in
     let count = c.len-count.result in
     record {
       character = refl;
@@ -23,13 +23,13 @@ returns c =
         front = take (count - 1) list;
         end = c.at.result;
         list = last_member list (count - 1) c.at.result
-            (omega (arith, c.len-count.ensures, ap length c.members-members.ensures))
-            (sym c.at.ensures ∙ ap (λ l. slice_get l (count - 1)) c.members-members.ensures);
+            (omega (arith, c.len-count.ensures, ap length c.members_by-members.ensures))
+            (sym c.at.ensures ∙ ap (λ l. slice_get l (count - 1)) c.members_by-members.ensures);
         class = sym c.class_of.ensures;
       };
       base = base_of_two d c.args.character c.first_of_two.result (count - 1) c.at.result c.class_of.result
-          (subst (λ l. IfSome c.first_of_two.result (IsFirstOfTwo l)) c.members-members.ensures c.first_of_two.ensures)
-          (omega (arith, c.len-count.ensures, ap length c.members-members.ensures))
-          (sym c.at.ensures ∙ ap (λ l. slice_get l (count - 1)) c.members-members.ensures)
+          (subst (λ l. IfSome c.first_of_two.result (IsFirstOfTwo l)) c.members_by-members.ensures c.first_of_two.ensures)
+          (omega (arith, c.len-count.ensures, ap length c.members_by-members.ensures))
+          (sym c.at.ensures ∙ ap (λ l. slice_get l (count - 1)) c.members_by-members.ensures)
           (sym c.class_of.ensures);
     }

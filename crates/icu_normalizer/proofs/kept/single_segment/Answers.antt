@@ -17,4 +17,4 @@ returns g c =
           λ _. ap (λ s. is_taken_as_boundary f.characters f.bounds s.character) (sym w.step_at.ensures) ∙ sym w.begins.ensures ∙ w.if-not-begins.false
       | else-end-len-via-else-end-len w ↦ λ more. absurd (omega (arith, c.len-2.ensures, w.if-end-len.false))
     ])
-    _ (sym c.members-members.ensures ∙ one_member _ _ (sym c.len.ensures ∙ c.if-len-ne1.false) c.at.ensures)
+    _ (sym c.members_by-members.ensures ∙ one_member _ _ (sym c.len.ensures ∙ c.if-len-ne1.false) c.at.ensures)
