@@ -25,6 +25,9 @@ const ASCII: u32 = 0x80;
 /// How many 16-bit units are looked up together.
 const GROUP: usize = 4;
 
+/// After how many single units no pair is expected.
+const PATIENCE: usize = 8;
+
 /// Units whose steps are looked up one after another.
 pub(crate) trait Members: Copy {
     /// The units.
@@ -307,8 +310,8 @@ fn has_pair_at(units: &[u16], position: usize, set: &CharacterSet) -> bool
     units.len() - position >= 2 && utf16::has_pair(units[position], units[position + 1], set)
 }
 
-/// Returns an end of members, pairs among them: up to as many single ones as are looked up together. Where pairs are
-/// mixed with single units, it is faster to look up each.
+/// Returns an end of members, pairs among them: up to so many single ones that no pair is expected. Where pairs are mixed
+/// with single units, it is faster to look up each, and to go on by a sum and not by a branch.
 #[inline(never)]
 fn end_of_mixed_members(units: &[u16], position: usize, set: &CharacterSet) -> usize
     requires { IsBoundary first_of_utf16 units.now position }
@@ -316,18 +319,23 @@ fn end_of_mixed_members(units: &[u16], position: usize, set: &CharacterSet) -> u
 {
     let mut end = position;
     let mut singles = 0;
-    while end < units.len() && singles < GROUP {
-        if has_pair_at(units, end, set) {
-            end += 2;
-            singles = 0;
-        } else if set.has_unit(units[end]) {
-            end += 1;
-            singles += 1;
-        } else {
+    while units.len() - end >= 2 && singles < PATIENCE {
+        if !utf16::has_first_of_two(units[end], units[end + 1], set) {
             return end;
         }
+        let width = utf16::width_led_by(units[end]);
+        end += width;
+        singles = singles_after(singles, width);
     }
     end
+}
+
+/// Returns how many single units come in a row after one more step of such a width.
+#[inline(always)]
+fn singles_after(singles: usize, width: usize) -> usize
+    requires { singles < PATIENCE }
+{
+    if width == 1 { singles + 1 } else { 0 }
 }
 
 /// Returns the end of the units from a position on that are members by themselves. Low ones, and then none or one, as a

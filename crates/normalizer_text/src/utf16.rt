@@ -1,6 +1,6 @@
 //! Decoding 16-bit units that may not be UTF-16, with U+FFFD for unpaired surrogates (The Unicode Standard, section
 //! 3.9).
-ghost use Rattle.std.specs.Prelude.{◌≡◌, ◌<◌, ◌≤◌, ◌&&◌, IsTrue, length};
+ghost use Rattle.std.specs.Prelude.{◌≡◌, ◌<◌, ◌≤◌, ◌&&◌, if◌then◌else◌, IsTrue, length};
 ghost use Rattle.normalizer_sets.specs.CharacterSets.{has};
 ghost use Rattle.normalizer_text.specs.Utf16.{is_high, is_low, pair_value, first_of_utf16};
 
@@ -36,19 +36,37 @@ fn character_of_pair(high: u16, low: u16) -> char
 pub(crate) fn has_pair(high: u16, low: u16, set: &CharacterSet) -> bool
     ensures { result ≡ (is_high high && is_low low && has set.now (pair_value high low)) }
 {
-    is_high_surrogate(high) && is_low_surrogate(low) && has_character_of_pair(high, low, set)
+    is_high_surrogate(high) && has_low(high, low, set)
 }
 
-/// Whether a set has the character of a pair: the bit is found by the units.
+/// Whether the second of two units is a low surrogate and, after a high one, makes a pair whose character a set has. The
+/// bit is found by the units, whatever they are, so that no branch comes before it.
 #[inline(always)]
-fn has_character_of_pair(high: u16, low: u16, set: &CharacterSet) -> bool
-    requires high { IsTrue (is_high high) }
-    requires low { IsTrue (is_low low) }
-    ensures { result ≡ has set.now (pair_value high low) }
+fn has_low(high: u16, low: u16, set: &CharacterSet) -> bool
+    ensures { IsTrue (is_high high) → result ≡ (is_low low && has set.now (pair_value high low)) }
 {
-    let page = ((high - 0xD800) / 4) as usize;
-    let block = high as usize % 4 * 16 + (low - 0xDC00) as usize / 64;
-    set.has_above(page, block, (low % 64) as u32)
+    let page = (high / 4 % 256) as usize;
+    let block = (high % 4 * 16 + low / 64 % 16) as usize;
+    is_low_surrogate(low) & set.has_above(page, block, (low % 64) as u32)
+}
+
+/// How many units a step takes whose character is a member of a set, by its first unit: a sum, so that what comes after it
+/// isn't reached by a branch.
+#[inline(always)]
+pub(crate) fn width_led_by(first: u16) -> usize
+    ensures { result ≡ (if is_high first then 2 else 1) }
+{
+    1 + usize::from(is_high_surrogate(first))
+}
+
+/// Whether a set has the character of the step that the first of two units begins: that of a pair if it is a high
+/// surrogate. Both bits are looked up, and one is picked by a shift, so that no branch tells pairs from single units.
+#[inline(always)]
+pub(crate) fn has_first_of_two(first: u16, second: u16, set: &CharacterSet) -> bool
+    ensures { result ≡ (if is_high first then is_low second && has set.now (pair_value first second) else has set.now first) }
+{
+    let both = u32::from(set.has_unit(first)) + 2 * u32::from(has_low(first, second, set));
+    (both >> u32::from(is_high_surrogate(first))) % 2 == 1
 }
 
 /// The first step of units that aren't empty.

@@ -382,6 +382,23 @@ module _ (set : List ℕ) where
       let width = single-width (drop n units) (λ k. subst (λ u. u < 0x10000) (sym (get_or-drop n units k 0)) (all (n + k))) (omega (arith, length-drop n units)) (ap (has set) at ∙ is) in
       member-passed (has set) Encoding.Utf16 units n 1 some width (λ none. absurd (omega (arith, none))) here
 
+  -- the step in front, by its first two units
+  pub first-passed : (units : List ℕ) → AreUnits units → (n w : ℕ) → IsBoundary first_of_utf16 units n → n + 2 ≤ length units → w ≡ (if is_high (get_or units n 0) then 2 else 1)
+      → (if is_high (get_or units n 0) then is_low (get_or units (n + 1) 0) && has set (pair_value (get_or units n 0) (get_or units (n + 1) 0)) else has set (get_or units n 0)) ≡ true
+      → IsPassedTo (has set) Encoding.Utf16 units n (n + w)
+  first-passed units all n w start room width is =
+      let u = get_or units n 0 in
+      let v = get_or units (n + 1) 0 in
+      let pair = is_low v && has set (pair_value u v) in
+      let passed = λ (k : ℕ). IsPassedTo (has set) Encoding.Utf16 units n (n + k) in
+      elim (cases_Bool (is_high u)) [
+        | inl high ↦
+            let parts = and_parts _ _ (sym (cond-true (is_high u) pair (has set u) high) ∙ is) in
+            subst passed (sym (width ∙ cond-true (is_high u) 2 1 high)) (pair-passed units n start (pair-front units n room ∙ and_from _ _ (and_from _ _ high parts.0) parts.1))
+        | inr other ↦
+            subst passed (sym (width ∙ cond-false (is_high u) 2 1 other)) (single-passed units all n start (omega arith) (sym (cond-false (is_high u) pair (has set u) other) ∙ is))
+      ]
+
   -- passing over them
   module _ (units : List ℕ) (all : AreUnits units) (n m : ℕ) (here : IsBoundary first_of_utf16 units n) where
     rest_are : AreUnits (drop n units)
