@@ -308,10 +308,10 @@ fn has_pair_at(units: &[u16], position: usize, set: &CharacterSet) -> bool
         && utf16::has_pair(units[position] as u32, units[position + 1] as u32, set)
 }
 
-/// Returns an end of members, pairs among them: up to eight single ones in a row, or up to the last two units. Where pairs
-/// are mixed with single units, no branch tells them apart: the end goes on by a sum, and the unit that comes next is one
-/// of two that are read before it is known which. They are numbers of 32 bits, since a choice of two that are read as 16
-/// bits is compiled to a branch.
+/// Returns an end of members, pairs among them: up to eight single ones in a row, or up to the last two units. Where
+/// pairs are mixed with single units, no branch tells them apart: the end goes on by a sum, and the unit that comes
+/// next is one of two that are read before it is known which. They are numbers of 32 bits, since a choice of two that
+/// are read as 16 bits is compiled to a branch.
 #[inline(never)]
 fn end_of_mixed_members(units: &[u16], position: usize, set: &CharacterSet) -> usize
     requires { IsBoundary first_of_utf16 units.now position }

@@ -39,8 +39,8 @@ pub(crate) fn has_pair(high: u32, low: u32, set: &CharacterSet) -> bool
     is_high_surrogate(high) && has_low(high, low, set)
 }
 
-/// Whether the second of two units is a low surrogate and, after a high one, makes a pair whose character a set has. The
-/// bit is found by the units, whatever they are, so that no branch comes before it.
+/// Whether the second of two units is a low surrogate and, after a high one, makes a pair whose character a set has.
+/// The bit is found by the units, whatever they are, so that no branch comes before it.
 #[inline(always)]
 fn has_low(high: u32, low: u32, set: &CharacterSet) -> bool
     ensures { IsTrue (is_high high) → result ≡ (is_low low && has set.now (pair_value high low)) }
@@ -50,8 +50,8 @@ fn has_low(high: u32, low: u32, set: &CharacterSet) -> bool
     is_low_surrogate(low) & set.has_above(page, block, low % 64)
 }
 
-/// How many units a step takes whose character is a member of a set, by its first unit: a sum, so that what comes after it
-/// isn't reached by a branch.
+/// How many units a step takes whose character is a member of a set, by its first unit: a sum, so that what comes after
+/// it isn't reached by a branch.
 #[inline(always)]
 pub(crate) fn width_led_by(first: u32) -> usize
     ensures { result ≡ (if is_high first then 2 else 1) }
@@ -76,7 +76,9 @@ pub(crate) fn unit_after(first: u32, second: u32, third: u32) -> u32
 #[inline(always)]
 pub(crate) fn has_first_of_two(first: u32, second: u32, set: &CharacterSet) -> bool
     requires { first < 0x10000 }
-    ensures { result ≡ (if is_high first then is_low second && has set.now (pair_value first second) else has set.now first) }
+    ensures { result ≡ (if is_high first
+        then is_low second && has set.now (pair_value first second)
+        else has set.now first) }
 {
     let single = set.has_at((first / 64) as usize, first % 64);
     let pair = has_low(first, second, set);
