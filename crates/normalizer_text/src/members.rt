@@ -304,30 +304,46 @@ fn has_pair_at(units: &[u16], position: usize, set: &CharacterSet) -> bool
     requires { position ≤ length units.now }
     ensures { result ≡ has_pair_in_front (has set.now) (drop position units.now) }
 {
-    units.len() - position >= 2 && utf16::has_pair(units[position], units[position + 1], set)
+    units.len() - position >= 2
+        && utf16::has_pair(units[position] as u32, units[position + 1] as u32, set)
 }
 
-/// Returns an end of members, pairs among them: up to as many single ones as are looked up together. Where pairs are
-/// mixed with single units, it is faster to look up each.
+/// Returns an end of members, pairs among them: up to eight single ones in a row, or up to the last two units. Where
+/// pairs are mixed with single units, no branch tells them apart: the end goes on by a sum, and the unit that comes
+/// next is one of two that are read before it is known which. They are numbers of 32 bits, since a choice of two that
+/// are read as 16 bits is compiled to a branch.
 #[inline(never)]
 fn end_of_mixed_members(units: &[u16], position: usize, set: &CharacterSet) -> usize
     requires { IsBoundary first_of_utf16 units.now position }
     ensures { IsPassedTo (has set.now) Encoding.Utf16 units.now position result }
 {
+    let stop = units.len().saturating_sub(2);
+    if position >= stop {
+        return position;
+    }
     let mut end = position;
-    let mut singles = 0;
-    while end < units.len() && singles < GROUP {
-        if has_pair_at(units, end, set) {
-            end += 2;
-            singles = 0;
-        } else if set.has_unit(units[end]) {
-            end += 1;
-            singles += 1;
-        } else {
+    let mut first = units[end] as u32;
+    // A bit for each of the last eight steps: whether it is a pair.
+    let mut pairs = 1;
+    while end < stop && pairs != 0 {
+        let second = units[end + 1] as u32;
+        if !utf16::has_first_of_two(first, second, set) {
             return end;
         }
+        let width = utf16::width_led_by(first);
+        pairs = with_step(pairs, width);
+        first = utf16::unit_after(first, second, units[end + 2] as u32);
+        end += width;
     }
     end
+}
+
+/// Returns bits with one more for a step: whether it is a pair.
+#[inline(always)]
+fn with_step(pairs: u8, width: usize) -> u8
+    requires { width ≤ 2 }
+{
+    pairs % 128 * 2 + u8::from(width == 2)
 }
 
 /// Returns the end of the units from a position on that are members by themselves. Low ones, and then none or one, as a

@@ -213,7 +213,7 @@ impl<'a> Units for &'a [u16] {
     }
 
     fn trails_at(self, position: usize) -> bool {
-        utf16::is_low_surrogate(self[position])
+        utf16::is_low_surrogate(u32::from(self[position]))
     }
 
     #[inline(always)]

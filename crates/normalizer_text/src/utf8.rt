@@ -123,8 +123,8 @@ impl Trail {
     }
 }
 
-/// The character of a well-formed sequence (table 3-6). Remainders keep the bits of each byte apart, so that the last six
-/// of the number need no sum.
+/// The character of a well-formed sequence (table 3-6). Remainders keep the bits of each byte apart, so that the last
+/// six of the number need no sum.
 #[inline(always)]
 #[tactic(auto, using(crate::proofs::sequences::SubpartLemmas::bounds_of_sequence))]
 fn character_of(sequence: &[u8]) -> char

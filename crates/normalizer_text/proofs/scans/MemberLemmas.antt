@@ -382,6 +382,32 @@ module _ (set : List ℕ) where
       let width = single-width (drop n units) (λ k. subst (λ u. u < 0x10000) (sym (get_or-drop n units k 0)) (all (n + k))) (omega (arith, length-drop n units)) (ap (has set) at ∙ is) in
       member-passed (has set) Encoding.Utf16 units n 1 some width (λ none. absurd (omega (arith, none))) here
 
+  -- the step in front, by its first two units
+  pub first-passed : (units : List ℕ) → AreUnits units → (n w u : ℕ) → IsBoundary first_of_utf16 units n → n + 2 ≤ length units → u ≡ get_or units n 0 → w ≡ (if is_high u then 2 else 1)
+      → (if is_high u then is_low (get_or units (n + 1) 0) && has set (pair_value u (get_or units (n + 1) 0)) else has set u) ≡ true → IsPassedTo (has set) Encoding.Utf16 units n (n + w)
+  first-passed units all n w u start room at width is =
+      let v = get_or units (n + 1) 0 in
+      let pair = is_low v && has set (pair_value u v) in
+      let passed = λ (k : ℕ). IsPassedTo (has set) Encoding.Utf16 units n (n + k) in
+      elim (cases_Bool (is_high u)) [
+        | inl high ↦
+            let parts = and_parts _ _ (sym (cond-true (is_high u) pair (has set u) high) ∙ is) in
+            let both = subst (λ g. ((is_high g && is_low v) && has set (pair_value g v)) ≡ true) at (and_from _ _ (and_from _ _ high parts.0) parts.1) in
+            subst passed (sym (width ∙ cond-true (is_high u) 2 1 high)) (pair-passed units n start (pair-front units n room ∙ both))
+        | inr other ↦
+            let member = subst (λ g. has set g ≡ true) at (sym (cond-false (is_high u) pair (has set u) other) ∙ is) in
+            subst passed (sym (width ∙ cond-false (is_high u) 2 1 other)) (single-passed units all n start (omega arith) member)
+      ]
+
+  -- the unit after a step
+  pub unit-after : (units : List ℕ) (n w : ℕ) (high : Bool) → w ≡ (if high then 2 else 1) → (if high then get_or units (n + 2) 0 else get_or units (n + 1) 0) ≡ get_or units (n + w) 0
+  unit-after units n w high width =
+      let at = λ (k : ℕ). get_or units (n + k) 0 in
+      elim (cases_Bool high) [
+        | inl is ↦ cond-true high (at 2) (at 1) is ∙ ap at (sym (width ∙ cond-true high 2 1 is))
+        | inr other ↦ cond-false high (at 2) (at 1) other ∙ ap at (sym (width ∙ cond-false high 2 1 other))
+      ]
+
   -- passing over them
   module _ (units : List ℕ) (all : AreUnits units) (n m : ℕ) (here : IsBoundary first_of_utf16 units n) where
     rest_are : AreUnits (drop n units)
