@@ -21,7 +21,7 @@ ghost use Rattle.normalizer_records.specs.Meaning.{class_of, mapper_list};
 ghost use Rattle.normalizer_records.specs.Recorded.{IsOfCharacters, entry_for};
 
 use crate::cut_lists::{cut_list, cut_mapper_list};
-use crate::lookup::SortedRecords;
+use crate::lookup::{SortedRecords, class_of, step_of};
 use crate::records::{Mappings, Uts46Record};
 use normalizer_tables::entry::Entry;
 use normalizer_tables::members::Members;
@@ -42,7 +42,7 @@ fn begins_with_mark(records: &SortedRecords<'_>, list: &[char]) -> bool
 {
     match list {
         [] => false,
-        [first, ..] => 0 < records.class_of(*first),
+        [first, ..] => 0 < class_of(records, *first),
     }
 }
 
@@ -54,7 +54,7 @@ fn have_classes(records: &SortedRecords<'_>, list: &[char], classes: &[u8]) -> b
         return false;
     }
     for place in 0..list.len() {
-        if records.class_of(list[place]) != classes[place] {
+        if class_of(records, list[place]) != classes[place] {
             return false;
         }
     }
@@ -83,7 +83,7 @@ fn is_fixed_form(records: &SortedRecords<'_>, c: char, list: &[char]) -> bool
     match fixed_list_of(c) {
         None => false,
         Some(fixed) => {
-            fixed.class() == records.class_of(c)
+            fixed.class() == class_of(records, c)
                 && has_members(list, &fixed.members())
                 && have_classes(records, list, fixed.member_classes())
         }
@@ -172,7 +172,7 @@ fn own_faults(
         ⊎ IsWrong records.now c (is_mark records.now c) compatibility.now)) }
     ensures length { IsTrue result.length ↔ (IsTooLong canonical.now ⊎ IsTooLong compatibility.now) }
 {
-    let class = records.class_of(c);
+    let class = class_of(records, c);
     let own = list_faults(records, c, 0 < class, canonical);
     let other = list_faults(records, c, 0 < class, compatibility);
     // (`|`, since each is known)
@@ -213,8 +213,8 @@ pub(crate) fn checked_entry(
     let mapper = cut_mapper_list(alloc, records, uts46, c, &canonical)?;
     let own = own_faults(records, c, &canonical, &compatibility);
     let mapped = mapped_faults(records, c, &mapper);
-    let class = records.class_of(c);
-    let mapping = records.step_of(c).unwrap_or(Step::Default);
+    let class = class_of(records, c);
+    let mapping = step_of(records, c).unwrap_or(Step::Default);
     let entry = Entry {
         character: c,
         class,

@@ -1,7 +1,11 @@
 -- The places of characters in a list, by a table.
-use Rattle.std.specs.Prelude.{◌≡◌, ℕ, ◌<◌, ◌+◌, ◌-◌, ◌==◌, List, length, nat_lt, Option, Some, None, if◌then◌else◌}
+use Rattle.std.specs.Prelude.{◌≡◌, ℕ, ◌<◌, ◌+◌, ◌-◌, ◌==◌, List, AllPairs, length, nat_lt, Option, Some, None, if◌then◌else◌}
 use Rattle.std.specs.List.{position_or_len}
 use Rattle.normalizer_tables.specs.Table.{Table, word_at, code_points}
+
+-- the items are sorted, without duplicates, by character
+abbrev pub AreRisingBy : {X : Type 0} → (X → ℕ) → List X → Type 0
+AreRisingBy character items = AllPairs (λ x y. character x < character y) items
 
 -- the place of a character in a list, counted from 1; 0 if it isn't there
 unfoldable pub place_word : List ℕ → ℕ → ℕ

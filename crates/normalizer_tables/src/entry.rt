@@ -2,6 +2,7 @@
 ghost use Rattle.std.specs.Prelude.{◌≡◌, option_copied};
 ghost use Rattle.normalizer_tables.specs.Entries.{own_list};
 
+use crate::places::HasCharacter;
 use crate::step::Step;
 use std::marker::Model;
 
@@ -48,6 +49,14 @@ impl Model for Entry {
       mapper = option_map (λ x. x.items) e.mapper;
       mapping = e.mapping;
     } };
+}
+
+impl HasCharacter for Entry {
+    ghost character = { λ e. e.character };
+
+    fn character(&self) -> char {
+        self.character
+    }
 }
 
 impl Entry {

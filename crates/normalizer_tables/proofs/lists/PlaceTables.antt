@@ -135,6 +135,10 @@ module _ {X : Type 0} (key : X → ℕ) (xs : List X) (t : Table) (s : ArePlaces
         | inr past ↦ find_at (λ x. key x == n) xs ∙ slice_get_past xs (position_or_len (λ x. key x == n) xs) (omega (arith, length-map xs key, position-map key n xs))
       ]
 
+-- the key of an item that was read
+pub key_read : {X : Type 0} (key : X → ℕ) (xs : List X) (i : ℕ) (x : X) → i < length xs → x ≡ get_or xs i x → get_or (map key xs) i 0 ≡ key x
+key_read key xs i x within is = get_or-map key xs i x 0 within ∙ ap key (sym is)
+
 -- keys that rise
 pub rising_keys : {X : Type 0} (key : X → ℕ) (xs : List X) → AllPairs (λ x y. key x < key y) xs → AllPairs (λ c d. c < d) (map key xs)
 rising_keys key [] rising i j d below within = absurd (omega arith)
