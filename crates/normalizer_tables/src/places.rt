@@ -2,7 +2,7 @@
 ghost use Rattle.std.specs.Prelude.{◌≡◌, ◌==◌, IfOk, find, map, option_copied};
 ghost use Rattle.normalizer_tables.specs.Places.{AreRisingBy, ArePlaces, place_in};
 
-use crate::table::{CodePointTable, TableError};
+use crate::blocks::Blocks;
 use std::alloc::{AllocError, Global};
 use std::marker::Model;
 
@@ -22,7 +22,7 @@ pub trait HasCharacter {
 pub struct ByCharacter<'a, T: HasCharacter> {
     items: &'a [T],
     /// The place of each item by its character.
-    places: CodePointTable,
+    places: Blocks,
 }
 
 impl<'a, T: HasCharacter> Model for ByCharacter<'a, T> {
@@ -65,11 +65,7 @@ impl<'a, T: HasCharacter> ByCharacter<'a, T> {
 }
 
 /// The item of a character, if it has one, by the places of all.
-fn item_by_place<'a, T: HasCharacter>(
-    items: &'a [T],
-    places: &CodePointTable,
-    c: char,
-) -> Option<&'a T>
+fn item_by_place<'a, T: HasCharacter>(items: &'a [T], places: &Blocks, c: char) -> Option<&'a T>
     requires { ArePlaces (map T.character items.now) places.now }
     ensures { option_copied result ≡ find (λ x. T.character x == c) items.now }
 {
@@ -79,19 +75,19 @@ fn item_by_place<'a, T: HasCharacter>(
     }
 }
 
-/// The place of a character by such a table, counted from 0.
-#[tactic(auto, unfolding(crate::specs::Places::place_in))]
-fn place_in(places: &CodePointTable, c: char) -> Option<usize>
+/// The place of a character by such words, counted from 0.
+#[tactic(auto, unfolding(crate::specs::Places::place_in, crate::specs::Table::code_points))]
+fn place_in(places: &Blocks, c: char) -> Option<usize>
     ensures { result ≡ place_in places.now c }
 {
-    match places.get(c) {
+    match places.word(c as u32) {
         0 => None,
         place => Some(place as usize - 1),
     }
 }
 
-/// A table in which the character of each item has its place, counted from 1. Every other character has 0.
-fn places_of<T: HasCharacter>(alloc: Global, items: &[T]) -> Result<CodePointTable, AllocError>
+/// The words that are the places of the characters of items, counted from 1. Every other code point has 0.
+fn places_of<T: HasCharacter>(alloc: Global, items: &[T]) -> Result<Blocks, AllocError>
     requires { AreRisingBy T.character items.now }
     ensures { IfOk result (ArePlaces (map T.character items.now)) }
 {
@@ -102,11 +98,7 @@ fn places_of<T: HasCharacter>(alloc: Global, items: &[T]) -> Result<CodePointTab
         place += 1;
         ranges.push((number, number, place))?;
     }
-    match CodePointTable::from_ranges(ranges, 0) {
-        Ok(table) => Ok(table),
-        Err(TableError::Memory) => Err(AllocError),
-        Err(TableError::Ranges) => unreachable!(),
-    }
+    Blocks::from_ranges(alloc, &ranges)
 }
 
 /// Returns the characters of items, in a list with room for so many more.

@@ -1,8 +1,9 @@
-use Rattle.std.proofs.Common.{◌≡◌, arith, length, map, get_or, Err, sym, ◌∙◌, ap, below_more}
+use Rattle.std.proofs.Common.{◌≡◌, arith, length, map, get_or, sym, ◌∙◌, ap, below_more}
 use Rattle.std.proofs.lemmas.List.{get_or_read, length-map}
+use Rattle.std.proofs.lemmas.Result.{IfOk-weaker}
 use Rattle.std.proofs.lemmas.List.FromFn.{map-range_with_len_more}
 use Rattle.normalizer_tables.specs.Table.{code_points}
-use Rattle.normalizer_tables.proofs.lists.PlaceTables.{place_range, place_ranges, place-le, key_read, rising_keys, IsRangeList-places, ArePlaces-table}
+use Rattle.normalizer_tables.proofs.lists.PlaceTables.{place_range, place_ranges, place-le, key_read, rising_keys, IsRangeList-places, ArePlaces-words}
 use Rattle.normalizer_tables.proofs.places.places_of.Goals as goal
 
 pub overflow_add-place : goal.overflow_add-place
@@ -28,19 +29,20 @@ loop-item-preserved g c =
       low = below_more _ _ c.loop-item.invariant.low (omega (arith, here));
     }
 
-pub unreachable-requires : goal.unreachable-requires
-unreachable-requires g c =
+pub from_ranges-requires : goal.from_ranges-requires
+from_ranges-requires g c =
     let key = g.T.HasCharacter.character in
     let xs = c.args.items.now in
     let long = length-map xs key in
     let end : c.loop-item.item-index ≡ length (map key xs) = omega (arith, long) in
-    let all = c.loop-item.invariant.ranges ∙ ap (place_ranges (map key xs)) end in
-    c.in-Err-Ranges.ensures.refused.0 (λ i. Err (c.in-Err-Ranges.field-0-is i)) (rw all (IsRangeList-places (map key xs) (rising_keys key xs c.requires) (λ k below. c.loop-item.invariant.low k (omega arith))))
+    let all = c.deref.ensures.value ∙ c.loop-item.invariant.ranges ∙ ap (place_ranges (map key xs)) end in
+    rw all (IsRangeList-places (map key xs) (rising_keys key xs c.requires) (λ k below. c.loop-item.invariant.low k (omega arith)))
 
-pub returns-in-Ok : goal.returns-in-Ok
-returns-in-Ok g c =
+pub returns : goal.returns
+returns g c =
     let key = g.T.HasCharacter.character in
     let xs = c.args.items.now in
     let long = length-map xs key in
     let end : c.loop-item.item-index ≡ length (map key xs) = omega (arith, long) in
-    ArePlaces-table (map key xs) _ _ (c.loop-item.invariant.ranges ∙ ap (place_ranges (map key xs)) end) c.in-Ok.ensures.table
+    let all = c.deref.ensures.value ∙ c.loop-item.invariant.ranges ∙ ap (place_ranges (map key xs)) end in
+    IfOk-weaker c.from_ranges.result _ _ (λ words made. ArePlaces-words (map key xs) words c.deref.result.now made all) c.from_ranges.ensures
