@@ -25,7 +25,7 @@ use std::alloc::{AllocError, Global};
 fn asked_step(entries: &Entries<'_>, entry: &Entry) -> Step
     ensures { result ≡ asked_step entries.now entry.now }
 {
-    let list = entry.canonical.as_slice();
+    let list = entry.canonical();
     let is_greek = list.len() == 2
         && '\u{1F71}' <= entry.character
         && entry.character <= '\u{1FFB}';

@@ -1,8 +1,7 @@
 //! The faults that the lists of characters show.
 ghost use Rattle.std.specs.Prelude.{◌≡◌, ◌<◌, ◌↔◌, ◌∷◌, ◌⊎◌, [], Some, map, true, false, nat_lt};
-ghost use Rattle.std.specs.Prelude.{IfOk, IsSomeAnd, IsTrue};
+ghost use Rattle.std.specs.Prelude.{IfOk, IsSomeAnd, IsTrue, option_copied};
 ghost use Rattle.std.specs.List.{list_any};
-ghost use Rattle.std.specs.Option.{option_map};
 ghost use Rattle.normalizer_tables.specs.SpecialLists.{fixed_list_of};
 ghost use Rattle.normalizer_records.specs.inner.CutLists.{HasRoom};
 ghost use Rattle.normalizer_records.specs.Faults.{
@@ -146,10 +145,9 @@ fn list_faults(records: &SortedRecords<'_>, c: char, is_mark: bool, list: &[char
 }
 
 /// The same of the mapper's list, if it doesn't ignore the character.
-fn mapped_faults(records: &SortedRecords<'_>, c: char, mapped: &Option<Vec<char>>) -> ListFaults
-    ensures class { IsTrue result.class ↔
-        IsSomeAnd (option_map (λ v. v.items) mapped.now) (IsWrong records.now c false) }
-    ensures length { IsTrue result.length ↔ IsSomeAnd (option_map (λ v. v.items) mapped.now) IsTooLong }
+fn mapped_faults(records: &SortedRecords<'_>, c: char, mapped: Option<&[char]>) -> ListFaults
+    ensures class { IsTrue result.class ↔ IsSomeAnd (option_copied mapped.entry) (IsWrong records.now c false) }
+    ensures length { IsTrue result.length ↔ IsSomeAnd (option_copied mapped.entry) IsTooLong }
 {
     match mapped {
         Some(list) => list_faults(records, c, false, list),
@@ -210,18 +208,11 @@ pub(crate) fn checked_entry(
 {
     let canonical = cut_list(alloc, records, Mappings::Canonical, c)?;
     let compatibility = cut_list(alloc, records, Mappings::All, c)?;
-    let mapper = cut_mapper_list(alloc, records, uts46, c, &canonical)?;
-    let own = own_faults(records, c, &canonical, &compatibility);
-    let mapped = mapped_faults(records, c, &mapper);
+    let mapper = cut_mapper_list(alloc, records, uts46, c)?;
     let class = class_of(records, c);
     let mapping = step_of(records, c).unwrap_or(Step::Default);
-    let entry = Entry {
-        character: c,
-        class,
-        canonical,
-        compatibility,
-        mapper,
-        mapping,
-    };
+    let entry = Entry::new(c, class, mapping, canonical, &compatibility, mapper)?;
+    let own = own_faults(records, c, entry.canonical(), entry.compatibility());
+    let mapped = mapped_faults(records, c, entry.mapped());
     Ok(CheckedEntry { entry, own, mapped })
 }
