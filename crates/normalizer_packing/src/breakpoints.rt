@@ -3,8 +3,8 @@ ghost use Rattle.std.specs.Prelude.{◌≡◌, ◌++◌, IfOk, OnOk, flat_map};
 ghost use Rattle.normalizer_packing.specs.inner.Breakpoints.{AreBreakpoints, breakpoint_numbers};
 ghost use Rattle.normalizer_packing.specs.inner.Beside.{HasEnds, ends};
 
-use crate::entries::entry_characters;
 use normalizer_tables::entry::Entry;
+use normalizer_tables::places::characters_of;
 use std::alloc::{AllocError, Global};
 
 /// The characters at which words may change whatever the entries say: the first composing vowel and trailing consonant
@@ -45,7 +45,7 @@ fn unsorted_breakpoints(
     ensures { IfOk result (λ v. v.items ≡ breakpoint_numbers entries.now pairs.now ++ flat_map ends ranges.now) }
 {
     let room = pairs.len().saturating_add(EDGES.len());
-    let mut breakpoints = entry_characters(alloc, entries, room)?;
+    let mut breakpoints = characters_of(alloc, entries, room)?;
     for pair in pairs {
         breakpoints.push(pair.0)?;
     }

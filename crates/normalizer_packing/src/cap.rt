@@ -4,7 +4,7 @@ ghost use Rattle.normalizer_packing.specs.Caps.{ListHasBoundary, IsBelowCap, IsB
 ghost use Rattle.normalizer_packing.specs.inner.Beside.{IsCapBeside, MayPass};
 
 use crate::disallowed::is_in;
-use crate::entries::Entries;
+use crate::entries::{Entries, class_of, list_of};
 use crate::flags::composes_to;
 use crate::packed_words::PackedWords;
 use normalizer_tables::condition::CAP_LIMIT;
@@ -45,7 +45,7 @@ fn is_below_cap(
 {
     let character = char::from_u32(number as u32).unwrap();
     let alone = [character];
-    match entries.list_of(kind, character, &alone) {
+    match list_of(entries, kind, character, &alone) {
         Some(list) => list_is_below_cap(entries, compositions, character, list),
         None => false,
     }
@@ -60,7 +60,7 @@ fn list_is_below_cap(
 ) -> bool
     ensures { IsTrue result ↔ IsBelowCapWith entries.now compositions.now character list.now }
 {
-    let is_itself = list == [character].as_slice() && entries.class_of(character) == 0;
+    let is_itself = list == [character].as_slice() && class_of(entries, character) == 0;
     (is_itself || character >= '\u{C0}')
         && composes_to(entries, compositions, list, character)
         && list_has_boundary(entries, compositions, list)
@@ -75,7 +75,7 @@ fn list_has_boundary(
     ensures { IsTrue result ↔ ListHasBoundary entries.now compositions.now list.now }
 {
     match list.first() {
-        Some(&first) => entries.class_of(first) == 0 && is_never_second(compositions, first),
+        Some(&first) => class_of(entries, first) == 0 && is_never_second(compositions, first),
         None => false,
     }
 }

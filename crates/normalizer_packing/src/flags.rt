@@ -5,7 +5,7 @@ ghost use Rattle.normalizer_tables.specs.Words.{is_backward_combining, is_class_
 ghost use Rattle.normalizer_tables.specs.Entries.{reading_of_entries};
 ghost use Rattle.normalizer_packing.specs.Flags.{without_flags, BeginsUnpaired, IsFlagged};
 
-use crate::entries::Entries;
+use crate::entries::{Entries, class_of};
 use normalizer_tables::word::is_class_form;
 use normalizer_tables::{CanonicalCompositions, compose, is_never_second};
 
@@ -87,7 +87,7 @@ fn joined(
 ) -> Option<char>
     ensures { result ≡ joined (reading_of_entries entries.now compositions.now) first [] second }
 {
-    if entries.class_of(first) == 0 {
+    if class_of(entries, first) == 0 {
         compose(compositions, first, second)
     } else {
         None

@@ -9,7 +9,7 @@ ghost use Rattle.normalizer_packing.specs.Packing.{IsPackedWord};
 ghost use Rattle.normalizer_packing.specs.Stored.{is_among, item_of, listed_in};
 
 use crate::disallowed::is_in;
-use crate::entries::Entries;
+use crate::entries::{Entries, have_one_list, list_of};
 use crate::flags::flagged;
 use crate::pointing::pointing_word;
 use crate::spelling::{Spelling, final_word, spell};
@@ -124,7 +124,7 @@ impl PackedWords<'_, '_> {
         ensures { IsPackedWord self.now.kind self.now.entries.now self.now.compositions.now character result }
     {
         match self.other {
-            Some(other) if self.entries.have_one_list(self.kind, other.kind, character) => {
+            Some(other) if have_one_list(self.entries, self.kind, other.kind, character) => {
                 other.table.get(character)
             }
             _ => self.word_by_list(character),
@@ -137,7 +137,7 @@ impl PackedWords<'_, '_> {
         ensures { IsPackedWord self.now.kind self.now.entries.now self.now.compositions.now character result }
     {
         let alone = [character];
-        let list = self.entries.list_of(self.kind, character, &alone);
+        let list = list_of(self.entries, self.kind, character, &alone);
         let kept = list.unwrap_or(&[]);
         match spell(self.entries, character, list) {
             Spelling::Final(word) => word,

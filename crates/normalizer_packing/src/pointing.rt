@@ -7,7 +7,7 @@ ghost use Rattle.normalizer_tables.specs.conditions.Conditions.{item_limit};
 ghost use Rattle.normalizer_tables.specs.Entries.{class_in};
 ghost use Rattle.normalizer_packing.specs.Stored.{HasLengthOfWord, has_marks_after_first, low_length, pointing_word};
 
-use crate::entries::Entries;
+use crate::entries::{Entries, class_of};
 use crate::store::is_narrow;
 
 /// The word, without its flags, that points to a list at an item.
@@ -48,5 +48,5 @@ fn has_marks_after_first(entries: &Entries<'_>, list: &[char]) -> bool
 fn are_marks(entries: &Entries<'_>, list: &[char]) -> bool
     ensures { result ≡ list_all (λ c. nat_lt 0 (class_in entries.now c)) list.now }
 {
-    list.iter().all(|member| 0 < entries.class_of(*member))
+    list.iter().all(|member| 0 < class_of(entries, *member))
 }

@@ -8,7 +8,7 @@ ghost use Rattle.normalizer_packing.specs.Spelling.{spelling, spelling_by_list, 
 ghost use Rattle.normalizer_packing.specs.Spelling.{spelling_of_two};
 ghost use Rattle.normalizer_tables.specs.conditions.Conditions.{is_surrogate};
 
-use crate::entries::Entries;
+use crate::entries::{Entries, class_of};
 use normalizer_tables::members::fdfa_list;
 use normalizer_tables::special::fixed_list_of;
 use normalizer_tables::word::{IGNORED_MARKER, is_hangul_syllable};
@@ -64,9 +64,9 @@ fn spelling_by_list(entries: &Entries<'_>, character: char, list: &[char]) -> Sp
     ensures room { HasRoomForFlags result }
 {
     if has_fixed_list(entries, character, list) {
-        Spelling::Short(0xD900 + entries.class_of(character) as u32)
+        Spelling::Short(0xD900 + class_of(entries, character) as u32)
     } else if is_alone(character, list) {
-        let class = entries.class_of(character) as u32;
+        let class = class_of(entries, character) as u32;
         Spelling::Short(if class == 0 { 0 } else { 0xD800 + class })
     } else {
         spelling_of_list(entries, character, list)
@@ -90,7 +90,7 @@ fn has_fixed_list(entries: &Entries<'_>, character: char, list: &[char]) -> bool
     match fixed_list_of(character) {
         Some(fixed) => {
             fixed.list() == list
-                && fixed.class() == entries.class_of(character)
+                && fixed.class() == class_of(entries, character)
                 && have_classes(entries, fixed.member_classes(), list)
         }
         None => false,
@@ -104,7 +104,7 @@ fn have_classes(entries: &Entries<'_>, classes: &[u8], list: &[char]) -> bool
         return false;
     }
     for place in 0..list.len() {
-        if classes[place] != entries.class_of(list[place]) {
+        if classes[place] != class_of(entries, list[place]) {
             return false;
         }
     }
@@ -134,7 +134,7 @@ fn spelling_of_two(entries: &Entries<'_>, character: char, first: char, second: 
         return Spelling::Listed;
     }
     let word = first as u32 + second as u32 * 0x8000;
-    let is_mark = 0 < entries.class_of(second);
+    let is_mark = 0 < class_of(entries, second);
     if is_mark && character != '\u{212B}' && word & 0x3FFF_0000 != 0 && word & 0xFFE0 != 0 {
         Spelling::Short(word)
     } else {

@@ -25,7 +25,7 @@ use std::alloc::{AllocError, Global};
 fn asked_step(entries: &Entries<'_>, entry: &Entry) -> Step
     ensures { result ≡ asked_step entries.now entry.now }
 {
-    let list = entry.canonical.as_slice();
+    let list = entry.canonical();
     let is_greek = list.len() == 2
         && '\u{1F71}' <= entry.character
         && entry.character <= '\u{1FFB}';
@@ -109,10 +109,11 @@ impl Words for StepWords<'_, '_, '_> {
 
 impl StepWords<'_, '_, '_> {
     /// The step that the supplement has of a character.
+    #[tactic(auto, unfolding(normalizer_tables::specs::Entries::entry_of, crate::specs::StepWords::step_in))]
     fn step_of(&self, character: char) -> Step
         ensures { result ≡ step_in self.now.entries.now character }
     {
-        match self.entries.entry_of(character) {
+        match self.entries.get(character) {
             Some(entry) => asked_step(self.entries, entry),
             None => Step::Default,
         }

@@ -1,5 +1,5 @@
 //! The first record at fault, if records are refused.
-ghost use Rattle.std.specs.Prelude.{◌≡◌, ◌↔◌, IfOk, IsSomeAnd, IsTrue, Some, map};
+ghost use Rattle.std.specs.Prelude.{◌≡◌, ◌↔◌, IfOk, IsSomeAnd, IsTrue, Some};
 ghost use Rattle.std.specs.Option.{option_map};
 ghost use Rattle.normalizer_records.specs.declared.at_fault.RecordAtFault.TheVariants.{OfMapper};
 ghost use Rattle.normalizer_records.specs.AtFault.{
@@ -24,9 +24,9 @@ use crate::faults::{
 use crate::list_faults::checked_entry;
 use crate::lookup::SortedRecords;
 use crate::pair_list::{pair_of_record, unsorted_pairs};
-use crate::recorded::characters_of;
 use crate::records::{BuildError, Record, Uts46Record};
 use crate::refusals::is_among;
+use normalizer_tables::places::characters_of;
 use std::alloc::{AllocError, Global};
 use std::collections::BTreeSet;
 
@@ -95,11 +95,11 @@ fn first_out_of_order(
 ) -> Result<Option<RecordAtFault>, AllocError>
     ensures { IfOk result (λ o. o ≡ first_out_of_order records.now uts46.now) }
 {
-    let characters = characters_of(alloc, records)?;
+    let characters = characters_of(alloc, records, 0)?;
     if let Some(c) = first_not_rising(&characters) {
         return Ok(Some(RecordAtFault::OfCharacter(c)));
     }
-    let characters = mapper_characters_of(alloc, uts46)?;
+    let characters = characters_of(alloc, uts46, 0)?;
     Ok(of_mapper(first_not_rising(&characters)))
 }
 
@@ -108,12 +108,6 @@ fn of_mapper(character: Option<char>) -> Option<RecordAtFault>
     ensures { result ≡ option_map OfMapper character }
 {
     character.map(|c| RecordAtFault::OfMapper(c))
-}
-
-fn mapper_characters_of(alloc: Global, uts46: &[Uts46Record]) -> Result<Vec<char>, AllocError>
-    ensures { IfOk result (λ v. v.items ≡ map (λ r. r.c) uts46.now) }
-{
-    uts46.iter().map(|record| record.c).collect(alloc)
 }
 
 /// The first character that isn't greater than the one before it.

@@ -15,7 +15,7 @@ ghost use Rattle.normalizer_records.specs.inner.Chains.{
 ghost use Rattle.normalizer_records.specs.Faults.{AreRising, IsOnLongChain};
 ghost use Rattle.normalizer_records.specs.Meaning.{mapping_of};
 
-use crate::lookup::SortedRecords;
+use crate::lookup::{SortedRecords, mapping_of};
 use crate::records::Record;
 use std::alloc::{AllocError, Global};
 use std::collections::BTreeSet;
@@ -76,7 +76,7 @@ fn all_ends(
     ensures { IfOk result (IsFromIterResult nat_cmp (flat_map (mapping_of records.now) set.now.keys)) }
 {
     set.iter()
-        .flat_map(|c| records.mapping_of(*c).iter().copied())
+        .flat_map(|c| mapping_of(records, *c).iter().copied())
         .collect(alloc)
 }
 
@@ -126,7 +126,7 @@ fn any_leads_on(records: &SortedRecords<'_>, mapping: &[char]) -> bool
 {
     mapping
         .iter()
-        .any(|member| 0 < records.mapping_of(*member).len())
+        .any(|member| 0 < mapping_of(records, *member).len())
 }
 
 /// A mapping, if a record leads on from one of its members.
@@ -150,7 +150,7 @@ fn next_led(
         (IsFromIterResult nat_cmp (flat_map (λ c. leading records.now (mapping_of records.now c)) led.now.keys)) }
 {
     led.iter()
-        .flat_map(|c| leading(records, records.mapping_of(*c)).iter().copied())
+        .flat_map(|c| leading(records, mapping_of(records, *c)).iter().copied())
         .collect(alloc)
 }
 

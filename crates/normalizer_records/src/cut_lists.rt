@@ -1,7 +1,7 @@
 //! The lists of characters, as records mean them.
-ghost use Rattle.std.specs.Prelude.{IfOk, IfSome};
-ghost use Rattle.std.specs.Option.{option_map};
+ghost use Rattle.std.specs.Prelude.{ℕ, List, IfOk, IfSome};
 ghost use Rattle.normal_forms.specs.Reading.{IsText};
+ghost use Rattle.normalizer_tables.specs.MapperLists.{mapped_in};
 ghost use Rattle.normalizer_records.specs.inner.CutLists.{MayStandFor, StandsFor};
 ghost use Rattle.normalizer_records.specs.Faults.{AreMapperRising};
 ghost use Rattle.normalizer_records.specs.Meaning.{canonical_list, full_list, list_of_status, mapper_list};
@@ -10,6 +10,7 @@ ghost use Rattle.normalizer_records.specs.Statuses.{status_of as status_value};
 use crate::expansion::cut_text;
 use crate::lookup::{SortedRecords, uts46_record_of};
 use crate::records::{Mappings, Uts46Record, Uts46Status};
+use normalizer_tables::entry::MapperList;
 use std::alloc::{AllocError, Global};
 
 /// The full decomposition of a character, or a cut of it if it is too long.
@@ -25,23 +26,21 @@ pub(crate) fn cut_list(
     cut_text(alloc, records, mappings, &[c])
 }
 
-/// The same of the list of the mapper, if it doesn't ignore the character: the canonical one if nothing is recorded.
+/// What the mapper maps a character to, its list or a cut of it: the canonical one if nothing is recorded.
 pub(crate) fn cut_mapper_list(
     alloc: Global,
     records: &SortedRecords<'_>,
     uts46: &[Uts46Record],
     c: char,
-    canonical: &[char],
-) -> Result<Option<Vec<char>>, AllocError>
-    requires mapper { AreMapperRising uts46.now }
-    requires canonical { StandsFor records.now (canonical_list records.now c) canonical.now }
-    requires text { IsText canonical.now }
-    ensures list { IfOk result (λ o.
-        MayStandFor records.now (mapper_list records.now uts46.now c) (option_map (λ v. v.items) o)) }
-    ensures text { IfOk result (λ o. IfSome (option_map (λ v. v.items) o) IsText) }
+) -> Result<MapperList, AllocError>
+    requires { AreMapperRising uts46.now }
+    ensures list { IfOk result (λ m. (canonical : List ℕ) →
+        StandsFor records.now (canonical_list records.now c) canonical →
+        MayStandFor records.now (mapper_list records.now uts46.now c) (mapped_in canonical m)) }
+    ensures text { IfOk result (λ m. (canonical : List ℕ) → IsText canonical → IfSome (mapped_in canonical m) IsText) }
 {
     match uts46_record_of(uts46, c) {
-        None => Ok(Some(Vec::from_slice(alloc, canonical)?)),
+        None => Ok(MapperList::Canonical),
         Some(record) => cut_mapped_list(alloc, records, &record.status),
     }
 }
@@ -50,16 +49,17 @@ fn cut_mapped_list(
     alloc: Global,
     records: &SortedRecords<'_>,
     status: &Uts46Status,
-) -> Result<Option<Vec<char>>, AllocError>
-    ensures list { IfOk result (λ o.
-        MayStandFor records.now (list_of_status records.now (status_value status.now)) (option_map (λ v. v.items) o)) }
-    ensures text { IfOk result (λ o. IfSome (option_map (λ v. v.items) o) IsText) }
+) -> Result<MapperList, AllocError>
+    ensures list { IfOk result (λ m. (canonical : List ℕ) →
+        MayStandFor records.now (list_of_status records.now (status_value status.now)) (mapped_in canonical m)) }
+    ensures text { IfOk result (λ m. (canonical : List ℕ) → IfSome (mapped_in canonical m) IsText) }
 {
     match status {
-        Uts46Status::Ignored => Ok(None),
-        Uts46Status::Disallowed => Ok(Some(vec![in alloc; '\u{FFFD}']?)),
+        Uts46Status::Ignored => Ok(MapperList::Ignored),
+        Uts46Status::Disallowed => Ok(MapperList::Own(vec![in alloc; '\u{FFFD}']?)),
         Uts46Status::Mapped(mapping) => {
-            Ok(Some(cut_text(alloc, records, Mappings::Canonical, mapping)?))
+            let list = cut_text(alloc, records, Mappings::Canonical, mapping)?;
+            Ok(MapperList::Own(list))
         }
     }
 }

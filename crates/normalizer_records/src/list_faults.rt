@@ -1,8 +1,7 @@
 //! The faults that the lists of characters show.
 ghost use Rattle.std.specs.Prelude.{◌≡◌, ◌<◌, ◌↔◌, ◌∷◌, ◌⊎◌, [], Some, map, true, false, nat_lt};
-ghost use Rattle.std.specs.Prelude.{IfOk, IsSomeAnd, IsTrue};
+ghost use Rattle.std.specs.Prelude.{IfOk, IsSomeAnd, IsTrue, option_copied};
 ghost use Rattle.std.specs.List.{list_any};
-ghost use Rattle.std.specs.Option.{option_map};
 ghost use Rattle.normalizer_tables.specs.SpecialLists.{fixed_list_of};
 ghost use Rattle.normalizer_records.specs.inner.CutLists.{HasRoom};
 ghost use Rattle.normalizer_records.specs.Faults.{
@@ -21,7 +20,7 @@ ghost use Rattle.normalizer_records.specs.Meaning.{class_of, mapper_list};
 ghost use Rattle.normalizer_records.specs.Recorded.{IsOfCharacters, entry_for};
 
 use crate::cut_lists::{cut_list, cut_mapper_list};
-use crate::lookup::SortedRecords;
+use crate::lookup::{SortedRecords, class_of, step_of};
 use crate::records::{Mappings, Uts46Record};
 use normalizer_tables::entry::Entry;
 use normalizer_tables::members::Members;
@@ -42,7 +41,7 @@ fn begins_with_mark(records: &SortedRecords<'_>, list: &[char]) -> bool
 {
     match list {
         [] => false,
-        [first, ..] => 0 < records.class_of(*first),
+        [first, ..] => 0 < class_of(records, *first),
     }
 }
 
@@ -54,7 +53,7 @@ fn have_classes(records: &SortedRecords<'_>, list: &[char], classes: &[u8]) -> b
         return false;
     }
     for place in 0..list.len() {
-        if records.class_of(list[place]) != classes[place] {
+        if class_of(records, list[place]) != classes[place] {
             return false;
         }
     }
@@ -83,7 +82,7 @@ fn is_fixed_form(records: &SortedRecords<'_>, c: char, list: &[char]) -> bool
     match fixed_list_of(c) {
         None => false,
         Some(fixed) => {
-            fixed.class() == records.class_of(c)
+            fixed.class() == class_of(records, c)
                 && has_members(list, &fixed.members())
                 && have_classes(records, list, fixed.member_classes())
         }
@@ -146,10 +145,9 @@ fn list_faults(records: &SortedRecords<'_>, c: char, is_mark: bool, list: &[char
 }
 
 /// The same of the mapper's list, if it doesn't ignore the character.
-fn mapped_faults(records: &SortedRecords<'_>, c: char, mapped: &Option<Vec<char>>) -> ListFaults
-    ensures class { IsTrue result.class ↔
-        IsSomeAnd (option_map (λ v. v.items) mapped.now) (IsWrong records.now c false) }
-    ensures length { IsTrue result.length ↔ IsSomeAnd (option_map (λ v. v.items) mapped.now) IsTooLong }
+fn mapped_faults(records: &SortedRecords<'_>, c: char, mapped: Option<&[char]>) -> ListFaults
+    ensures class { IsTrue result.class ↔ IsSomeAnd (option_copied mapped.entry) (IsWrong records.now c false) }
+    ensures length { IsTrue result.length ↔ IsSomeAnd (option_copied mapped.entry) IsTooLong }
 {
     match mapped {
         Some(list) => list_faults(records, c, false, list),
@@ -172,7 +170,7 @@ fn own_faults(
         ⊎ IsWrong records.now c (is_mark records.now c) compatibility.now)) }
     ensures length { IsTrue result.length ↔ (IsTooLong canonical.now ⊎ IsTooLong compatibility.now) }
 {
-    let class = records.class_of(c);
+    let class = class_of(records, c);
     let own = list_faults(records, c, 0 < class, canonical);
     let other = list_faults(records, c, 0 < class, compatibility);
     // (`|`, since each is known)
@@ -210,18 +208,11 @@ pub(crate) fn checked_entry(
 {
     let canonical = cut_list(alloc, records, Mappings::Canonical, c)?;
     let compatibility = cut_list(alloc, records, Mappings::All, c)?;
-    let mapper = cut_mapper_list(alloc, records, uts46, c, &canonical)?;
-    let own = own_faults(records, c, &canonical, &compatibility);
-    let mapped = mapped_faults(records, c, &mapper);
-    let class = records.class_of(c);
-    let mapping = records.step_of(c).unwrap_or(Step::Default);
-    let entry = Entry {
-        character: c,
-        class,
-        canonical,
-        compatibility,
-        mapper,
-        mapping,
-    };
+    let mapper = cut_mapper_list(alloc, records, uts46, c)?;
+    let class = class_of(records, c);
+    let mapping = step_of(records, c).unwrap_or(Step::Default);
+    let entry = Entry::new(c, class, mapping, canonical, &compatibility, mapper)?;
+    let own = own_faults(records, c, entry.canonical(), entry.compatibility());
+    let mapped = mapped_faults(records, c, entry.mapped());
     Ok(CheckedEntry { entry, own, mapped })
 }

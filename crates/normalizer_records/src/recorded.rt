@@ -1,21 +1,10 @@
 //! The characters that have records.
-ghost use Rattle.std.specs.Prelude.{◌≡◌, IfOk, map};
+ghost use Rattle.std.specs.Prelude.{◌≡◌, IfOk};
 ghost use Rattle.normalizer_records.specs.Recorded.{ListsCharacters, recorded_characters};
 
 use crate::records::{Record, Uts46Record};
+use normalizer_tables::places::characters_of;
 use std::alloc::{AllocError, Global};
-
-/// The characters of records.
-pub(crate) fn characters_of(alloc: Global, records: &[Record]) -> Result<Vec<char>, AllocError>
-    ensures { IfOk result (λ v. v.items ≡ map (λ r. r.c) records.now) }
-{
-    // (`collect` would try again after a failed growth)
-    let mut characters = Vec::with_capacity(alloc, records.len())?;
-    for record in records {
-        characters.push(record.c)?;
-    }
-    Ok(characters)
-}
 
 /// The characters of the records, and of those of the mapper.
 fn recorded_characters(
@@ -25,7 +14,7 @@ fn recorded_characters(
 ) -> Result<Vec<char>, AllocError>
     ensures { IfOk result (λ v. v.items ≡ recorded_characters records.now uts46.now) }
 {
-    let mut characters = characters_of(alloc, records)?;
+    let mut characters = characters_of(alloc, records, uts46.len())?;
     for mapped in uts46 {
         characters.push(mapped.c)?;
     }

@@ -5,6 +5,7 @@ ghost use Rattle.normalizer_records.specs.Equal.{entry_eq, mapper_entry_eq};
 ghost use Rattle.normalizer_records.specs.EqualLaws.{entry_equivalence, mapper_entry_equivalence};
 
 use normalizer_tables::DataMarkerInfo;
+use normalizer_tables::places::HasCharacter;
 use std::alloc::AllocError;
 use std::marker::Model;
 use thiserror::Error;
@@ -36,6 +37,14 @@ impl Model for Record {
       compatibility = r.compatibility;
       excluded = r.excluded;
     } };
+}
+
+impl HasCharacter for Record {
+    ghost character = { λ r. r.c };
+
+    fn character(&self) -> char {
+        self.c
+    }
 }
 
 impl PartialEq for Record {
@@ -88,6 +97,14 @@ impl Model for Uts46Record {
     ghost use Rattle.normalizer_records.specs.Statuses.{status_of};
 
     ghost view = { λ r. record { c = r.c; status = status_of r.status } };
+}
+
+impl HasCharacter for Uts46Record {
+    ghost character = { λ r. r.c };
+
+    fn character(&self) -> char {
+        self.c
+    }
 }
 
 impl PartialEq for Uts46Record {

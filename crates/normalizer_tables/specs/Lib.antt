@@ -5,6 +5,7 @@ pub mod Hangul
 pub mod HangulComposition
 pub mod Held
 pub mod Ignored
+pub mod MapperLists
 pub mod Owned
 pub mod Pairs
 pub mod Passthrough

@@ -1,5 +1,5 @@
 //! How the words of a table are stored: in blocks of 64 code points each, equal blocks once.
-ghost use Rattle.std.specs.Prelude.{◌≡◌, ◌+◌, ◌*◌, ◌≤◌, ◌<◌, IfOk, ℕ, length, position, nat_eq, slice_index};
+ghost use Rattle.std.specs.Prelude.{◌≡◌, ◌+◌, ◌*◌, ◌≤◌, ◌<◌, IfOk, OnOk, ℕ, [], ◌∷◌, ◌++◌, length, position, nat_eq, slice_index};
 ghost use Rattle.std.specs.Cmp.Lexicographic.{pointwise};
 ghost use Rattle.normalizer_tables.specs.Table.{block_count};
 ghost use Rattle.normalizer_tables.specs.inner.Blocks.{AreFrom, AreLeft, AreNumbered, IsBlockOf, IsJoined, IsRun};
@@ -14,6 +14,9 @@ use std::marker::Model;
 
 /// How many code points a block has.
 const BLOCK: u32 = 64;
+
+/// For how many blocks there is room after a growth.
+const MORE_BLOCKS: usize = 16;
 
 /// How many blocks the code points have.
 const PLACES: u32 = 17_408;
@@ -159,8 +162,19 @@ fn joined(blocks: &mut Vec<[u32; 64]>, block: [u32; 64]) -> Result<usize, AllocE
     if let Some(number) = number_of(blocks, &block) {
         return Ok(number);
     }
-    blocks.push(block)?;
+    push_block(blocks, block)?;
     Ok(blocks.len() - 1)
+}
+
+/// Adds a block. (Room that doubles would leave up to half of the memory unused.)
+fn push_block(blocks: &mut Vec<[u32; 64]>, block: [u32; 64]) -> Result<(), AllocError>
+    ensures { OnOk result (blocks.new.items ≡ blocks.old.items ++ block ∷ []) }
+{
+    if blocks.len() == blocks.capacity() {
+        blocks.reserve_exact(MORE_BLOCKS)?;
+    }
+    blocks.push(block)?;
+    Ok(())
 }
 
 fn number_of(blocks: &[[u32; 64]], block: &[u32; 64]) -> Option<usize>

@@ -12,7 +12,7 @@ use Rattle.normalizer_records.specs.inner.Chains.{IsSetOf}
 use Rattle.normalizer_records.specs.declared.records.BuildError.{BuildError}
 use Rattle.normalizer_records.specs.declared.records.BuildError.TheVariants.{Order, Fixed, Class, Mapping, Chain, Length, Pair}
 use Rattle.normalizer_records.specs.RecordValue.{RecordValue, Uts46RecordValue}
-use Rattle.normalizer_records.specs.Faults.{AreMapperRising, AreRising, faults, has_fixed_fault, HasFault, HasOrderFault, IsAsked, IsFirstRefusal, IsFirstWith, IsOnLongChain, mapped_to}
+use Rattle.normalizer_records.specs.Faults.{AreMapperRising, AreRising, has_fixed_fault, HasFault, HasOrderFault, IsAsked, IsFirstRefusal, IsFirstWith, IsOnLongChain, mapped_to}
 
 module _ {X : Type 0} (P : X → Type 0) where
   first_here : (x : X) (xs : List X) → P x → IsFirstWith P (x ∷ xs) (Some x)

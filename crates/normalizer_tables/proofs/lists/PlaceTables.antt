@@ -1,5 +1,5 @@
--- The places of characters in a list, by a table.
-use Rattle.std.proofs.Common.{◌≡◌, ◌≢◌, ℕ, ◌<◌, ◌≤◌, ◌+◌, ◌-◌, ◌==◌, true, false, List, [], ◌∷◌, AllPairs, length, get_or, map, find, cond, not, Some, None, refl, arith, ap, sym, ◌∙◌, inl, inr, zero, suc}
+-- The places of characters in a list, by a word for each code point.
+use Rattle.std.proofs.Common.{◌≡◌, ◌≢◌, ℕ, ◌<◌, ◌≤◌, ◌+◌, ◌-◌, ◌==◌, true, false, List, [], ◌∷◌, AllPairs, length, get_or, map, find, cond, not, Some, None, refl, arith, ap, sym, ◌∙◌, inl, inr, zero, suc, zero-add, slice_index}
 use Rattle.std.proofs.lemmas.Bool.{cases_lt, eqb-true, lt-ltb, le-ltb}
 use Rattle.std.proofs.lemmas.Bool.Decides.{nat_tests}
 use Rattle.std.proofs.lemmas.List.{get_or-map, length-map}
@@ -9,8 +9,8 @@ use Rattle.std.proofs.lemmas.List.Sums.{fails_before_first, passes_at_first}
 use Rattle.std.proofs.lemmas.Option.{same_Some, slice_get_past}
 use Rattle.std.specs.List.{position_or_len, range_with_len, slice_get}
 use Rattle.normalizer_tables.specs.Places.{place_word, place_in, ArePlaces}
-use Rattle.normalizer_tables.specs.Ranges.{WordRange, IsRangeList, IsTableOf, word_in}
-use Rattle.normalizer_tables.specs.Table.{Table, word_at, code_points}
+use Rattle.normalizer_tables.specs.Ranges.{WordRange, IsRangeList, word_in, words_of}
+use Rattle.normalizer_tables.specs.Table.{code_points}
 use Rattle.normalizer_tables.proofs.code_points.WordsInRanges.{Misses, word_in-held, word_in-missed}
 
 -- the range of a character alone, with its place
@@ -83,9 +83,10 @@ module _ (cs : List ℕ) where
               ) (rising i j 0 below (omega arith));
         }
 
-  pub ArePlaces-table : (t : Table) (rs : List WordRange) → rs ≡ place_ranges cs (length cs) → IsTableOf rs 0 t → ArePlaces cs t
-  unfolding ArePlaces
-  ArePlaces-table t rs is s n low = s.words n low ∙ ap (λ qs. word_in qs n) is ∙ word_in-places n
+  pub ArePlaces-words : (words : List ℕ) (rs : List WordRange) → words ≡ words_of rs → rs ≡ place_ranges cs (length cs) → ArePlaces cs words
+  unfolding ArePlaces words_of
+  ArePlaces-words words rs made is n low =
+      ap (λ ws. get_or ws n 0) made ∙ get_or-map-range_with_len (word_in rs) 0 code_points n n 0 low (zero-add n) ∙ ap (λ qs. word_in qs n) is ∙ word_in-places n
 
 place_word-here : (cs : List ℕ) (n : ℕ) → position_or_len (λ c. c == n) cs < length cs → place_word cs n ≡ position_or_len (λ c. c == n) cs + 1
 unfolding place_word
@@ -95,13 +96,13 @@ place_word-past : (cs : List ℕ) (n : ℕ) → length cs ≤ position_or_len (�
 unfolding place_word
 place_word-past cs n past = rw (le-ltb (position_or_len (λ c. c == n) cs) (length cs) past) refl
 
-place_in-none : (t : Table) (n : ℕ) → word_at t n ≡ 0 → place_in t n ≡ None
+place_in-none : (words : List ℕ) (n : ℕ) → slice_index words n ≡ 0 → place_in words n ≡ None
 unfolding place_in
-place_in-none t n is = rw is refl
+place_in-none words n is = rw is refl
 
-place_in-some : (t : Table) (n p : ℕ) → word_at t n ≡ p + 1 → place_in t n ≡ Some p
+place_in-some : (words : List ℕ) (n p : ℕ) → slice_index words n ≡ p + 1 → place_in words n ≡ Some p
 unfolding place_in
-place_in-some t n p is =
+place_in-some words n p is =
     let more : (p + 1 == 0) ≡ false = grind (arith, nat_tests) in
     let less : p + 1 - 1 ≡ p = omega arith in
     rw (is, more, less) refl
@@ -110,30 +111,34 @@ position-map : {X : Type 0} (key : X → ℕ) (n : ℕ) (xs : List X) → positi
 position-map key n [] = refl
 position-map key n (x ∷ xs) = ap (λ m. cond (not (key x == n)) (1 + m) 0) (position-map key n xs)
 
--- what is found by a key is at the place that the table has
-module _ {X : Type 0} (key : X → ℕ) (xs : List X) (t : Table) (s : ArePlaces (map key xs) t) (n : ℕ) (low : n < code_points) where
-  pub found_at_place : (k : ℕ) → place_in t n ≡ Some k → (k < length xs) × (find (λ x. key x == n) xs ≡ slice_get xs k)
+-- what is found by a key is at the place that the words have
+module _ {X : Type 0} (key : X → ℕ) (xs : List X) (words : List ℕ) (s : ArePlaces (map key xs) words) (n : ℕ) (low : n < code_points) where
+  pub found_at_place : (k : ℕ) → place_in words n ≡ Some k → (k < length xs) × (find (λ x. key x == n) xs ≡ slice_get xs k)
   unfolding ArePlaces
   found_at_place k found =
       let cs = map key xs in
       let place = position_or_len (λ c. c == n) cs in
       elim (cases_lt place (length cs)) [
         | inl here ↦
-            let is = place_in-some t n place (s n low ∙ place_word-here cs n here) in
+            let is = place_in-some words n place (s n low ∙ place_word-here cs n here) in
             let same : place ≡ k = same_Some place k (sym is ∙ found) in
             (omega (arith, length-map xs key), find_at (λ x. key x == n) xs ∙ ap (slice_get xs) (sym (position-map key n xs) ∙ same))
-        | inr past ↦ absurd (let none = place_in-none t n (s n low ∙ place_word-past cs n past) in cc)
+        | inr past ↦ absurd (let none = place_in-none words n (s n low ∙ place_word-past cs n past) in cc)
       ]
 
-  pub missing_in_places : place_in t n ≡ None → find (λ x. key x == n) xs ≡ None
+  pub missing_in_places : place_in words n ≡ None → find (λ x. key x == n) xs ≡ None
   unfolding ArePlaces
   missing_in_places none =
       let cs = map key xs in
       let place = position_or_len (λ c. c == n) cs in
       elim (cases_lt place (length cs)) [
-        | inl here ↦ absurd (let is = place_in-some t n place (s n low ∙ place_word-here cs n here) in cc)
+        | inl here ↦ absurd (let is = place_in-some words n place (s n low ∙ place_word-here cs n here) in cc)
         | inr past ↦ find_at (λ x. key x == n) xs ∙ slice_get_past xs (position_or_len (λ x. key x == n) xs) (omega (arith, length-map xs key, position-map key n xs))
       ]
+
+-- the key of an item that was read
+pub key_read : {X : Type 0} (key : X → ℕ) (xs : List X) (i : ℕ) (x : X) → i < length xs → x ≡ get_or xs i x → get_or (map key xs) i 0 ≡ key x
+key_read key xs i x within is = get_or-map key xs i x 0 within ∙ ap key (sym is)
 
 -- keys that rise
 pub rising_keys : {X : Type 0} (key : X → ℕ) (xs : List X) → AllPairs (λ x y. key x < key y) xs → AllPairs (λ c d. c < d) (map key xs)

@@ -1,4 +1,4 @@
-use Rattle.std.proofs.Common.{arith, refl, sym, nat_eq}
+use Rattle.std.proofs.Common.{arith, refl, sym, nat_eq, ap, length, length-append, ◌∙◌, ◌∷◌, []}
 use Rattle.std.specs.Cmp.Lexicographic.{pointwise}
 use Rattle.std.proofs.lemmas.Bool.{le-ltb}
 use Rattle.std.proofs.lemmas.Option.{cond_some}
@@ -13,4 +13,6 @@ returns-in-Some c =
 pub returns : goal.returns
 returns c =
     let none = position-None (pointwise nat_eq c.args.block) c.args.blocks.now.items (rw c.deref.ensures.value at (sym (rw c.in_default.is at c.number_of.ensures))) in
-    rw (le-ltb _ _ none) (c.in_ok-push.ensures.items, omega (arith, none, number_in-le c.args.blocks.now.items c.args.block, c.len.ensures, c.in_ok-push.ensures.len, c.args.blocks.now.ok.0))
+    let items = c.in_ok-push_block.ensures in
+    let long = ap length items ∙ length-append c.args.blocks.now.items (c.args.block ∷ []) in
+    rw (le-ltb _ _ none) (items, omega (arith, none, number_in-le c.args.blocks.now.items c.args.block, c.len.ensures, long, c.push_block.new.blocks.ok.0))

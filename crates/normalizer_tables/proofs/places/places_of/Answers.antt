@@ -1,35 +1,48 @@
-use Rattle.std.proofs.Common.{◌≡◌, arith, length, get_or, Err, sym, ◌∙◌, ap, below_more}
-use Rattle.std.proofs.lemmas.List.{get_or_read}
+use Rattle.std.proofs.Common.{◌≡◌, arith, length, map, get_or, sym, ◌∙◌, ap, below_more}
+use Rattle.std.proofs.lemmas.List.{get_or_read, length-map}
+use Rattle.std.proofs.lemmas.Result.{IfOk-weaker}
 use Rattle.std.proofs.lemmas.List.FromFn.{map-range_with_len_more}
 use Rattle.normalizer_tables.specs.Table.{code_points}
-use Rattle.normalizer_tables.proofs.lists.PlaceTables.{place_range, place_ranges, place-le, IsRangeList-places, ArePlaces-table}
+use Rattle.normalizer_tables.proofs.lists.PlaceTables.{place_range, place_ranges, place-le, key_read, rising_keys, IsRangeList-places, ArePlaces-words}
 use Rattle.normalizer_tables.proofs.places.places_of.Goals as goal
 
 pub overflow_add-place : goal.overflow_add-place
-overflow_add-place c =
-    let here = get_or_read c.args.characters.now _ _ c.loop-character-test.true c.character-item.is 0 in
-    omega (arith, c.loop-character.invariant.counted, here, place-le c.args.characters.now c.requires c.loop-character.character-index c.loop-character-test.true)
+overflow_add-place g c =
+    let key = g.T.HasCharacter.character in
+    let xs = c.args.items.now in
+    let i = c.loop-item.item-index in
+    let x = c.item-item.result in
+    let here = key_read key xs i x c.loop-item-test.true (get_or_read xs _ _ c.loop-item-test.true c.item-item.is x) ∙ sym c.character-number.ensures in
+    omega (arith, c.loop-item.invariant.counted, here, place-le (map key xs) (rising_keys key xs c.requires) i (omega (arith, length-map xs key)))
 
-pub loop-character-preserved : goal.loop-character-preserved
+pub loop-item-preserved : goal.loop-item-preserved
 unfolding code_points
-loop-character-preserved c =
-    let i = c.loop-character.character-index in
-    let here : c.character-item.result ≡ get_or c.args.characters.now i 0 = get_or_read c.args.characters.now _ _ c.loop-character-test.true c.character-item.is 0 in
+loop-item-preserved g c =
+    let key = g.T.HasCharacter.character in
+    let xs = c.args.items.now in
+    let i = c.loop-item.item-index in
+    let x = c.item-item.result in
+    let here : c.character-number.result ≡ get_or (map key xs) i 0 = sym (key_read key xs i x c.loop-item-test.true (get_or_read xs _ _ c.loop-item-test.true c.item-item.is x) ∙ sym c.character-number.ensures) in
     record {
-      counted = omega (arith, c.loop-character.invariant.counted);
-      ranges = rw (c.in_ok-push.ensures.items, c.loop-character.invariant.ranges, c.loop-character.invariant.counted, here) (sym (map-range_with_len_more (place_range c.args.characters.now) 0 i i (omega arith)));
-      low = below_more _ _ c.loop-character.invariant.low (omega (arith, here));
+      counted = omega (arith, c.loop-item.invariant.counted);
+      ranges = rw (c.in_ok-push.ensures.items, c.loop-item.invariant.ranges, c.loop-item.invariant.counted, here) (sym (map-range_with_len_more (place_range (map key xs)) 0 i i (omega arith)));
+      low = below_more _ _ c.loop-item.invariant.low (omega (arith, here));
     }
 
-pub unreachable-requires : goal.unreachable-requires
-unreachable-requires c =
-    let cs = c.args.characters.now in
-    let end : c.loop-character.character-index ≡ length cs = omega arith in
-    let all = c.loop-character.invariant.ranges ∙ ap (place_ranges cs) end in
-    c.in-Err-Ranges.ensures.refused.0 (λ i. Err (c.in-Err-Ranges.field-0-is i)) (rw all (IsRangeList-places cs c.requires (λ k below. c.loop-character.invariant.low k (omega arith))))
+pub from_ranges-requires : goal.from_ranges-requires
+from_ranges-requires g c =
+    let key = g.T.HasCharacter.character in
+    let xs = c.args.items.now in
+    let long = length-map xs key in
+    let end : c.loop-item.item-index ≡ length (map key xs) = omega (arith, long) in
+    let all = c.deref.ensures.value ∙ c.loop-item.invariant.ranges ∙ ap (place_ranges (map key xs)) end in
+    rw all (IsRangeList-places (map key xs) (rising_keys key xs c.requires) (λ k below. c.loop-item.invariant.low k (omega arith)))
 
-pub returns-in-Ok : goal.returns-in-Ok
-returns-in-Ok c =
-    let cs = c.args.characters.now in
-    let end : c.loop-character.character-index ≡ length cs = omega arith in
-    ArePlaces-table cs _ _ (c.loop-character.invariant.ranges ∙ ap (place_ranges cs) end) c.in-Ok.ensures.table
+pub returns : goal.returns
+returns g c =
+    let key = g.T.HasCharacter.character in
+    let xs = c.args.items.now in
+    let long = length-map xs key in
+    let end : c.loop-item.item-index ≡ length (map key xs) = omega (arith, long) in
+    let all = c.deref.ensures.value ∙ c.loop-item.invariant.ranges ∙ ap (place_ranges (map key xs)) end in
+    IfOk-weaker c.from_ranges.result _ _ (λ words made. ArePlaces-words (map key xs) words c.deref.result.now made all) c.from_ranges.ensures
