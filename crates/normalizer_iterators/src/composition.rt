@@ -1,30 +1,17 @@
 //! Composing text character by character (The Unicode Standard, D117, D120 and D121).
-ghost use Rattle.std.specs.Prelude.{◌≡◌, ◌<◌, ◌≤◌, ℕ, List, [], Option, None, IfErr, OnErr, IfOk};
-ghost use Rattle.std.specs.Prelude.{IsOk};
+ghost use Rattle.std.specs.Prelude.{◌≡◌, ◌<◌, Option, None, IfErr, OnErr, IfOk};
 ghost use Rattle.std.specs.Iterator.{at_most, IsFinite, MakesProgress};
-ghost use Rattle.normal_forms.specs.Forms.{nfc};
-ghost use Rattle.normal_forms.specs.CompositionByStarters.{join};
-ghost use Rattle.normal_forms.specs.ShortRuns.{buffer_limit};
-ghost use Rattle.normalizer_tables.specs.Characters.{has_class_form};
 ghost use Rattle.normalizer_tables.specs.Pairs.{pair_of};
-ghost use Rattle.normalizer_tables.specs.Readings.{reading_by};
-ghost use Rattle.normalizer_text.specs.DecodingSteps.{Spells};
 ghost use Rattle.normalizer_iterators.specs.DecompositionItems.{CanDecompose, IsEnded};
-ghost use Rattle.normalizer_iterators.specs.Delegate.{MayYield};
 ghost use Rattle.normalizer_iterators.specs.LazyComposing.{SuitsLazyComposing};
 ghost use Rattle.normalizer_iterators.specs.inner.PassthroughItems.{IsAtPassthrough};
-ghost use Rattle.normalizer_iterators.specs.LazyReading.{SuitsLazyReading};
-ghost use Rattle.normalizer_iterators.specs.NextItem.{IsFormOfSource};
-ghost use Rattle.normalizer_iterators.specs.Composing.{ComposesStarterBy};
-ghost use Rattle.normalizer_iterators.specs.Composing.{IsRefused};
-ghost use Rattle.normalizer_iterators.specs.inner.ReadingOn.{HasYieldedLongBy, IfShortRuns};
+ghost use Rattle.normalizer_iterators.specs.Composing.{ComposesStarterBy, IsRefused};
 
 use crate::composition::passing::{Given, is_at_passthrough, next_passthrough};
 use crate::decomposition::Decomposition;
 use crate::error::NormalizeError;
 use crate::pairs::compose;
 use normalizer_tables::CanonicalCompositions;
-use normalizer_tables::characters::{CharacterData, IgnoredCharacters};
 use normalizer_tables::condition::Bounds;
 
 mod making;
@@ -52,9 +39,6 @@ impl<'data, I: Iterator<Item = char> + Drop> Composition<'data, I> {
       ComposesOn,
       CompositionSteps,
       HasListsOfBoth,
-      IsLong,
-      StaysShort,
-      WillYield,
       data_of_composition,
       items_left,
       pairs_of_composition,

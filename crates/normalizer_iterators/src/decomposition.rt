@@ -23,7 +23,7 @@ ghost use Rattle.normalizer_iterators.specs.ComposingInPlace.{ComposesInPlace};
 
 use crate::error::NormalizeError;
 use crate::pending::{PendingChar, read_from};
-use crate::reading::{is_at_boundary, push_others, read_on};
+use crate::reading::{hold_others, is_at_boundary, read_on};
 use crate::waiting::{ClassedChar, WaitingList};
 use normalizer_tables::characters::{CharacterData, IgnoredCharacters};
 use normalizer_tables::condition::GREATEST_BOUNDS;
@@ -54,7 +54,6 @@ impl<'data, I: Iterator<Item = char> + Drop> Decomposition<'data, I> {
     ghost use Rattle.normalizer_iterators.specs.DecompositionItems.{
       CanDecompose,
       DecompositionSteps,
-      IsEnded,
       IsLong,
       StaysShort,
       WillYield,
@@ -269,8 +268,7 @@ fn read_chunk<I: Iterator<Item = char> + Drop>(
     let Some(first) = members.get(0) else {
         unreachable!()
     };
-    waiting.clear();
-    push_others(characters, &members, waiting)?;
+    hold_others(characters, &members, waiting)?;
     let pending = read_on(characters, ignored, following, delegate, waiting)?;
     Ok((first, pending))
 }

@@ -1,6 +1,6 @@
 //! The normal form of a character and the marks after it, however many these are.
 ghost use Rattle.std.specs.Prelude.{◌≡◌, ◌+◌, ◌<◌, ◌≤◌, ◌∷◌, [], List, ℕ, drop, length};
-ghost use Rattle.std.specs.Prelude.{IfOk, IfSome, IfNone, IsOk, IsOkAnd, IsTrue, OnOk};
+ghost use Rattle.std.specs.Prelude.{IfOk, IfSome, IfNone, IsOk, IsTrue, OnOk};
 ghost use Rattle.normal_forms.specs.CompositionByStarters.{compose_by_starters};
 ghost use Rattle.normal_forms.specs.Decomposition.{expand};
 ghost use Rattle.normal_forms.specs.Forms.{nfc, nfd};
@@ -8,7 +8,7 @@ ghost use Rattle.normal_forms.specs.Hypotheses.{HasStarterResults};
 ghost use Rattle.normal_forms.specs.Reading.{Reading};
 ghost use Rattle.normal_forms.specs.ShortRuns.{buffer_limit};
 ghost use Rattle.normalizer_tables.specs.Readings.{reading_by};
-ghost use Rattle.normalizer_tables.specs.Characters.{Characters, class_of, list_of};
+ghost use Rattle.normalizer_tables.specs.Characters.{class_of, list_of};
 ghost use Rattle.normalizer_tables.specs.declared.characters.IgnoredCharacters.TheVariants.{Dropped};
 ghost use Rattle.normalizer_text.specs.Encodings.{decoded_in, first_in};
 ghost use Rattle.normalizer_iterators.specs.CharactersLeft.{characters_left};

@@ -1,5 +1,5 @@
 //! Composing what is buffered, in its place.
-ghost use Rattle.std.specs.Prelude.{◌≡◌, ◌+◌, ◌<◌, ◌≤◌, ◌++◌, ◌∷◌, [], ℕ, length};
+ghost use Rattle.std.specs.Prelude.{◌≡◌, ◌+◌, ◌<◌, ◌≤◌, ◌∷◌, length};
 ghost use Rattle.std.specs.List.{copy_within};
 ghost use Rattle.normal_forms.specs.Reading.{Reading};
 ghost use Rattle.normalizer_iterators.specs.WaitingList.{ordered_text, text_before, text_from, unordered_text, AgreesWith};
