@@ -2,6 +2,6 @@
 pub mod BeforeStarterLemmas
 pub mod ComposingLemmas
 pub mod CompositionLemmas
-pub mod DecomposedMarks
+pub mod InPlaceLemmas
 pub mod MarkLemmas
 pub mod StarterLemmas

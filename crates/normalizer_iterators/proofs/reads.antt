@@ -2,5 +2,4 @@
 pub mod LazyLemmas
 pub mod PlainWords
 pub mod ReadingLemmas
-pub mod ShortChunkLemmas
 pub mod ReadsOfSoundData

@@ -1,5 +1,5 @@
 -- What is still to come of a composition.
-use Rattle.std.specs.Prelude.{◌≡◌, ℕ, ◌+◌, ◌≤◌, List, [], ◌∷◌, ◌++◌, length, All, Option, None, Result, MatchResult}
+use Rattle.std.specs.Prelude.{◌≡◌, ℕ, ◌≤◌, List, [], ◌∷◌, ◌++◌, All, Option, None, Result, MatchResult}
 use Rattle.std.specs.Prelude.{◌<◌, IfErr, IfOk, IfSome, IsOk, OnErr, OnSome}
 use Rattle.std.specs.Iterator.{Count}
 use Rattle.normal_forms.specs.Reading.{Reading}
@@ -17,11 +17,10 @@ use Rattle.normalizer_iterators.specs.declared.composition.Composition.{Composit
 use Rattle.normalizer_iterators.specs.declared.decomposition.Decomposition.{Decomposition}
 use Rattle.normalizer_iterators.specs.declared.error.NormalizeError.{NormalizeError}
 use Rattle.normalizer_iterators.specs.declared.error.NormalizeError.TheVariants.{Memory}
-use Rattle.normalizer_iterators.specs.Composing.{WillYieldAfter, YieldsShort, ahead_left}
+use Rattle.normalizer_iterators.specs.Composing.{WillYieldAfter, ahead_left}
 use Rattle.normalizer_iterators.specs.DecompositionItems as decomposition
 use Rattle.normalizer_iterators.specs.Delegate.{Extent, MayYield, Source}
 use Rattle.normalizer_iterators.specs.NextItem.{CameFirst, ComesOfLong, YieldedFirst, YieldsNext}
-use Rattle.normalizer_iterators.specs.StayingMarks.{staying_marks}
 
 -- if the data meet condition 14, the list of what a and c compose to is the lists of both, in canonical order
 abbrev pub HasListsOfBoth : Characters → List Pair → ℕ → ℕ → Option ℕ → Type 0
@@ -45,19 +44,19 @@ module _ {I : Type 0} where
 
   -- these characters, by what the delegate yields, if memory suffices
   abbrev pub WillYield : (I → List ℕ → Type 0) → Composition I → List ℕ → Type 0
-  WillYield Comes s out = WillYieldAfter Comes (pairing_by s) (staying_marks s.marks) s.ahead s.decomposed out
+  WillYield Comes s out = WillYieldAfter Comes (pairing_by s) s.ahead s.decomposed out
 
   -- the runs that are still to come are short
   abbrev pub StaysShort : (I → Option ℕ → I → Type 0) → Composition I → Type 0
-  StaysShort gives s = YieldsShort gives (pairing_by s) s.decomposed
+  StaysShort gives s = decomposition.StaysShort gives s.decomposed
 
   -- the delegate may go on so that runs come that aren't short
   abbrev pub IsLong : (I → Option ℕ → I → Type 0) → Composition I → Type 0
-  IsLong gives s = decomposition.IsLong gives (pairing_by s) s.decomposed
+  IsLong gives s = decomposition.IsLong gives s.decomposed
 
   -- nothing is to come
   abbrev pub IsEnded : Composition I → Type 0
-  IsEnded s = (s.ahead ≡ None) × (staying_marks s.marks ≡ []) × decomposition.IsEnded s.decomposed
+  IsEnded s = (s.ahead ≡ None) × decomposition.IsEnded s.decomposed
 
   -- the delegate may be called, and ends
   abbrev pub CanCompose : (I → Type 0) → (I → Count) → Composition I → Type 0
@@ -65,7 +64,7 @@ module _ {I : Type 0} where
 
   -- no more characters than this come
   abbrev pub items_left : (I → Count) → Composition I → ℕ
-  items_left left s = length (staying_marks s.marks) + ahead_left s.ahead (decomposition.items_left left s.decomposed)
+  items_left left s = ahead_left s.ahead (decomposition.items_left left s.decomposed)
 
   -- a starter was composed with what was decomposed after it, and yielded, or a fault came
   pub record ComposesOn (from : Source I) (starter : ℕ) (old : Decomposition I) (pairs : List Pair)
@@ -78,10 +77,9 @@ module _ {I : Type 0} where
         (y : List ℕ) × decomposition.WillYield (MayYield from.next_gives e) old y
         × (compose_after (reading_by old.characters Dropped pairs) starter [] y ≡ c ∷ rest))
     pub fault : IfErr r (λ e. e ≡ Memory)
-    pub room : YieldsShort from.next_gives (reading_by old.characters Dropped pairs) old
-        → IsOk r × StaysShort from.next_gives t
-    pub long : let d = reading_by old.characters Dropped pairs in MatchResult r (λ _. IsLong from.next_gives t
-        → decomposition.IsLong from.next_gives d old) (λ _. decomposition.IsLong from.next_gives d old)
+    pub room : decomposition.StaysShort from.next_gives old → IsOk r × StaysShort from.next_gives t
+    pub long : MatchResult r (λ _. IsLong from.next_gives t → decomposition.IsLong from.next_gives old)
+        (λ _. decomposition.IsLong from.next_gives old)
     pub ends : OnErr r (IsEnded t)
     pub ready : CanCompose from.can_next from.remaining t
     pub fewer : items_left from.remaining t ≤ decomposition.items_left from.remaining old

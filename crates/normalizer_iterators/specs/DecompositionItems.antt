@@ -1,10 +1,10 @@
 -- What is still to come of a decomposition.
-use Rattle.std.specs.Prelude.{◌≡◌, ℕ, ◌+◌, ◌*◌, ◌<◌, ◌≤◌, List, [], ◌∷◌, ◌++◌, length, Option, Some, None, OnSome}
+use Rattle.std.specs.Prelude.{◌≡◌, ℕ, ◌+◌, ◌*◌, ◌<◌, List, [], ◌∷◌, ◌++◌, length, Option, Some, None, OnSome}
 use Rattle.std.specs.Prelude.{Result, Ok, Err, MatchOption, MatchResult, ⊤, option_to_list}
 use Rattle.std.specs.Iterator.{Count, size}
 use Rattle.normal_forms.specs.Reading.{Reading}
 use Rattle.normal_forms.specs.Forms.{nfd}
-use Rattle.normal_forms.specs.ShortRuns.{buffer_limit, HasShortRuns}
+use Rattle.normal_forms.specs.ShortRuns.{HasShortRuns}
 use Rattle.normalizer_tables.specs.Characters.{has_class_form}
 use Rattle.normalizer_tables.specs.Readings.{reading_by}
 use Rattle.normalizer_text.specs.DecodingSteps.{Spells}
@@ -14,7 +14,6 @@ use Rattle.normalizer_iterators.specs.declared.waiting.ClassedChar.{ClassedChar}
 use Rattle.normalizer_iterators.specs.Delegate.{Extent, IsReadyAfter, MayYield, Source}
 use Rattle.normalizer_iterators.specs.Delegate.Extent.{so_far}
 use Rattle.normalizer_iterators.specs.LazyReading.{longest_list}
-use Rattle.normalizer_iterators.specs.MarkRuns.{leading_marks, HasShortMarkRuns}
 use Rattle.normalizer_iterators.specs.NextItem.{CameFirst, YieldsNext}
 use Rattle.normalizer_iterators.specs.Reads.{character_of}
 use Rattle.normalizer_iterators.specs.ToCome.{IsToCome, AreShortToCome, reads_left}
@@ -49,15 +48,11 @@ module _ {I : Type 0} where
   AreShort gives s out comes =
       HasShortRuns (has_class_form s.characters) (reading_of s) (option_to_list (pending_of s) ++ comes.unread)
 
-  -- the delegate may go on so that runs come that aren't short, those of marks among them, after so many marks
-  pub record IsLongAfter (gives : I → Option ℕ → I → Type 0) (d : Reading) (marks : ℕ) (s : Decomposition I)
-      : Type 0 where
+  -- the delegate may go on so that runs come that aren't short
+  pub record IsLong (gives : I → Option ℕ → I → Type 0) (s : Decomposition I) : Type 0 where
     pub out : List ℕ
     pub comes : WillYield (MayYield gives so_far) s out
-    pub long : AreShort gives s out comes → HasShortMarkRuns d out → marks + leading_marks d out ≤ buffer_limit → ⊥
-
-  abbrev pub IsLong : (I → Option ℕ → I → Type 0) → Reading → Decomposition I → Type 0
-  IsLong gives d s = IsLongAfter gives d 0 s
+    pub long : AreShort gives s out comes → ⊥
 
   -- what may come from t may come from s after c, and its runs are short if those from s are
   abbrev pub ComesShortBefore : (I → Option ℕ → I → Type 0) → Decomposition I → ℕ → Decomposition I → Type 0
@@ -84,7 +79,7 @@ module _ {I : Type 0} where
     pub item : YieldsNext (WillYield (Spells from.next_gives)) (StaysShort from.next_gives) IsEnded s r t
     pub came : (e : Extent) → CameFirst (WillYield (MayYield from.next_gives e)) s r t
     pub long : MatchOption r ⊤ (λ item. MatchResult item (λ c. ComesShortBefore from.next_gives s c t)
-        (λ _. (d : Reading) → IsLong from.next_gives d s))
+        (λ _. IsLong from.next_gives s))
     pub ready : CanDecompose from.can_next from.remaining s → CanDecompose from.can_next from.remaining t
     pub kept : (t.characters ≡ s.characters) × (t.ignored ≡ s.ignored)
     pub fewer : OnSome r (items_left from.remaining t < items_left from.remaining s)

@@ -1,5 +1,6 @@
 pub mod ByClass
 pub mod Composing
+pub mod ComposingInPlace
 pub mod CompositionItems
 pub mod DecompositionItems
 pub mod Delegate
@@ -8,12 +9,10 @@ pub mod Iterating
 pub mod LazyComposing
 pub mod LazyReading
 pub mod CharactersLeft
-pub mod MarkRuns
 pub mod NextItem
 pub mod Reads
 pub mod Segment
 pub mod ShortText
-pub mod StayingMarks
 pub mod ToCome
 pub mod Waiting
 pub mod WaitingList

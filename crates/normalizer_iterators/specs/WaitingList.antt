@@ -10,6 +10,14 @@ use Rattle.normalizer_iterators.specs.Waiting as entries
 unfoldable pub ordered_text : WaitingList → List ℕ
 ordered_text b = entries.characters (drop b.next (take b.run b.entries.items))
 
+-- those of them before a place
+unfoldable pub text_before : WaitingList → ℕ → List ℕ
+text_before b place = entries.characters (drop b.next (take place b.entries.items))
+
+-- those of them from a place on
+unfoldable pub text_from : WaitingList → ℕ → List ℕ
+text_from b place = entries.characters (drop place (take b.run b.entries.items))
+
 -- the marks after them, not yet in order
 unfoldable pub unordered_text : WaitingList → List ℕ
 unordered_text b = entries.characters (drop b.run b.entries.items)

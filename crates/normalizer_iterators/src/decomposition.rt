@@ -1,6 +1,6 @@
 //! Decomposing text character by character (The Unicode Standard, D118 and D119).
 ghost use Rattle.std.specs.Prelude.{◌≡◌, ℕ, List, [], None, false, Ok, IfOk, IfErr, IfSome, OnOk, OnErr, IsOk};
-ghost use Rattle.std.specs.Prelude.{IsTrue};
+ghost use Rattle.std.specs.Prelude.{IsTrue, length, ◌≤◌};
 ghost use Rattle.std.specs.Option.{ForSome};
 ghost use Rattle.std.specs.Iterator.{at_most, IsFinite, MakesProgress};
 ghost use Rattle.normal_forms.specs.Forms.{nfd};
@@ -19,15 +19,15 @@ ghost use Rattle.normalizer_iterators.specs.Waiting.{HasClassesOf};
 ghost use Rattle.normalizer_iterators.specs.Reads.{character_of, HasOwnWord, HasOwnWords};
 ghost use Rattle.normalizer_iterators.specs.inner.ReadingOn.{ReadsChunkAfter, ChunkDidNotFitAfter, IsWholeChunk};
 ghost use Rattle.normalizer_iterators.specs.inner.ReadingOn.{HasYieldedLongBy, IfShortRuns};
-ghost use Rattle.normalizer_tables.specs.Pairs.{Pair};
+ghost use Rattle.normalizer_iterators.specs.ComposingInPlace.{ComposesInPlace};
 
 use crate::error::NormalizeError;
 use crate::pending::{PendingChar, read_from};
-use crate::reading::{is_at_boundary, push_others, read_on};
+use crate::reading::{hold_others, is_at_boundary, read_on};
 use crate::waiting::{ClassedChar, WaitingList};
 use normalizer_tables::characters::{CharacterData, IgnoredCharacters};
 use normalizer_tables::condition::GREATEST_BOUNDS;
-use normalizer_tables::{DecompositionData, DecompositionTables};
+use normalizer_tables::{CanonicalCompositions, DecompositionData, DecompositionTables};
 use std::alloc::AllocError;
 
 /// An iterator over the characters of a text, decomposed and in canonical order.
@@ -54,7 +54,6 @@ impl<'data, I: Iterator<Item = char> + Drop> Decomposition<'data, I> {
     ghost use Rattle.normalizer_iterators.specs.DecompositionItems.{
       CanDecompose,
       DecompositionSteps,
-      IsEnded,
       IsLong,
       StaysShort,
       WillYield,
@@ -103,8 +102,7 @@ impl<'data, I: Iterator<Item = char> + Drop> Decomposition<'data, I> {
             (nfd (reading_by characters.entry ignored [])) delegate) }
         ensures short { IfOk result (λ it.
             IfShortRuns I.next_gives characters.entry ignored delegate (StaysShort I.next_gives it)) }
-        ensures long { (pairs : List Pair) → IfOk result (λ it.
-            IsLong I.next_gives (reading_by characters.entry Dropped pairs) it →
+        ensures long { IfOk result (λ it. IsLong I.next_gives it →
             HasYieldedLongBy I.next_gives characters.entry ignored delegate) }
         ensures succeeds { IfShortRuns I.next_gives characters.entry ignored delegate (IsOk result) }
         ensures ready { IfOk result (CanDecompose I.can_next I.remaining) }
@@ -171,13 +169,16 @@ impl<'data, I: Iterator<Item = char> + Drop> Decomposition<'data, I> {
         }
     }
 
-    /// Drops what is buffered and the character that was read last: nothing is to come.
-    pub(crate) fn stop(&mut self)
-        ensures ended { IsEnded self.new }
+    /// Composes a starter with what is buffered after it, up to the next starter that doesn't join. Returns what it
+    /// becomes; the marks that stay are next.
+    #[inline(always)]
+    pub(crate) fn compose_buffered(&mut self, pairs: &CanonicalCompositions, starter: char) -> char
+        ensures text { ComposesInPlace pairs.now starter self.old.waiting result self.new.waiting }
+        ensures fewer { length (ordered_text self.new.waiting) ≤ length (ordered_text self.old.waiting) }
         ensures kept { (self.new.characters ≡ self.old.characters) × (self.new.ignored ≡ self.old.ignored) }
+        ensures unread { (self.new.pending ≡ self.old.pending) × (self.new.delegate ≡ self.old.delegate) }
     {
-        self.pending = None;
-        self.waiting.clear();
+        self.waiting.compose(pairs, starter)
     }
 
     /// The next character with its canonical combining class.
@@ -186,6 +187,8 @@ impl<'data, I: Iterator<Item = char> + Drop> Decomposition<'data, I> {
         requires { CanDecompose I.can_next I.remaining self.old }
         ensures class { IfSome result (λ item. IfOk item (λ given.
             given.class ≡ class_of self.old.characters given.character)) }
+        ensures starter { ordered_text self.old.waiting ≡ [] → IfSome result (λ item. IfOk item (λ given.
+            given.class ≡ 0)) }
         ensures steps { DecompositionSteps I.Iterator self.old (item_of result) self.new }
     {
         if let Some(given) = self.waiting.pop_front() {
@@ -265,8 +268,7 @@ fn read_chunk<I: Iterator<Item = char> + Drop>(
     let Some(first) = members.get(0) else {
         unreachable!()
     };
-    waiting.clear();
-    push_others(characters, &members, waiting)?;
+    hold_others(characters, &members, waiting)?;
     let pending = read_on(characters, ignored, following, delegate, waiting)?;
     Ok((first, pending))
 }

@@ -7,7 +7,6 @@ pub mod decomposition;
 mod error;
 pub mod laws;
 pub mod mark_run;
-mod marks;
 mod pairs;
 mod pending;
 mod reading;

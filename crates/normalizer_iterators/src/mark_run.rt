@@ -1,26 +1,24 @@
 //! The normal form of a character and the marks after it, however many these are.
 ghost use Rattle.std.specs.Prelude.{◌≡◌, ◌+◌, ◌<◌, ◌≤◌, ◌∷◌, [], List, ℕ, drop, length};
-ghost use Rattle.std.specs.Prelude.{IfOk, IfSome, IfNone, IsOk, IsOkAnd, IsTrue, OnOk};
-ghost use Rattle.normal_forms.specs.CompositionByStarters.{compose_after};
+ghost use Rattle.std.specs.Prelude.{IfOk, IfSome, IfNone, IsOk, IsTrue, OnOk};
+ghost use Rattle.normal_forms.specs.CompositionByStarters.{compose_by_starters};
 ghost use Rattle.normal_forms.specs.Decomposition.{expand};
 ghost use Rattle.normal_forms.specs.Forms.{nfc, nfd};
 ghost use Rattle.normal_forms.specs.Hypotheses.{HasStarterResults};
 ghost use Rattle.normal_forms.specs.Reading.{Reading};
 ghost use Rattle.normal_forms.specs.ShortRuns.{buffer_limit};
 ghost use Rattle.normalizer_tables.specs.Readings.{reading_by};
-ghost use Rattle.normalizer_tables.specs.Characters.{Characters, class_of, list_of};
+ghost use Rattle.normalizer_tables.specs.Characters.{class_of, list_of};
 ghost use Rattle.normalizer_tables.specs.declared.characters.IgnoredCharacters.TheVariants.{Dropped};
 ghost use Rattle.normalizer_text.specs.Encodings.{decoded_in, first_in};
 ghost use Rattle.normalizer_iterators.specs.CharactersLeft.{characters_left};
 ghost use Rattle.normalizer_iterators.specs.LazyReading.{HasShortLazyRuns};
 ghost use Rattle.normalizer_iterators.specs.Reads.{HasOwnWord};
-ghost use Rattle.normalizer_iterators.specs.StayingMarks.{mark_count, staying_marks, BlocksBelow};
-ghost use Rattle.normalizer_iterators.specs.WaitingList.{item_count, ordered_text, reordered_text, AgreesWith};
+ghost use Rattle.normalizer_iterators.specs.WaitingList.{item_count, reordered_text, AgreesWith, HasOnlyMarks};
+ghost use Rattle.normalizer_iterators.specs.inner.Segments.{HasPairsOf};
 ghost use Rattle.normalizer_iterators.specs.inner.MarkReads.{after_starter, starter_of, HasRoomForMarks, IsUncomposed};
 ghost use Rattle.normalizer_iterators.specs.inner.ReadingOn.{Adds, KeepsClasses};
 
-use crate::composition::{Visited, visit};
-use crate::marks::StayingMarks;
 use crate::pending::PendingChar;
 use crate::reading::push_from;
 use crate::waiting::WaitingList;
@@ -34,9 +32,7 @@ use std::alloc::AllocError;
 pub struct MarkRun {
     /// The starter at its front, if there is one and it isn't taken.
     starter: Option<char>,
-    /// The marks that stay after it.
-    marks: StayingMarks,
-    /// What wasn't composed.
+    /// The marks after it.
     waiting: WaitingList,
 }
 
@@ -82,18 +78,21 @@ impl MarkRun {
         let Some(mut run) = read_run(characters, ignored, units, first)? else {
             return Ok(None);
         };
-        let Some(starter) = run.starter else {
-            if run.waiting.has_only_marks() {
-                return Ok(Some(run));
-            }
+        run.compose(pairs);
+        if !run.waiting.has_only_marks() {
             return Ok(None);
-        };
-        let Some(composite) = compose_marks(pairs, starter, &mut run.waiting, &mut run.marks)?
-        else {
-            return Ok(None);
-        };
-        run.starter = Some(composite);
+        }
         Ok(Some(run))
+    }
+
+    /// Composes the starter, if there is one, with what follows it.
+    fn compose(&mut self, pairs: &CanonicalCompositions)
+        ensures { (d : Reading) (x : List ℕ) → IsUncomposed d x self.old → HasPairsOf pairs.now d →
+            HasOnlyMarks self.new.waiting → characters_left self.new ≡ compose_by_starters d x }
+    {
+        if let Some(starter) = self.starter {
+            self.starter = Some(self.waiting.compose(pairs, starter));
+        }
     }
 
     /// Takes the next character, if one is left.
@@ -105,9 +104,6 @@ impl MarkRun {
         if let Some(starter) = self.starter {
             self.starter = None;
             return Some(starter);
-        }
-        if let Some(mark) = self.marks.pop_front() {
-            return Some(mark);
         }
         match self.waiting.pop_front() {
             Some(given) => Some(given.character),
@@ -128,10 +124,8 @@ fn read_run<U: Units>(
     requires first { first ≡ first_in U.encoding (U.units units) }
     ensures text { IfOk result (λ read. IfSome read (λ run. IsUncomposed (reading_by characters.now ignored [])
         (nfd (reading_by characters.now ignored []) (decoded_in U.encoding (U.units units))) run)) }
-    ensures room { HasShortLazyRuns characters.now ignored (decoded_in U.encoding (U.units units)) →
-        IsOkAnd result (λ read. IfSome read (λ run. length (ordered_text run.waiting) ≤ buffer_limit)) }
+    ensures room { HasShortLazyRuns characters.now ignored (decoded_in U.encoding (U.units units)) → IsOk result }
 {
-    let marks = StayingMarks::new(characters.allocator());
     let mut waiting = WaitingList::new(characters.allocator());
     let read = PendingChar::new(characters, 0, first.character);
     let starter = push_after_starter(characters, ignored, read, &mut waiting)?;
@@ -139,11 +133,7 @@ fn read_run<U: Units>(
         return Ok(None);
     }
     waiting.put_in_order()?;
-    Ok(Some(MarkRun {
-        starter,
-        marks,
-        waiting,
-    }))
+    Ok(Some(MarkRun { starter, waiting }))
 }
 
 /// Buffers the list of a character, but for its first member if that is a starter, which is returned.
@@ -218,33 +208,4 @@ fn class_of_mark(characters: &CharacterData<'_>, character: char) -> Option<u8>
         Some(0) => None,
         class => class,
     }
-}
-
-/// Composes a starter with the marks after it that are in order: returns what it becomes, and keeps the marks that
-/// stay, unless there is another starter.
-fn compose_marks(
-    pairs: &CanonicalCompositions,
-    first: char,
-    waiting: &mut WaitingList,
-    marks: &mut StayingMarks,
-) -> Result<Option<char>, AllocError>
-    requires none { staying_marks marks.old ≡ [] }
-    requires used { mark_count marks.old ≡ 0 }
-    requires blocking { (d : Reading) → BlocksBelow d marks.old }
-    ensures text { IfOk result (λ made. IfSome made (λ c. (s : Characters) →
-        AgreesWith (reading_by s Dropped pairs.now) waiting.old → compose_after (reading_by s Dropped pairs.now)
-        first [] (ordered_text waiting.old) ≡ c ∷ staying_marks marks.new)) }
-    ensures all { IfOk result (λ made. IfSome made (λ _. ordered_text waiting.new ≡ [])) }
-    ensures room { (s : Characters) → AgreesWith (reading_by s Dropped pairs.now) waiting.old →
-        length (ordered_text waiting.old) ≤ buffer_limit → IsOk result }
-{
-    let mut starter = first;
-    while let Some(given) = waiting.pop_front() {
-        match visit(pairs, marks, starter, given)? {
-            Visited::Joined(joined) => starter = joined,
-            Visited::BecomesStarter => return Ok(None),
-            Visited::Stays => {}
-        }
-    }
-    Ok(Some(starter))
 }

@@ -1,17 +1,20 @@
 //! Reading further characters, up to a boundary.
-ghost use Rattle.std.specs.Prelude.{◌≡◌, ◌+◌, ◌<◌, ◌≤◌, ◌∷◌, length, drop, IsOk, IfOk, OnOk, OnErr, []};
+ghost use Rattle.std.specs.Prelude.{◌≡◌, ◌+◌, ◌≤◌, ◌++◌, ℕ, List, length, drop, IsOk, IfOk, OnOk, OnErr, []};
 ghost use Rattle.std.specs.Prelude.{false, IfSome, IsTrue};
+ghost use Rattle.normal_forms.specs.Order.{order};
+ghost use Rattle.normal_forms.specs.Reading.{Reading};
 ghost use Rattle.normal_forms.specs.ShortRuns.{buffer_limit, continues};
-ghost use Rattle.normalizer_tables.specs.Characters.{has_class_form, list_of};
+ghost use Rattle.normalizer_tables.specs.Characters.{class_of, has_class_form, list_of};
 ghost use Rattle.normalizer_tables.specs.Ignored.{ignored_list};
 ghost use Rattle.normalizer_tables.specs.Readings.{reading_by};
 ghost use Rattle.normalizer_iterators.specs.Delegate.{IsReadyAfter};
-ghost use Rattle.normalizer_iterators.specs.WaitingList.{item_count, AgreesWith};
+ghost use Rattle.normalizer_iterators.specs.LazyReading.{HasClassesFrom};
+ghost use Rattle.normalizer_iterators.specs.WaitingList.{item_count, reordered_text, AgreesWith};
 ghost use Rattle.normalizer_iterators.specs.inner.ReadingOn.{Adds, KeepsClasses, ReadsOnAfter, DidNotFitAfter};
 ghost use Rattle.normalizer_iterators.specs.Reads.{character_of, HasOwnWord, HasOwnWords};
 
 use crate::pending::{PendingChar, read_from};
-use crate::waiting::WaitingList;
+use crate::waiting::{ClassedChar, WaitingList};
 use normalizer_tables::characters::{CharacterData, IgnoredCharacters};
 use normalizer_tables::members::Members;
 use std::alloc::AllocError;
@@ -114,40 +117,38 @@ pub(crate) fn push_from(
     Ok(())
 }
 
-/// Buffers the members of a list after the first.
+/// Buffers the members of a list after the first, in place of what is buffered.
 #[inline(always)]
-pub(crate) fn push_others(
+pub(crate) fn hold_others(
     characters: &CharacterData<'_>,
     members: &Members<'_>,
     waiting: &mut WaitingList,
 ) -> Result<(), AllocError>
     requires { 1 ≤ length members.now }
-    ensures text { OnOk result (Adds characters.now (drop 1 members.now) waiting.old waiting.new) }
-    ensures classes { OnOk result (KeepsClasses characters.now waiting.old waiting.new) }
-    ensures held { OnOk result (item_count waiting.new + 1 ≡ item_count waiting.old + length members.now) }
-    ensures succeeds { item_count waiting.old + length members.now ≤ buffer_limit + 1 → IsOk result }
+    ensures text { OnOk result ((d : Reading) → HasClassesFrom characters.now d → (rest : List ℕ) →
+        order d (drop 1 members.now ++ rest) ≡ reordered_text d waiting.new rest) }
+    ensures classes { OnOk result ((d : Reading) → HasClassesFrom characters.now d → AgreesWith d waiting.new) }
+    ensures held { OnOk result (item_count waiting.new + 1 ≡ length members.now) }
+    ensures succeeds { length members.now ≤ buffer_limit + 1 → IsOk result }
 {
     if let Some(two) = members.as_two() {
-        return push_member(characters, two[1], waiting);
+        return waiting.hold(classed(characters, two[1]));
     }
     if let Some(three) = members.as_three() {
-        push_member(characters, three[1], waiting)?;
-        return push_member(characters, three[2], waiting);
+        return waiting.hold_two(classed(characters, three[1]), classed(characters, three[2]));
     }
+    waiting.clear();
     push_from(characters, members, 1, waiting)
 }
 
-/// Buffers a member of a list.
+/// A character with its class.
 #[inline(always)]
-fn push_member(
-    characters: &CharacterData<'_>,
-    member: char,
-    waiting: &mut WaitingList,
-) -> Result<(), AllocError>
-    ensures text { OnOk result (Adds characters.now (member ∷ []) waiting.old waiting.new) }
-    ensures classes { OnOk result (KeepsClasses characters.now waiting.old waiting.new) }
-    ensures held { OnOk result (item_count waiting.new ≡ item_count waiting.old + 1) }
-    ensures succeeds { item_count waiting.old < buffer_limit → IsOk result }
+fn classed(characters: &CharacterData<'_>, character: char) -> ClassedChar
+    ensures character { result.character ≡ character }
+    ensures class { result.class ≡ class_of characters.now character }
 {
-    waiting.push(member, characters.class_of(member))
+    ClassedChar {
+        character,
+        class: characters.class_of(character),
+    }
 }

@@ -20,7 +20,6 @@ use Rattle.normalizer_tables.specs.HangulComposition.{compose_hangul}
 use Rattle.normalizer_tables.specs.Pairs.{Pair, is_vowel_or_trailing_jamo, listed_result, pair_of}
 use Rattle.normalizer_tables.specs.Readings.{reading_by}
 use Rattle.normalizer_tables.specs.declared.characters.IgnoredCharacters.TheVariants.{Dropped}
-use Rattle.normalizer_iterators.specs.MarkRuns.{leading_marks, HasShortMarkRuns}
 
 -- ---- the reading that composes
 
@@ -43,11 +42,6 @@ nfc-reading_by s ignored pairs starters x =
     ap (compose (reading_by s ignored pairs)) (nfd-reading_by s ignored pairs x)
     ∙ compose-reading_by s ignored pairs (nfd (reading_by s ignored []) x)
     ∙ compose_is_by_starters (reading_by s Dropped pairs) starters (nfd (reading_by s ignored []) x)
-
-pub HasShortMarkRuns-reading_by : (s : Characters) (ignored : IgnoredCharacters) (pairs : List Pair) (y : List ℕ) → HasShortMarkRuns (reading_by s ignored []) y
-    → HasShortMarkRuns (reading_by s Dropped pairs) y
-unfolding HasShortMarkRuns leading_marks
-HasShortMarkRuns-reading_by s ignored pairs y h = h
 
 pub HasShortRuns-reading_by : (f : ℕ → Bool) (s : Characters) (ignored : IgnoredCharacters) (pairs : List Pair) (x : List ℕ) → HasShortRuns f (reading_by s ignored pairs) x
     → HasShortRuns f (reading_by s ignored []) x

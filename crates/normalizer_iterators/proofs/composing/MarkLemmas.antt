@@ -1,9 +1,8 @@
 -- Marks that stay after a starter, one by one.
-use Rattle.std.proofs.Common.{◌≡◌, ℕ, ◌+◌, ◌≤◌, true, false, ◌&&◌, nat_lt, nat_le, List, [], ◌∷◌, ◌++◌, length, drop, max, suc, Some, None, refl, sym, ap, ◌∙◌, arith, inl, inr}
+use Rattle.std.proofs.Common.{◌≡◌, ℕ, ◌+◌, true, false, ◌&&◌, nat_lt, nat_le, List, [], ◌∷◌, ◌++◌, max, suc, Some, None, refl, sym, ap, ◌∙◌, arith, inl, inr}
 use Rattle.std.proofs.Math.Bool.{and-true}
 use Rattle.std.proofs.lemmas.Bool.{le-ltb, cond-true, cond-false}
 use Rattle.std.proofs.lemmas.Bool.Decides.{leb_tells}
-use Rattle.std.proofs.lemmas.List.{drop-append-le}
 use Rattle.std.proofs.lemmas.List.Folds.{list_all-append}
 use Rattle.std.proofs.Math.Dec.{leb-zero}
 use Rattle.std.specs.List.{list_all}
@@ -49,11 +48,6 @@ pub is_above-one_more : (d : Reading) (p q : List ℕ) (m c u v : ℕ) → q ≡
 is_above-one_more d p q m c u v one_more before most =
     ap (λ l. is_above d l c) one_more ∙ is_above-push_any d p m c ∙ ap (λ b. b && nat_lt (d.class m) (d.class c)) before
     ∙ passes_both u (d.class m) (d.class c) ∙ ap (λ w. nat_le w (d.class c)) (sym most)
-
--- ---- those that are left
-
-pub drop-one_more : (xs zs : List ℕ) (m next : ℕ) → next ≤ length xs → zs ≡ xs ++ m ∷ [] → drop next zs ≡ drop next xs ++ m ∷ []
-drop-one_more xs zs m next given e = ap (drop next) e ∙ drop-append-le next xs (m ∷ []) given
 
 -- ---- a character is visited
 

@@ -1,232 +1,269 @@
 -- A starter and what follows it: the composition so far.
-use Rattle.std.proofs.Common.{◌≡◌, ℕ, ◌+◌, ◌≤◌, List, [], ◌∷◌, ◌++◌, length, Some, None, Ok, Err, refl, sym, ap, ◌∙◌, subst, arith, inl, inr, append-nil, length-append}
-use Rattle.normal_forms.specs.Reading.{Reading, IsStarter, IsMark}
+use Rattle.std.proofs.Common.{◌≡◌, ℕ, ◌≤◌, List, [], ◌∷◌, ◌++◌, length, Option, Some, None, Ok, IfSome, option_to_list, refl, sym, ap, ◌∙◌, subst, arith, append-nil}
+use Rattle.std.specs.Option.{ForSome}
+use Rattle.normal_forms.specs.Boundary.{BeginsAtBoundary, BeginsWithStarter}
+use Rattle.normal_forms.specs.Chunks.{BeginsChunk}
+use Rattle.normal_forms.specs.Forms.{nfd}
+use Rattle.normal_forms.specs.Reading.{Reading, IsStarter}
 use Rattle.normal_forms.specs.CompositionByStarters.{join, compose_after, compose_by_starters}
-use Rattle.normal_forms.specs.Boundary.{BeginsAtBoundary}
-use Rattle.normal_forms.specs.ShortRuns.{buffer_limit}
-use Rattle.normal_forms.proofs.composing.ComposeLemmas.{starter_or_mark, compose_after-nil, compose_after-join, compose_after-starter, compose_after-mark, compose_by_starters-nil}
+use Rattle.normal_forms.specs.ShortRuns.{HasShortRuns}
+use Rattle.normal_forms.proofs.composing.CompositionOfMarks.{is_above-nil}
+use Rattle.normal_forms.proofs.boundaries.ChunkLemmas.{nfd-chunk}
+use Rattle.normal_forms.proofs.composing.ComposeLemmas.{compose_after-nil, compose_after-join, compose_after-starter, compose_by_starters-nil, join-none}
 use Rattle.normalizer_text.specs.DecodingSteps.{Spells}
+use Rattle.normalizer_tables.specs.Characters.{Characters, has_class_form}
+use Rattle.normalizer_tables.specs.Pairs.{Pair}
+use Rattle.normalizer_tables.specs.Readings.{reading_by}
+use Rattle.normalizer_tables.specs.declared.characters.IgnoredCharacters.{IgnoredCharacters}
+use Rattle.normalizer_tables.specs.declared.characters.IgnoredCharacters.TheVariants.{Dropped}
 use Rattle.normalizer_iterators.specs.declared.decomposition.Decomposition.{Decomposition}
-use Rattle.normalizer_iterators.specs.declared.error.NormalizeError.{NormalizeError}
-use Rattle.normalizer_iterators.specs.declared.marks.StayingMarks.{StayingMarks}
+use Rattle.normalizer_iterators.specs.declared.pending.PendingChar.{PendingChar}
 use Rattle.normalizer_iterators.specs.DecompositionItems as decomposition
-use Rattle.normalizer_iterators.specs.Delegate.{Extent, MayYield, Source}
-use Rattle.normalizer_iterators.specs.MarkRuns.{leading_marks, HasShortMarkRuns}
-use Rattle.normalizer_iterators.specs.StayingMarks.{mark_count, staying_marks, BlocksBelow}
-use Rattle.normalizer_iterators.specs.Composing.{YieldsShort, ComposesStarter}
+use Rattle.normalizer_iterators.specs.DecompositionItems.{pending_of, reading_of}
+use Rattle.normalizer_iterators.specs.Delegate.{ComesAfter, Extent, MayYield, Source}
+use Rattle.normalizer_iterators.specs.Delegate.Extent.{so_far}
+use Rattle.normalizer_iterators.specs.Composing.{ComposesStarter}
+use Rattle.normalizer_iterators.specs.ComposingInPlace.{composed_before, ComposesInPlace}
+use Rattle.normalizer_iterators.specs.Reads.{character_of}
+use Rattle.normalizer_iterators.specs.ToCome.{IsToCome}
+use Rattle.normalizer_iterators.specs.WaitingList.{ordered_text, AgreesWith}
+use Rattle.normalizer_iterators.proofs.composing.MarkLemmas.{join-above}
 use Rattle.normalizer_iterators.proofs.items.DecompositionLemmas.{items_left-ended, nothing_comes}
-use Rattle.normalizer_iterators.proofs.items.LongRuns.{IsLong-ended, IsLongAfter-any, IsLongAfter-next, leading_fits, some_decomposed}
-use Rattle.normalizer_iterators.proofs.composing.MarkLemmas.{join-starter}
+use Rattle.normalizer_iterators.proofs.items.LongRuns.{IsLong-ended, IsLong-next}
+use Rattle.normalizer_iterators.proofs.items.ToComeLemmas.{begins_chunk, nfd-nil}
 use Rattle.normalizer_iterators.proofs.passthrough.PassthroughItemLemmas.{compose_after-boundary}
-use Rattle.normalizer_iterators.proofs.composing.DecomposedMarks.{leading_marks-mark, HasShortMarkRuns-leading, HasShortMarkRuns-tail}
 
--- the starter has become `composite`, and these marks stay after it
-pub record ComposedSoFar {I : Type 0} (from : Source I) (d : Reading) (starter : ℕ) (old : Decomposition I) (composite : ℕ)
-    (now : Decomposition I) (marks : StayingMarks) : Type 0 where
-  pub text : (all : List ℕ) → decomposition.WillYield (Spells from.next_gives) old all → (y : List ℕ)
-      × (compose_after d starter [] all ≡ compose_after d composite (staying_marks marks) y) × decomposition.WillYield (Spells from.next_gives) now y
-  pub came : (e : Extent) (y : List ℕ) → decomposition.WillYield (MayYield from.next_gives e) now y → (all : List ℕ) × decomposition.WillYield (MayYield from.next_gives e) old all
-      × (compose_after d starter [] all ≡ compose_after d composite (staying_marks marks) y)
-  pub short : YieldsShort from.next_gives d old → (h : YieldsShort from.next_gives d now) × (length (staying_marks marks) + leading_marks d h.unread ≤ buffer_limit)
-  pub long : decomposition.IsLongAfter from.next_gives d (length (staying_marks marks)) now → decomposition.IsLong from.next_gives d old
-  pub blocking : BlocksBelow d marks
-  pub in_use : mark_count marks ≡ length (staying_marks marks)
-  pub ready : decomposition.CanDecompose from.can_next from.remaining now
-  pub kept : now.characters ≡ old.characters
-  pub fewer : length (staying_marks marks) + decomposition.items_left from.remaining now ≤ decomposition.items_left from.remaining old
+-- ---- what is to come after what is buffered begins with a starter
 
-room_after_join : (d : Reading) (a : ℕ) (p : List ℕ) (c r : ℕ) (y : List ℕ) → join d a p c ≡ Some r → HasShortMarkRuns d y → length p + leading_marks d (c ∷ y) ≤ buffer_limit
-    → length p + leading_marks d y ≤ buffer_limit
-room_after_join d a p c r y joins short room =
-    elim (starter_or_mark d c) [
-      | inl starter ↦ omega (arith, HasShortMarkRuns-leading d y short, ap length (join-starter d a p c r starter joins))
-      | inr mark ↦ omega (arith, leading_marks-mark d c y mark)
-    ]
+begins_with_starter : (d : Reading) (x : List ℕ) → BeginsChunk d x → BeginsWithStarter d (nfd d x)
+begins_with_starter d [] begins = subst (BeginsWithStarter d) (sym (nfd-nil d)) tt
+begins_with_starter d (c ∷ x) begins =
+    subst (BeginsWithStarter d) (sym (ap (λ l. nfd d (c ∷ l)) (sym (append-nil x)) ∙ nfd-chunk d c begins.0 begins.1.0 x [] begins.1.1 begins.2 tt)) begins.2
 
-module _ {I : Type 0} (from : Source I) (d : Reading) where
-  -- the next character of a text with short runs
-  pub YieldsShort-next : (now : Decomposition I) (c : ℕ) (next : Decomposition I) → decomposition.DecompositionSteps from now (Some (Ok c)) next → (h : YieldsShort from.next_gives d now)
-      → (after : YieldsShort from.next_gives d next) × (h.unread ≡ c ∷ after.unread)
-  YieldsShort-next now c next step h =
-      let first = step.item.first h.unread h.source in (
-        record {
-          unread = first.0;
-          source = first.2;
-          short = (step.item.room h.short).1;
-          runs = HasShortMarkRuns-tail d c first.0 (subst (HasShortMarkRuns d) first.1 h.runs);
-        },
-        first.1,
+BeginsWithStarter-reading_by : (s : Characters) (ignored : IgnoredCharacters) (pairs : List Pair) (x : List ℕ) → BeginsWithStarter (reading_by s ignored []) x → BeginsWithStarter (reading_by s Dropped pairs) x
+BeginsWithStarter-reading_by s ignored pairs [] begins = tt
+BeginsWithStarter-reading_by s ignored pairs (c ∷ x) begins = begins
+
+if_some : (o : Option ℕ) (P : ℕ → Type 0) → ForSome o P → IfSome o P
+if_some None P h = tt
+if_some (Some c) P h = h c refl
+
+composed_before-some : (d : Reading) (a : ℕ) (x y : List ℕ) → (x ≡ [] → ⊥) → composed_before d a x y ≡ a ∷ compose_by_starters d y
+composed_before-some d a [] y some = absurd (some refl)
+composed_before-some d a (m ∷ x) y some = refl
+
+-- ---- a starter is composed with what is buffered after it
+
+module _ {I : Type 0} (pairs : List Pair) (n t : Decomposition I) (a r : ℕ) (text : ComposesInPlace pairs a n.waiting r t.waiting)
+    (kept : (t.characters ≡ n.characters) × (t.ignored ≡ n.ignored)) (unread : (t.pending ≡ n.pending) × (t.delegate ≡ n.delegate)) where
+  module _ (Comes : I → List ℕ → Type 0) (later : List ℕ) (source : ComesAfter Comes (pending_of n) n.delegate later) where
+    abbrev rest_of : List ℕ
+    rest_of = nfd (reading_of n) (option_to_list (pending_of n) ++ later)
+
+    composed : compose_after (reading_by n.characters Dropped pairs) a [] (ordered_text n.waiting ++ rest_of) ≡ composed_before (reading_by n.characters Dropped pairs) r (ordered_text t.waiting) (ordered_text t.waiting ++ rest_of)
+    unfolding AgreesWith
+    composed =
+        let x = option_to_list (pending_of n) ++ later in
+        let begins = begins_chunk (has_class_form n.characters) (reading_of n) n.suits Comes (pending_of n) n.delegate later (if_some (pending_of n) _ n.at_boundary) source in
+        text (reading_by n.characters Dropped pairs) rest_of (λ b c. refl) n.classes
+        (BeginsWithStarter-reading_by n.characters n.ignored pairs rest_of (begins_with_starter (reading_of n) x begins))
+
+  buffered : (Comes : I → List ℕ → Type 0) (y : List ℕ) → decomposition.WillYield Comes n y → (z : List ℕ)
+      × (compose_after (reading_by n.characters Dropped pairs) a [] y ≡ composed_before (reading_by n.characters Dropped pairs) r (ordered_text t.waiting) z) × decomposition.WillYield Comes t z
+  buffered Comes y h = (
+    ordered_text t.waiting ++ rest_of Comes h.unread h.source,
+    ap (compose_after (reading_by n.characters Dropped pairs) a []) h.text ∙ composed Comes h.unread h.source,
+    rw (kept.0, kept.1, unread.0, unread.1) (record { unread = h.unread; source = h.source; text = refl }),
+  )
+
+  buffered_back : (Comes : I → List ℕ → Type 0) (z : List ℕ) → decomposition.WillYield Comes t z → (y : List ℕ)
+      × decomposition.WillYield Comes n y × (compose_after (reading_by n.characters Dropped pairs) a [] y ≡ composed_before (reading_by n.characters Dropped pairs) r (ordered_text t.waiting) z)
+  buffered_back Comes z h =
+      let b : IsToCome Comes (nfd (reading_of n)) (pending_of n) n.delegate (ordered_text t.waiting) z = rw (kept.0, kept.1, unread.0, unread.1) at h in (
+        ordered_text n.waiting ++ rest_of Comes b.unread b.source,
+        record { unread = b.unread; source = b.source; text = refl },
+        composed Comes b.unread b.source ∙ ap (composed_before (reading_by n.characters Dropped pairs) r (ordered_text t.waiting)) (sym b.text),
       )
 
-  -- text with short runs brings no fault
-  pub YieldsShort-no_fault : (now : Decomposition I) (e : NormalizeError) (next : Decomposition I) → decomposition.DecompositionSteps from now (Some (Err e)) next → YieldsShort from.next_gives d now → ⊥
-  YieldsShort-no_fault now e next step h = cc (step.item.room h.short).0
+-- ---- the composition so far
 
-  pub ComposedSoFar-none : (starter : ℕ) (old : Decomposition I) (marks : StayingMarks) → staying_marks marks ≡ [] → mark_count marks ≡ 0 → BlocksBelow d marks → decomposition.CanDecompose from.can_next from.remaining old
-      → ComposedSoFar from d starter old starter old marks
-  ComposedSoFar-none starter old marks none unused blocking ready = record {
-    text = λ all h. (all, ap (λ p. compose_after d starter p all) (sym none), h);
-    came = λ e y h. (y, h, ap (λ p. compose_after d starter p y) (sym none));
-    short = λ h. (h, omega (arith, ap length none, HasShortMarkRuns-leading d h.unread h.runs));
-    long = λ h. subst (λ n. decomposition.IsLongAfter from.next_gives d n old) (ap length none) h;
-    blocking = blocking;
-    in_use = omega (arith, ap length none);
+-- the starter has become `composite`, and what is buffered doesn't join
+pub record ComposedSoFar {I : Type 0} (from : Source I) (d : Reading) (starter : ℕ) (old : Decomposition I) (composite : ℕ)
+    (now : Decomposition I) : Type 0 where
+  pub text : (all : List ℕ) → decomposition.WillYield (Spells from.next_gives) old all → (y : List ℕ)
+      × (compose_after d starter [] all ≡ composed_before d composite (ordered_text now.waiting) y) × decomposition.WillYield (Spells from.next_gives) now y
+  pub came : (e : Extent) (y : List ℕ) → decomposition.WillYield (MayYield from.next_gives e) now y → (all : List ℕ) × decomposition.WillYield (MayYield from.next_gives e) old all
+      × (compose_after d starter [] all ≡ composed_before d composite (ordered_text now.waiting) y)
+  pub short : decomposition.StaysShort from.next_gives old → decomposition.StaysShort from.next_gives now
+  pub long : decomposition.IsLong from.next_gives now → decomposition.IsLong from.next_gives old
+  pub ready : decomposition.CanDecompose from.can_next from.remaining now
+  pub kept : now.characters ≡ old.characters
+  pub fewer : decomposition.items_left from.remaining now ≤ decomposition.items_left from.remaining old
+
+-- the starter has become `a` by what came before n
+pub record JoinedSoFar {I : Type 0} (from : Source I) (d : Reading) (starter : ℕ) (old : Decomposition I) (a : ℕ) (n : Decomposition I) : Type 0 where
+  pub text : (all : List ℕ) → decomposition.WillYield (Spells from.next_gives) old all → (y : List ℕ)
+      × (compose_after d starter [] all ≡ compose_after d a [] y) × decomposition.WillYield (Spells from.next_gives) n y
+  pub came : (e : Extent) (y : List ℕ) → decomposition.WillYield (MayYield from.next_gives e) n y → (all : List ℕ) × decomposition.WillYield (MayYield from.next_gives e) old all
+      × (compose_after d starter [] all ≡ compose_after d a [] y)
+  pub short : decomposition.StaysShort from.next_gives old → decomposition.StaysShort from.next_gives n
+  pub long : decomposition.IsLong from.next_gives n → decomposition.IsLong from.next_gives old
+  pub ready : decomposition.CanDecompose from.can_next from.remaining n
+  pub kept : n.characters ≡ old.characters
+  pub fewer : decomposition.items_left from.remaining n ≤ decomposition.items_left from.remaining old
+
+module _ {I : Type 0} (from : Source I) where
+  pub JoinedSoFar-none : (d : Reading) (starter : ℕ) (old : Decomposition I) → decomposition.CanDecompose from.can_next from.remaining old → JoinedSoFar from d starter old starter old
+  JoinedSoFar-none d starter old ready = record {
+    text = λ all h. (all, refl, h);
+    came = λ e y h. (y, h, refl);
+    short = λ h. h;
+    long = λ h. h;
     ready = ready;
     kept = refl;
-    fewer = omega (arith, ap length none);
+    fewer = omega arith;
   }
 
-  pub ComposedSoFar-joined : (starter : ℕ) (old : Decomposition I) (composite : ℕ) (now : Decomposition I) (marks : StayingMarks) (c r : ℕ) (next : Decomposition I) (after : StayingMarks)
-      → ComposedSoFar from d starter old composite now marks → decomposition.DecompositionSteps from now (Some (Ok c)) next
-      → join d composite (staying_marks marks) c ≡ Some r → after ≡ marks → ComposedSoFar from d starter old r next after
-  ComposedSoFar-joined starter old composite now marks c r next after before step joins kept =
-      subst (ComposedSoFar from d starter old r next) (sym kept) (record {
-        text = λ all h.
-            let b = before.text all h in
-            let first = step.item.first b.0 b.2 in
-            (first.0, b.1 ∙ ap (compose_after d composite (staying_marks marks)) first.1 ∙ compose_after-join d composite (staying_marks marks) c r first.0 joins, first.2);
-        came = λ e y h.
-            let b = before.came e (c ∷ y) (step.came e y h) in
-            (b.0, b.1, b.2 ∙ compose_after-join d composite (staying_marks marks) c r y joins);
-        short = λ h.
-            let b = before.short h in
-            let n = YieldsShort-next now c next step b.0 in
-            (n.0, room_after_join d composite (staying_marks marks) c r n.0.unread joins n.0.runs (omega (arith, b.1, ap (leading_marks d) n.1)));
-        long = λ h.
-            before.long (IsLongAfter-next from d now c next step (length (staying_marks marks)) (length (staying_marks marks))
-            (λ y runs room. room_after_join d composite (staying_marks marks) c r y joins (HasShortMarkRuns-tail d c y runs) room) h);
-        blocking = before.blocking;
-        in_use = before.in_use;
-        ready = step.ready before.ready;
-        kept = step.kept.0 ∙ before.kept;
-        fewer = omega (arith, before.fewer, step.fewer);
-      })
-
-  pub ComposedSoFar-stays : (starter : ℕ) (old : Decomposition I) (composite : ℕ) (now : Decomposition I) (marks : StayingMarks) (c : ℕ) (next : Decomposition I) (after : StayingMarks)
-      → ComposedSoFar from d starter old composite now marks → decomposition.DecompositionSteps from now (Some (Ok c)) next
-      → join d composite (staying_marks marks) c ≡ None → IsMark d c → staying_marks after ≡ staying_marks marks ++ c ∷ []
-      → mark_count after ≡ mark_count marks + 1 → BlocksBelow d after → ComposedSoFar from d starter old composite next after
-  ComposedSoFar-stays starter old composite now marks c next after before step apart mark longer in_use blocking =
-      let one_more : length (staying_marks after) ≡ length (staying_marks marks) + 1 = ap length longer ∙ length-append (staying_marks marks) (c ∷ []) in
+  -- it is composed with what is buffered
+  pub ComposedSoFar-buffered : (pairs : List Pair) (starter : ℕ) (old : Decomposition I) (a r : ℕ) (n t : Decomposition I) → JoinedSoFar from (reading_by old.characters Dropped pairs) starter old a n
+      → ComposesInPlace pairs a n.waiting r t.waiting → length (ordered_text t.waiting) ≤ length (ordered_text n.waiting) → (t.characters ≡ n.characters) × (t.ignored ≡ n.ignored)
+      → (t.pending ≡ n.pending) × (t.delegate ≡ n.delegate) → ComposedSoFar from (reading_by old.characters Dropped pairs) starter old r t
+  ComposedSoFar-buffered pairs starter old a r n t before text fewer kept unread =
+      let same : reading_by n.characters Dropped pairs ≡ reading_by old.characters Dropped pairs = ap (λ k. reading_by k Dropped pairs) before.kept in
+      let IsComposed : List ℕ → List ℕ → Type 0
+      = λ y z. compose_after (reading_by old.characters Dropped pairs) a [] y ≡ composed_before (reading_by old.characters Dropped pairs) r (ordered_text t.waiting) z in
+      let by : (y z : List ℕ) → compose_after (reading_by n.characters Dropped pairs) a [] y ≡ composed_before (reading_by n.characters Dropped pairs) r (ordered_text t.waiting) z → IsComposed y z
+      = λ y z h. subst (λ d. compose_after d a [] y ≡ composed_before d r (ordered_text t.waiting) z) same h in
       record {
         text = λ all h.
             let b = before.text all h in
-            let first = step.item.first b.0 b.2 in (
-              first.0,
-              b.1 ∙ ap (compose_after d composite (staying_marks marks)) first.1 ∙ compose_after-mark d composite (staying_marks marks) c first.0 apart mark
-                  ∙ ap (λ p. compose_after d composite p first.0) (sym longer),
-              first.2,
-            );
-        came = λ e y h.
-            let b = before.came e (c ∷ y) (step.came e y h) in
-            (b.0, b.1, b.2 ∙ compose_after-mark d composite (staying_marks marks) c y apart mark ∙ ap (λ p. compose_after d composite p y) (sym longer));
-        short = λ h.
-            let b = before.short h in
-            let n = YieldsShort-next now c next step b.0 in
-            (n.0, omega (arith, b.1, ap (leading_marks d) n.1, leading_marks-mark d c n.0.unread mark));
-        long = λ h.
-            before.long (IsLongAfter-next from d now c next step (length (staying_marks marks)) (length (staying_marks after))
-            (λ y runs room. omega (arith, one_more, leading_marks-mark d c y mark)) h);
-        blocking = blocking;
-        in_use = omega (arith, before.in_use);
-        ready = step.ready before.ready;
-        kept = step.kept.0 ∙ before.kept;
-        fewer = omega (arith, before.fewer, step.fewer);
+            let on = buffered pairs n t a r text kept unread (Spells from.next_gives) b.0 b.2 in
+            (on.0, b.1 ∙ by b.0 on.0 on.1, on.2);
+        came = λ e z h.
+            let on = buffered_back pairs n t a r text kept unread (MayYield from.next_gives e) z h in
+            let b = before.came e on.0 on.1 in
+            (b.0, b.1, b.2 ∙ by on.0 z on.2);
+        short = λ h. rw (kept.0, kept.1, unread.0, unread.1) (before.short h);
+        long = λ h. before.long (long_before h);
+        ready = rw (unread.0, unread.1) before.ready;
+        kept = kept.0 ∙ before.kept;
+        fewer = omega (arith, before.fewer, left);
       }
+    where
+      long_before : decomposition.IsLong from.next_gives t → decomposition.IsLong from.next_gives n
+      long_before h =
+          let Q : Characters → IgnoredCharacters → Option PendingChar → I → Type 0
+          = λ k g p u. (comes : IsToCome (MayYield from.next_gives so_far) (nfd (reading_by k g [])) (character_of p) u (ordered_text t.waiting) h.out)
+          × (HasShortRuns (has_class_form k) (reading_by k g []) (option_to_list (character_of p) ++ comes.unread) → ⊥) in
+          let all : Q t.characters t.ignored t.pending t.delegate = (h.comes, h.long) in
+          let by_n : Q n.characters n.ignored n.pending n.delegate =
+          subst (λ k. Q k n.ignored n.pending n.delegate) kept.0
+          (subst (λ g. Q t.characters g n.pending n.delegate) kept.1
+          (subst (λ p. Q t.characters t.ignored p n.delegate) unread.0
+          (subst (λ u. Q t.characters t.ignored t.pending u) unread.1 all))) in
+          record {
+            out = ordered_text n.waiting ++ nfd (reading_of n) (option_to_list (pending_of n) ++ by_n.0.unread);
+            comes = record { unread = by_n.0.unread; source = by_n.0.source; text = refl };
+            long = by_n.1;
+          }
 
-  -- a mark for which there is no room comes after too many
-  pub ComposedSoFar-no_room : (starter : ℕ) (old : Decomposition I) (composite : ℕ) (now : Decomposition I) (marks : StayingMarks) (c : ℕ) (next : Decomposition I)
-      → ComposedSoFar from d starter old composite now marks → decomposition.DecompositionSteps from now (Some (Ok c)) next → IsMark d c → buffer_limit ≤ mark_count marks
-      → YieldsShort from.next_gives d old → ⊥
-  ComposedSoFar-no_room starter old composite now marks c next before step mark full h =
-      let b = before.short h in
-      let n = YieldsShort-next now c next step b.0 in
-      omega (arith, before.in_use, b.1, ap (leading_marks d) n.1, leading_marks-mark d c n.0.unread mark)
+      left : decomposition.items_left from.remaining t ≤ decomposition.items_left from.remaining n
+      left = rw (unread.0, unread.1) (omega (arith, fewer))
 
-  pub ComposedSoFar-long : (starter : ℕ) (old : Decomposition I) (composite : ℕ) (now : Decomposition I) (marks : StayingMarks) (c : ℕ) (next : Decomposition I)
-      → ComposedSoFar from d starter old composite now marks → decomposition.DecompositionSteps from now (Some (Ok c)) next → IsMark d c → buffer_limit ≤ mark_count marks
-      → decomposition.IsLong from.next_gives d old
-  ComposedSoFar-long starter old composite now marks c next before step mark full =
-      let more = some_decomposed from next in
-      let come = step.long more.0 more.1 in
-      before.long (record { out = c ∷ more.0; comes = come.0; long = λ short runs room. omega (arith, before.in_use, leading_marks-mark d c more.0 mark) })
+  module _ (d : Reading) (starter : ℕ) (old : Decomposition I) (composite : ℕ) (now : Decomposition I) (before : ComposedSoFar from d starter old composite now) where
+    -- what is buffered doesn't join
+    pub ComposesStarter-buffered : (ordered_text now.waiting ≡ [] → ⊥) → ComposesStarter from.next_gives from.remaining d starter old composite None now
+    ComposesStarter-buffered some = record {
+      text = λ all h.
+          let b = before.text all h in
+          (compose_by_starters d b.0, b.1 ∙ composed_before-some d composite (ordered_text now.waiting) b.0 some, record { unread = b.0; source = b.2; text = refl });
+      came = λ e rest h.
+          let b = before.came e h.unread h.source in
+          (b.0, b.1, b.2 ∙ composed_before-some d composite (ordered_text now.waiting) h.unread some ∙ ap (λ l. composite ∷ l) (sym h.text));
+      short = before.short;
+      long = before.long;
+      fewer = before.fewer;
+    }
 
-  -- a fault comes of runs that aren't short
-  pub ComposedSoFar-fault : (starter : ℕ) (old : Decomposition I) (composite : ℕ) (now : Decomposition I) (marks : StayingMarks) (e : NormalizeError) (next : Decomposition I)
-      → ComposedSoFar from d starter old composite now marks → decomposition.DecompositionSteps from now (Some (Err e)) next → decomposition.IsLong from.next_gives d old
-  ComposedSoFar-fault starter old composite now marks e next before step = before.long (IsLongAfter-any from d now (length (staying_marks marks)) (step.long d))
+    -- nothing is buffered
+    module _ (none : ordered_text now.waiting ≡ []) where
+      open_after : (y : List ℕ) → composed_before d composite (ordered_text now.waiting) y ≡ compose_after d composite [] y
+      open_after y = ap (λ l. composed_before d composite l y) none
 
-  pub ComposesStarter-starts : (starter : ℕ) (old : Decomposition I) (composite : ℕ) (now : Decomposition I) (marks : StayingMarks) (c : ℕ) (next : Decomposition I) (after : StayingMarks)
-      → ComposedSoFar from d starter old composite now marks → decomposition.DecompositionSteps from now (Some (Ok c)) next
-      → join d composite (staying_marks marks) c ≡ None → IsStarter d c → after ≡ marks
-      → ComposesStarter from.next_gives from.remaining d starter old composite (staying_marks after) (Some c) next
-  ComposesStarter-starts starter old composite now marks c next after before step apart starts kept =
-      subst (λ m. ComposesStarter from.next_gives from.remaining d starter old composite (staying_marks m) (Some c) next) (sym kept) (record {
+      pub JoinedSoFar-next : (c r : ℕ) (next : Decomposition I) → decomposition.DecompositionSteps from now (Some (Ok c)) next → d.pair composite c ≡ Some r → JoinedSoFar from d starter old r next
+      JoinedSoFar-next c r next step pair =
+          let joins : join d composite [] c ≡ Some r = join-above d composite [] c (is_above-nil d c) ∙ pair in
+          record {
+            text = λ all h.
+                let b = before.text all h in
+                let first = step.item.first b.0 b.2 in
+                (first.0, b.1 ∙ open_after b.0 ∙ ap (compose_after d composite []) first.1 ∙ compose_after-join d composite [] c r first.0 joins, first.2);
+            came = λ e y h.
+                let b = before.came e (c ∷ y) (step.came e y h) in
+                (b.0, b.1, b.2 ∙ open_after (c ∷ y) ∙ compose_after-join d composite [] c r y joins);
+            short = λ h. (step.item.room (before.short h)).1;
+            long = λ h. before.long (IsLong-next from now c next step h);
+            ready = step.ready before.ready;
+            kept = step.kept.0 ∙ before.kept;
+            fewer = omega (arith, before.fewer, step.fewer);
+          }
+
+      pub ComposesStarter-starts : (c : ℕ) (next : Decomposition I) → decomposition.DecompositionSteps from now (Some (Ok c)) next → d.pair composite c ≡ None → IsStarter d c
+          → ComposesStarter from.next_gives from.remaining d starter old composite (Some c) next
+      ComposesStarter-starts c next step pair starts =
+          let apart = join-none d composite [] c pair in
+          record {
+            text = λ all h.
+                let b = before.text all h in
+                let first = step.item.first b.0 b.2 in (
+                  compose_after d c [] first.0,
+                  b.1 ∙ open_after b.0 ∙ ap (compose_after d composite []) first.1 ∙ compose_after-starter d composite [] c first.0 apart starts,
+                  record { unread = first.0; source = first.2; text = refl },
+                );
+            came = λ e rest h.
+                let b = before.came e (c ∷ h.unread) (step.came e h.unread h.source) in
+                (b.0, b.1, b.2 ∙ open_after (c ∷ h.unread) ∙ compose_after-starter d composite [] c h.unread apart starts ∙ ap (λ l. composite ∷ l) (sym h.text));
+            short = λ h. (step.item.room (before.short h)).1;
+            long = λ h. before.long (IsLong-next from now c next step h);
+            fewer = omega (arith, before.fewer, step.fewer);
+          }
+
+      -- nothing is to come
+      pub ComposesStarter-ends : (next : Decomposition I) → decomposition.DecompositionSteps from now None next → ComposesStarter from.next_gives from.remaining d starter old composite None next
+      ComposesStarter-ends next step = record {
         text = λ all h.
             let b = before.text all h in
-            let first = step.item.first b.0 b.2 in (
-              staying_marks marks ++ compose_after d c [] first.0,
-              b.1 ∙ ap (compose_after d composite (staying_marks marks)) first.1 ∙ compose_after-starter d composite (staying_marks marks) c first.0 apart starts,
-              record { unread = first.0; source = first.2; text = refl },
+            let end = step.item.first b.0 b.2 in (
+              [],
+              b.1 ∙ open_after b.0 ∙ ap (compose_after d composite []) end.0 ∙ compose_after-nil d composite [],
+              record { unread = []; source = end.1; text = sym (compose_by_starters-nil d) },
             );
         came = λ e rest h.
-            let b = before.came e (c ∷ h.unread) (step.came e h.unread h.source) in (
+            let b = before.came e [] (step.came e) in
+            let nothing : h.unread ≡ [] = nothing_comes from (MayYield from.next_gives e) next h.unread step.item.ends h.source in
+            (b.0, b.1, b.2 ∙ open_after [] ∙ compose_after-nil d composite [] ∙ ap (λ l. composite ∷ l) (sym (h.text ∙ ap (compose_by_starters d) nothing ∙ compose_by_starters-nil d)));
+        short = λ h. (step.item.room (before.short h)).1;
+        long = λ h. absurd (IsLong-ended from next step.item.ends h);
+        fewer = omega (arith, before.fewer, items_left-ended from next step.item.ends);
+      }
+
+      -- what begins at a boundary is not composed with what comes before it
+      pub ComposesStarter-passes : ((Comes : I → List ℕ → Type 0) (y : List ℕ) → decomposition.WillYield Comes now y → BeginsAtBoundary d y)
+          → ComposesStarter from.next_gives from.remaining d starter old composite None now
+      ComposesStarter-passes begins = record {
+        text = λ all h.
+            let b = before.text all h in (
+              compose_by_starters d b.0,
+              b.1 ∙ open_after b.0 ∙ compose_after-boundary d composite [] b.0 (begins (Spells from.next_gives) b.0 b.2),
+              record { unread = b.0; source = b.2; text = refl },
+            );
+        came = λ e rest h.
+            let b = before.came e h.unread h.source in (
               b.0,
               b.1,
-              b.2 ∙ compose_after-starter d composite (staying_marks marks) c h.unread apart starts ∙ ap (λ l. composite ∷ l) (sym h.text),
+              b.2 ∙ open_after h.unread ∙ compose_after-boundary d composite [] h.unread (begins (MayYield from.next_gives e) h.unread h.source) ∙ ap (λ l. composite ∷ l) (sym h.text),
             );
-        short = λ h. (YieldsShort-next now c next step (before.short h).0).0;
-        long = λ h. before.long (IsLongAfter-next from d now c next step (length (staying_marks marks)) 0 (leading_fits from d (length (staying_marks marks)) c) h);
-        fewer = omega (arith, before.fewer, step.fewer);
-      })
-
-  -- nothing is to come
-  pub YieldsShort-end : (now next : Decomposition I) → decomposition.DecompositionSteps from now None next → YieldsShort from.next_gives d now → YieldsShort from.next_gives d next
-  YieldsShort-end now next step h =
-      let end = step.item.first h.unread h.source in
-      record { unread = []; source = end.1; short = (step.item.room h.short).1; runs = subst (HasShortMarkRuns d) end.0 h.runs }
-
-  pub ComposesStarter-ends : (starter : ℕ) (old : Decomposition I) (composite : ℕ) (now : Decomposition I) (marks : StayingMarks) (next : Decomposition I)
-      → ComposedSoFar from d starter old composite now marks → decomposition.DecompositionSteps from now None next
-      → ComposesStarter from.next_gives from.remaining d starter old composite (staying_marks marks) None next
-  ComposesStarter-ends starter old composite now marks next before step = record {
-    text = λ all h.
-        let b = before.text all h in
-        let end = step.item.first b.0 b.2 in (
-          staying_marks marks,
-          b.1 ∙ ap (compose_after d composite (staying_marks marks)) end.0 ∙ compose_after-nil d composite (staying_marks marks),
-          record { unread = []; source = end.1; text = sym (ap (λ l. staying_marks marks ++ l) (compose_by_starters-nil d) ∙ append-nil (staying_marks marks)) },
-        );
-    came = λ e rest h.
-        let b = before.came e [] (step.came e) in
-        let none : h.unread ≡ [] = nothing_comes from (MayYield from.next_gives e) next h.unread step.item.ends h.source in (
-          b.0,
-          b.1,
-          b.2 ∙ compose_after-nil d composite (staying_marks marks) ∙ ap (λ l. composite ∷ l)
-              (sym (h.text ∙ ap (λ y. staying_marks marks ++ compose_by_starters d y) none ∙ ap (λ l. staying_marks marks ++ l) (compose_by_starters-nil d) ∙ append-nil (staying_marks marks))),
-        );
-    short = λ h. YieldsShort-end now next step (before.short h).0;
-    long = λ h. absurd (IsLong-ended from d next step.item.ends h);
-    fewer = omega (arith, before.fewer, items_left-ended from next step.item.ends);
-  }
-
-  -- what begins at a boundary is not composed with what comes before it
-  pub ComposesStarter-passes : (starter : ℕ) (old : Decomposition I) (composite : ℕ) (now : Decomposition I) (marks : StayingMarks) → ComposedSoFar from d starter old composite now marks
-      → ((Comes : I → List ℕ → Type 0) (y : List ℕ) → decomposition.WillYield Comes now y → BeginsAtBoundary d y) → ComposesStarter from.next_gives from.remaining d starter old composite (staying_marks marks) None now
-  ComposesStarter-passes starter old composite now marks before begins = record {
-    text = λ all h.
-        let b = before.text all h in (
-          staying_marks marks ++ compose_by_starters d b.0,
-          b.1 ∙ compose_after-boundary d composite (staying_marks marks) b.0 (begins (Spells from.next_gives) b.0 b.2),
-          record { unread = b.0; source = b.2; text = refl },
-        );
-    came = λ e rest h.
-        let b = before.came e h.unread h.source in (
-          b.0,
-          b.1,
-          b.2 ∙ compose_after-boundary d composite (staying_marks marks) h.unread (begins (MayYield from.next_gives e) h.unread h.source) ∙ ap (λ l. composite ∷ l) (sym h.text),
-        );
-    short = λ h. (before.short h).0;
-    long = λ h. before.long (IsLongAfter-any from d now (length (staying_marks marks)) h);
-    fewer = before.fewer;
-  }
+        short = before.short;
+        long = before.long;
+        fewer = before.fewer;
+      }

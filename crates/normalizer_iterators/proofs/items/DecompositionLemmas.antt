@@ -2,7 +2,6 @@
 use Rattle.std.proofs.Common.{◌≡◌, ℕ, ◌+◌, ◌*◌, List, [], ◌∷◌, ◌++◌, length, option_to_list, refl, ap, ◌∙◌, subst, arith, sym, Option, Some, None, IfSome, IfOk, IfErr, Ok, Err, Result}
 use Rattle.std.specs.Iterator.{Count, size, IsFinite}
 use Rattle.normal_forms.specs.Forms.{nfd}
-use Rattle.normal_forms.specs.Reading.{Reading}
 use Rattle.normal_forms.specs.ShortRuns.{HasShortRuns}
 use Rattle.normalizer_text.specs.DecodingSteps.{Spells}
 use Rattle.normalizer_tables.specs.Characters.{Characters, class_of, has_class_form}
@@ -158,8 +157,8 @@ module _ {I : Type 0} (from : Source I) where
         )
 
     -- it didn't fit
-    long_chunk_to_come : ChunkDidNotFit from.next_gives (has_class_form s.characters) (reading_of s) c s.delegate → (d : Reading) → IsLong from.next_gives d s
-    long_chunk_to_come long d =
+    long_chunk_to_come : ChunkDidNotFit from.next_gives (has_class_form s.characters) (reading_of s) c s.delegate → IsLong from.next_gives s
+    long_chunk_to_come long =
         let f = has_class_form s.characters in
         let e = reading_of s in
         let Q : Option ℕ → Type 0
@@ -171,7 +170,7 @@ module _ {I : Type 0} (from : Source I) where
           long_chunk from f e c s.delegate (s.at_boundary c pending) long,
         ) in
         let h : Q (pending_of s) = subst Q (sym pending) base in
-        record { out = h.0; comes = h.1; long = λ short marks room. h.2 short }
+        record { out = h.0; comes = h.1; long = h.2 }
 
     pub Steps-chunk : (t : Decomposition I) (first : ℕ) → t.characters ≡ s.characters → t.ignored ≡ s.ignored
         → ReadsChunk from (has_class_form s.characters) (reading_of s) c s.delegate first (pending_of t) t.delegate t.waiting → DecompositionSteps from s (Some (Ok first)) t

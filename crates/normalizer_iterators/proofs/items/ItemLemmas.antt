@@ -9,7 +9,6 @@ use Rattle.normalizer_text.specs.DecodingSteps.{Spells}
 use Rattle.normalizer_iterators.specs.DecompositionItems.{WillYield, StaysShort, IsEnded, IsLong, DecompositionSteps}
 use Rattle.normalizer_iterators.specs.CompositionItems as composition
 use Rattle.normalizer_iterators.specs.CompositionItems.{CompositionSteps, pairing_by}
-use Rattle.normalizer_iterators.specs.StayingMarks.{staying_marks}
 use Rattle.normalizer_iterators.specs.declared.composition.Composition.{Composition}
 use Rattle.normalizer_iterators.specs.declared.decomposition.Decomposition.{Decomposition}
 use Rattle.normalizer_iterators.specs.declared.error.NormalizeError.{NormalizeError}
@@ -185,17 +184,15 @@ module _ {I S : Type 0} (source_gives : I → Option ℕ → I → Type 0) (MayC
 module _ {I : Type 0} (from : Source I) where
   some_composed : (s : Composition I) → (out : List ℕ) × composition.WillYield (MayYield from.next_gives so_far) s out
   some_composed s =
-      let y = some_decomposed from s.decomposed in (
-        staying_marks s.marks ++ composed_ahead (pairing_by s) s.ahead y.0,
-        record { unread = y.0; source = y.1; text = refl },
-      )
+      let y = some_decomposed from s.decomposed in
+      (composed_ahead (pairing_by s) s.ahead y.0, record { unread = y.0; source = y.1; text = refl })
 
-  pub YieldsFormOfRun-decomposition : (e : Reading) (f : ℕ → Bool) (d : Reading) (form : List ℕ → List ℕ) (source : I) (it : Decomposition I)
-      → IsFormOfSource from.next_gives (λ e. WillYield (MayYield from.next_gives e)) form source it → (IsLong from.next_gives e it → HasYieldedLong from.next_gives f d source)
+  pub YieldsFormOfRun-decomposition : (f : ℕ → Bool) (d : Reading) (form : List ℕ → List ℕ) (source : I) (it : Decomposition I)
+      → IsFormOfSource from.next_gives (λ e. WillYield (MayYield from.next_gives e)) form source it → (IsLong from.next_gives it → HasYieldedLong from.next_gives f d source)
       → YieldsFormOfRun from.next_gives (DecompositionSteps from) f d form source it
-  YieldsFormOfRun-decomposition e =
+  YieldsFormOfRun-decomposition =
       YieldsFormOfRun-made from.next_gives (λ e. WillYield (MayYield from.next_gives e)) (WillYield (Spells from.next_gives)) (StaysShort from.next_gives) IsEnded (DecompositionSteps from)
-      (λ s r t step. step.item) (λ s r t step. step.came) (IsLong from.next_gives e) (ComesOfLong-decomposition from e) (some_decomposed from)
+      (λ s r t step. step.item) (λ s r t step. step.came) (IsLong from.next_gives) (ComesOfLong-decomposition from) (some_decomposed from)
 
   pub YieldsFormOfRun-composition : (f : ℕ → Bool) (d : Reading) (form : List ℕ → List ℕ) (source : I) (it : Composition I)
       → IsFormOfSource from.next_gives (λ e. composition.WillYield (MayYield from.next_gives e)) form source it → (composition.IsLong from.next_gives it → HasYieldedLong from.next_gives f d source)

@@ -1,23 +1,16 @@
 -- Runs that aren't short, from one step of a decomposition to the one before.
-use Rattle.std.proofs.Common.{◌≡◌, ℕ, ◌+◌, ◌≤◌, Bool, List, [], ◌∷◌, ◌++◌, Option, Some, None, Result, Ok, Err, option_to_list, refl, sym, subst, arith}
+use Rattle.std.proofs.Common.{◌≡◌, ℕ, Bool, List, [], ◌∷◌, ◌++◌, Option, Some, None, Result, Ok, Err, option_to_list, refl, sym, subst, arith}
 use Rattle.normal_forms.specs.Forms.{nfd}
 use Rattle.normal_forms.specs.Reading.{Reading}
-use Rattle.normal_forms.specs.ShortRuns.{buffer_limit, leading_length, HasShortChunks, HasShortRuns}
+use Rattle.normal_forms.specs.ShortRuns.{leading_length, HasShortChunks, HasShortRuns}
 use Rattle.normalizer_tables.specs.Characters.{has_class_form}
 use Rattle.normalizer_iterators.specs.declared.decomposition.Decomposition.{Decomposition}
 use Rattle.normalizer_iterators.specs.declared.error.NormalizeError.{NormalizeError}
-use Rattle.normalizer_iterators.specs.DecompositionItems.{DecompositionSteps, IsEnded, IsLong, IsLongAfter, WillYield, pending_of, reading_of}
+use Rattle.normalizer_iterators.specs.DecompositionItems.{DecompositionSteps, IsEnded, IsLong, WillYield, pending_of, reading_of}
 use Rattle.normalizer_iterators.specs.Delegate.{ComesAfter, MayYield, Source}
 use Rattle.normalizer_iterators.specs.Delegate.Extent.{so_far}
-use Rattle.normalizer_iterators.specs.MarkRuns.{leading_marks, HasShortMarkRuns}
 use Rattle.normalizer_iterators.specs.NextItem.{ComesOfLong}
 use Rattle.normalizer_iterators.specs.WaitingList.{ordered_text}
-use Rattle.normalizer_iterators.proofs.composing.DecomposedMarks.{HasShortMarkRuns-leading, HasShortMarkRuns-tail}
-use Rattle.normalizer_iterators.proofs.items.DecompositionLemmas.{nothing_comes}
-
-nothing_is_short : (d : Reading) → HasShortMarkRuns d []
-unfolding HasShortMarkRuns
-nothing_is_short d = tt
 
 HasShortRuns-nil : (f : ℕ → Bool) (d : Reading) → HasShortRuns f d []
 unfolding leading_length HasShortChunks
@@ -39,36 +32,19 @@ module _ {I : Type 0} (from : Source I) where
     record { unread = []; source = behind_may_come (pending_of s) s.delegate; text = refl },
   )
 
-  module _ (d : Reading) where
-    -- the character that came is one more mark of a run, or another begins with it
-    pub IsLongAfter-next : (now : Decomposition I) (c : ℕ) (next : Decomposition I) → DecompositionSteps from now (Some (Ok c)) next → (n m : ℕ)
-        → ((y : List ℕ) → HasShortMarkRuns d (c ∷ y) → n + leading_marks d (c ∷ y) ≤ buffer_limit → m + leading_marks d y ≤ buffer_limit)
-        → IsLongAfter from.next_gives d m next → IsLongAfter from.next_gives d n now
-    IsLongAfter-next now c next step n m fits h =
-        let before = step.long h.out h.comes in
-        record { out = c ∷ h.out; comes = before.0; long = λ short marks room. h.long (before.1 short) (HasShortMarkRuns-tail d c h.out marks) (fits h.out marks room) }
+  -- after the character that came
+  pub IsLong-next : (now : Decomposition I) (c : ℕ) (next : Decomposition I) → DecompositionSteps from now (Some (Ok c)) next → IsLong from.next_gives next → IsLong from.next_gives now
+  IsLong-next now c next step h =
+      let before = step.long h.out h.comes in
+      record { out = c ∷ h.out; comes = before.0; long = λ short. h.long (before.1 short) }
 
-    pub leading_fits : (n c : ℕ) (y : List ℕ) → HasShortMarkRuns d (c ∷ y) → n + leading_marks d (c ∷ y) ≤ buffer_limit → 0 + leading_marks d y ≤ buffer_limit
-    leading_fits n c y short room = omega (arith, HasShortMarkRuns-leading d y (HasShortMarkRuns-tail d c y short))
+  -- nothing is long
+  pub IsLong-ended : (now : Decomposition I) → IsEnded now → IsLong from.next_gives now → ⊥
+  IsLong-ended now ended h =
+      h.long (subst (HasShortRuns (has_class_form now.characters) (reading_of now)) (sym (nothing_behind (pending_of now) now.delegate h.comes.unread ended.0 h.comes.source))
+      (HasShortRuns-nil (has_class_form now.characters) (reading_of now)))
 
-    pub IsLong-next : (now : Decomposition I) (c : ℕ) (next : Decomposition I) → DecompositionSteps from now (Some (Ok c)) next → IsLong from.next_gives d next → IsLong from.next_gives d now
-    IsLong-next now c next step h = IsLongAfter-next now c next step 0 0 (leading_fits 0 c) h
-
-    -- what is long by itself is so after marks
-    pub IsLongAfter-any : (now : Decomposition I) (n : ℕ) → IsLong from.next_gives d now → IsLongAfter from.next_gives d n now
-    IsLongAfter-any now n h =
-        record { out = h.out; comes = h.comes; long = λ short marks room. h.long short marks (omega (arith, HasShortMarkRuns-leading d h.out marks)) }
-
-    -- nothing is long
-    pub IsLong-ended : (now : Decomposition I) → IsEnded now → IsLong from.next_gives d now → ⊥
-    IsLong-ended now ended h =
-        let none = nothing_comes from (MayYield from.next_gives so_far) now h.out ended h.comes in
-        let marks : HasShortMarkRuns d h.out = subst (HasShortMarkRuns d) (sym none) (nothing_is_short d) in
-        let short = subst (HasShortRuns (has_class_form now.characters) (reading_of now)) (sym (nothing_behind (pending_of now) now.delegate h.comes.unread ended.0 h.comes.source))
-        (HasShortRuns-nil (has_class_form now.characters) (reading_of now)) in
-        h.long short marks (omega (arith, HasShortMarkRuns-leading d h.out marks))
-
-    pub ComesOfLong-decomposition : (s : Decomposition I) (r : Option (Result ℕ NormalizeError)) (t : Decomposition I) → DecompositionSteps from s r t → ComesOfLong (IsLong from.next_gives d) s r t
-    ComesOfLong-decomposition s None t step = tt
-    ComesOfLong-decomposition s (Some (Ok c)) t step = IsLong-next s c t step
-    ComesOfLong-decomposition s (Some (Err e)) t step = step.long d
+  pub ComesOfLong-decomposition : (s : Decomposition I) (r : Option (Result ℕ NormalizeError)) (t : Decomposition I) → DecompositionSteps from s r t → ComesOfLong (IsLong from.next_gives) s r t
+  ComesOfLong-decomposition s None t step = tt
+  ComesOfLong-decomposition s (Some (Ok c)) t step = IsLong-next s c t step
+  ComesOfLong-decomposition s (Some (Err e)) t step = step.long

@@ -100,14 +100,11 @@ module _ {I : Type 0} (from : Source I) (f : ℕ → Bool) (d : Reading) where
   -- runs that aren't short were in what the delegate yielded, from its start on
   pub HasYieldedLong-start : SuitsLazyReading f d → (delegate u : I) (w b : WaitingList) (pending : Option ℕ) (out : List ℕ) → ordered_text w ≡ [] → unordered_text w ≡ []
       → ReadsOn from f d delegate w pending u b → (h : IsToCome (MayYield from.next_gives so_far) (nfd d) pending u (ordered_text b) out)
-      → ((x : List ℕ) → out ≡ nfd d x → HasShortRuns f d x → HasShortRuns f d (option_to_list pending ++ h.unread) → ⊥) → HasYieldedLong from.next_gives f d delegate
+      → (HasShortRuns f d (option_to_list pending ++ h.unread) → ⊥) → HasYieldedLong from.next_gives f d delegate
   HasYieldedLong-start suits delegate u w b pending out front open_marks r h long =
       let behind = option_to_list pending ++ h.unread in
       let all = MayYield-then from.next_gives so_far delegate r.read pending u h.unread r.run h.source in
-      let text : out ≡ nfd d (r.read ++ behind) =
-      h.text ∙ sym (nfd-before_chunk d r.read behind (begins_chunk f d suits (MayYield from.next_gives so_far) pending u h.unread r.at_boundary h.source)
-      ∙ ap (λ l. l ++ nfd d behind) (sym (r.text ∙ reordered-nothing d w (expand d r.read) front open_marks))) in
-      (r.read ++ behind, all.0, all.1, λ short. long (r.read ++ behind) text short (HasShortRuns-rest f d r.read behind short))
+      (r.read ++ behind, all.0, all.1, λ short. long (HasShortRuns-rest f d r.read behind short))
 
   pub AreShortToCome-start : (delegate u : I) (w b : WaitingList) (pending : Option ℕ) (x : List ℕ) → ReadsOn from f d delegate w pending u b → Spells from.next_gives delegate x
       → HasShortRuns f d x → AreShortToCome from.next_gives f d pending u

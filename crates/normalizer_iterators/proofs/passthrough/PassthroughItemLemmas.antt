@@ -1,5 +1,5 @@
 -- Characters that a composing loop passes, in a text that is decomposed.
-use Rattle.std.proofs.Common.{◌≡◌, ℕ, ◌+◌, ◌*◌, ◌<◌, ◌≤◌, Bool, false, List, [], ◌∷◌, ◌++◌, length, refl, sym, ap, ◌∙◌, subst, arith, Option, Some, None, OnSome, MatchOption, option_to_list, Result, Ok, Err}
+use Rattle.std.proofs.Common.{◌≡◌, ℕ, ◌+◌, ◌*◌, ◌<◌, Bool, false, List, [], ◌∷◌, ◌++◌, length, refl, sym, ap, ◌∙◌, subst, arith, Option, Some, None, OnSome, MatchOption, option_to_list, Result, Ok, Err}
 use Rattle.std.proofs.Common.{append-nil}
 use Rattle.std.specs.Option.{ForSome}
 use Rattle.std.specs.Iterator.{size, IsFinite}
@@ -13,7 +13,7 @@ use Rattle.normal_forms.specs.ShortRuns.{continues}
 use Rattle.normal_forms.proofs.boundaries.BoundaryLemmas.{nfd-boundary, BeginsWithStarter-from_safely, BeginsAtBoundary-order, BeginsAtBoundary-expand, composed_form-boundary}
 use Rattle.normal_forms.proofs.boundaries.ChunkLemmas.{HasShortRuns-rest}
 use Rattle.normal_forms.proofs.composing.ComposeLemmas.{composed_form, join-none, compose_after-nil, compose_after-starter, compose_by_starters-nil, compose_by_starters-starter}
-use Rattle.normal_forms.specs.ShortRuns.{buffer_limit, HasShortRuns}
+use Rattle.normal_forms.specs.ShortRuns.{HasShortRuns}
 use Rattle.normalizer_text.specs.DecodingSteps.{Spells}
 use Rattle.normalizer_tables.specs.declared.characters.IgnoredCharacters.{IgnoredCharacters}
 use Rattle.normalizer_tables.specs.declared.condition.Bounds.{Bounds}
@@ -28,8 +28,6 @@ use Rattle.normalizer_iterators.specs.declared.error.NormalizeError.{NormalizeEr
 use Rattle.normalizer_iterators.specs.Delegate.{ComesAfter, Extent, IsReadyAfter, MayYield, SpellsAfter, Source}
 use Rattle.normalizer_iterators.specs.DecompositionItems.{IsLong, StaysShort, WillYield, pending_of, reading_of}
 use Rattle.normalizer_iterators.specs.Delegate.Extent.{so_far}
-use Rattle.normalizer_iterators.specs.MarkRuns.{leading_marks, HasShortMarkRuns}
-use Rattle.normalizer_iterators.proofs.composing.DecomposedMarks.{HasShortMarkRuns-leading, HasShortMarkRuns-rest}
 use Rattle.normalizer_iterators.specs.LazyComposing.{IsComposingPassthrough, IsNormalizedApart, IsNormalizedApartIn, PassthroughHasBoundaries, SuitsLazyComposing}
 use Rattle.normalizer_iterators.specs.LazyReading.{longest_list}
 use Rattle.normalizer_iterators.specs.inner.PassthroughItems.{IfComposingPassthrough, PassthroughIsNext, IsAtPassthrough, YieldsPassthrough, YieldsItself, YieldsStarter}
@@ -185,15 +183,13 @@ module _ {I : Type 0} (from : Source I) (pairs : List Pair) (s : Decomposition I
                 ∙ ap (λ l. c ∷ compose_by_starters R l) (sym h.text),
           )
 
-      long_to_come : IsLong from.next_gives (reading_by s.characters Dropped pairs) t → IsLong from.next_gives (reading_by s.characters Dropped pairs) s
+      long_to_come : IsLong from.next_gives t → IsLong from.next_gives s
       long_to_come h =
           let f = has_class_form s.characters in
           let d = reading_of s in
-          let D = reading_by s.characters s.ignored pairs in
-          let R = reading_by s.characters Dropped pairs in
           let Q : Characters → IgnoredCharacters → Option ℕ → List ℕ → Type 0
           = λ k g o w. (out : List ℕ) × (comes : IsToCome (MayYield from.next_gives so_far) (nfd (reading_by k g [])) o t.delegate w out)
-          × (HasShortRuns (has_class_form k) (reading_by k g []) (option_to_list o ++ comes.unread) → HasShortMarkRuns R out → 0 + leading_marks R out ≤ buffer_limit → ⊥) in
+          × (HasShortRuns (has_class_form k) (reading_by k g []) (option_to_list o ++ comes.unread) → ⊥) in
           let all : Q t.characters t.ignored (pending_of t) (ordered_text t.waiting) = (h.out, h.comes, h.long) in
           let by_s : Q s.characters s.ignored following [] =
           subst (λ k. Q k s.ignored following []) characters
@@ -202,26 +198,19 @@ module _ {I : Type 0} (from : Source I) (pairs : List Pair) (s : Decomposition I
           (subst (λ w. Q t.characters t.ignored (pending_of t) w) empty all))) in
           let comes = by_s.1 in
           let rest = option_to_list following ++ comes.unread in
-          let begins = begins_apart (MayYield from.next_gives so_far) s.characters pairs s.ignored following t.delegate comes.unread apart comes.source in
-          let split : nfd d (c ∷ rest) ≡ nfd d (c ∷ []) ++ nfd d rest =
-          sym (nfd-reading_by s.characters s.ignored pairs (c ∷ rest)) ∙ nfd-boundary D (c ∷ []) rest (BeginsWithStarter-from_safely D (expand D rest) begins)
-          ∙ ap (λ l. l ++ nfd D rest) (nfd-reading_by s.characters s.ignored pairs (c ∷ []))
-          ∙ ap (λ l. nfd d (c ∷ []) ++ l) (nfd-reading_by s.characters s.ignored pairs rest) in
-          let marks : HasShortMarkRuns R (nfd d (c ∷ rest)) → HasShortMarkRuns R by_s.0
-          = λ runs. subst (HasShortMarkRuns R) (sym comes.text) (HasShortMarkRuns-rest R (nfd d (c ∷ [])) (nfd d rest) (subst (HasShortMarkRuns R) split runs)) in
           let P : Option ℕ → Type 0
           = λ o. (came : IsToCome (MayYield from.next_gives so_far) (nfd d) o s.delegate (ordered_text s.waiting) (nfd d (c ∷ rest)))
-          × (HasShortRuns f d (option_to_list o ++ came.unread) → HasShortMarkRuns R (nfd d (c ∷ rest)) → ⊥) in
+          × (HasShortRuns f d (option_to_list o ++ came.unread) → ⊥) in
           let base : P (Some c) = (
             record {
               unread = rest;
               source = MayYield-next from.next_gives so_far s.delegate following t.delegate comes.unread step comes.source;
               text = sym (ap (λ l. l ++ nfd d (c ∷ rest)) here.waiting);
             },
-            λ short runs. by_s.2 (HasShortRuns-rest f d (c ∷ []) rest short) (marks runs) (omega (arith, HasShortMarkRuns-leading R by_s.0 (marks runs))),
+            λ short. by_s.2 (HasShortRuns-rest f d (c ∷ []) rest short),
           ) in
           let before : P (pending_of s) = subst P (sym pending) base in
-          record { out = nfd d (c ∷ rest); comes = before.0; long = λ short runs room. before.1 short runs }
+          record { out = nfd d (c ∷ rest); comes = before.0; long = before.1 }
 
       short_to_come : StaysShort from.next_gives s → StaysShort from.next_gives t
       short_to_come h =

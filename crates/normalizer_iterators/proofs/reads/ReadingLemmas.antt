@@ -14,7 +14,8 @@ use Rattle.normalizer_iterators.specs.Delegate.{HasRead, IsReadyAfter, Source}
 use Rattle.normalizer_iterators.specs.inner.ReadingOn.{ReadsOn, DidNotFit, ReadsChunk, IsWholeChunk, ChunkDidNotFit}
 use Rattle.normalizer_iterators.proofs.reads.LazyLemmas.{Yields-one_more}
 use Rattle.std.proofs.lemmas.Option.{slice_get_cases}
-use Rattle.normal_forms.specs.Reading.{Reading}
+use Rattle.normal_forms.specs.Reading.{Reading, IsStarter}
+use Rattle.normal_forms.proofs.ordering.OrderLemmas.{insert-starter, order-cons}
 use Rattle.normalizer_tables.specs.Characters.{Characters}
 use Rattle.normalizer_iterators.specs.declared.waiting.WaitingList.{WaitingList}
 use Rattle.normalizer_iterators.specs.LazyReading.{HasClassesFrom}
@@ -24,6 +25,20 @@ use Rattle.normalizer_iterators.specs.WaitingList.{ordered_text, unordered_text,
 pub reordered-nothing : (d : Reading) (b : WaitingList) (rest : List ℕ) → ordered_text b ≡ [] → unordered_text b ≡ [] → reordered_text d b rest ≡ order d rest
 unfolding reordered_text
 reordered-nothing d b rest front open_marks = ap (λ l. l ++ order d (unordered_text b ++ rest)) front ∙ ap (λ l. order d (l ++ rest)) open_marks
+
+-- after starters alone
+pub reordered-starter : (d : Reading) (b : WaitingList) (c : ℕ) (rest : List ℕ) → ordered_text b ≡ c ∷ [] → unordered_text b ≡ [] → IsStarter d c → order d (c ∷ rest) ≡ reordered_text d b rest
+unfolding reordered_text
+reordered-starter d b c rest front open_marks starter =
+    order-cons d c rest ∙ insert-starter d c (order d rest) starter
+    ∙ sym (ap (λ l. l ++ order d (unordered_text b ++ rest)) front ∙ ap (λ l. c ∷ order d (l ++ rest)) open_marks)
+
+pub reordered-starters : (d : Reading) (b : WaitingList) (c e : ℕ) (rest : List ℕ) → ordered_text b ≡ c ∷ e ∷ [] → unordered_text b ≡ [] → IsStarter d c → IsStarter d e
+    → order d (c ∷ e ∷ rest) ≡ reordered_text d b rest
+unfolding reordered_text
+reordered-starters d b c e rest front open_marks first second =
+    order-cons d c (e ∷ rest) ∙ insert-starter d c (order d (e ∷ rest)) first ∙ ap (λ l. c ∷ l) (order-cons d e rest ∙ insert-starter d e (order d rest) second)
+    ∙ sym (ap (λ l. l ++ order d (unordered_text b ++ rest)) front ∙ ap (λ l. c ∷ e ∷ order d (l ++ rest)) open_marks)
 
 -- ---- the members of a list, one after another
 
@@ -205,17 +220,17 @@ module _ {I : Type 0} (from : Source I) where
 -- ---- a chunk, if nothing was buffered before
 
 pub ReadsChunk-from : {I : Type 0} (from : Source I) (f : ℕ → Bool) (d : Reading) (c first : ℕ) (members : List ℕ) (delegate next : I)
-    (w b new : WaitingList) (pending : Option ℕ) → members ≡ d.list c → Some first ≡ slice_get members 0 → ordered_text w ≡ [] → unordered_text w ≡ []
-    → ((rest : List ℕ) → reordered_text d w (drop 1 members ++ rest) ≡ reordered_text d b rest) → ReadsOn from f d delegate b pending next new
+    (b new : WaitingList) (pending : Option ℕ) → members ≡ d.list c → Some first ≡ slice_get members 0
+    → ((rest : List ℕ) → order d (drop 1 members ++ rest) ≡ reordered_text d b rest) → ReadsOn from f d delegate b pending next new
     → ReadsChunk from f d c delegate first pending next new
-ReadsChunk-from from f d c first members delegate next w b new pending is there front open_marks pushed r = record {
+ReadsChunk-from from f d c first members delegate next b new pending is there held r = record {
   others = drop 1 members;
   members = sym is ∙ drop_member members 0 first there;
   read = r.read;
   run = r.run;
   continuing = r.continuing;
   at_boundary = r.at_boundary;
-  text = r.text ∙ sym (pushed (expand d r.read)) ∙ reordered-nothing d w (drop 1 members ++ expand d r.read) front open_marks;
+  text = r.text ∙ sym (held (expand d r.read));
   settled = r.settled;
   ready = r.ready;
   fewer = r.fewer;

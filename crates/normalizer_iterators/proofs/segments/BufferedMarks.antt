@@ -3,7 +3,6 @@ use Rattle.std.proofs.Common.{◌≡◌, ℕ, ◌+◌, ◌<◌, ◌≤◌, Bool,
 use Rattle.std.specs.Prelude.{option_to_list}
 use Rattle.std.proofs.lemmas.Bool.{cases_Bool, cond-true, cond-false, eqb-true, ne_eqb}
 use Rattle.std.specs.Option.{ForSome}
-use Rattle.std.proofs.lemmas.List.{length-drop, length-map, length-take-le}
 use Rattle.std.proofs.lemmas.List.Elements.{All-drop, All-head, All-map, All-tail, All-take}
 use Rattle.normal_forms.specs.CompositionByStarters.{compose_after, compose_by_starters}
 use Rattle.normal_forms.specs.Decomposition.{expand}
@@ -12,14 +11,7 @@ use Rattle.normal_forms.specs.Order.{order}
 use Rattle.normal_forms.specs.Reading.{Reading, IsMark, IsStarter, is_starter}
 use Rattle.normal_forms.specs.ShortRuns.{buffer_limit, continues, leading_length, HasShortRuns}
 use Rattle.normal_forms.proofs.boundaries.ChunkLemmas.{chunk_bound}
-use Rattle.normal_forms.proofs.composing.ComposeLemmas.{
-  compose_after-join,
-  compose_after-mark,
-  compose_after-nil,
-  compose_by_starters-mark,
-  compose_by_starters-nil,
-  compose_by_starters-starter,
-}
+use Rattle.normal_forms.proofs.composing.ComposeLemmas.{compose_after-nil, compose_by_starters-mark, compose_by_starters-nil, compose_by_starters-starter}
 use Rattle.normal_forms.proofs.ordering.OrderLemmas.{insert-starter, order-cons}
 use Rattle.normalizer_tables.specs.Characters.{Characters}
 use Rattle.normalizer_tables.specs.Pairs.{Pair}
@@ -28,14 +20,10 @@ use Rattle.normalizer_tables.specs.declared.characters.IgnoredCharacters.TheVari
 use Rattle.normalizer_text.specs.declared.decoding_step.Step.{Step}
 use Rattle.normalizer_text.specs.Encodings.{Encoding, first_in, decoded_in}
 use Rattle.normalizer_text.proofs.steps.StepLemmas.{decoded-some}
-use Rattle.normalizer_iterators.specs.declared.composition.Visited.{Visited}
-use Rattle.normalizer_iterators.specs.declared.composition.Visited.TheVariants.{Joined, Stays}
-use Rattle.normalizer_iterators.specs.declared.marks.StayingMarks.{StayingMarks}
-use Rattle.normalizer_iterators.specs.declared.waiting.ClassedChar.{ClassedChar}
 use Rattle.normalizer_iterators.specs.declared.waiting.WaitingList.{WaitingList}
-use Rattle.normalizer_iterators.specs.Composing.{HasVisited}
+use Rattle.normalizer_iterators.specs.ComposingInPlace.{composed_before, ComposesInPlace}
+use Rattle.normalizer_iterators.specs.inner.Segments.{HasPairsOf}
 use Rattle.normalizer_iterators.specs.LazyReading.{SuitsLazyReading}
-use Rattle.normalizer_iterators.specs.StayingMarks.{mark_count, staying_marks, BlocksBelow}
 use Rattle.normalizer_iterators.specs.Waiting.{HasClassesOf}
 use Rattle.normalizer_iterators.specs.WaitingList.{ordered_text, reordered_text, unordered_text, item_count, AgreesWith, HasOnlyMarks}
 use Rattle.normalizer_iterators.specs.inner.MarkReads.{after_starter, starter_of, IsUncomposed}
@@ -187,13 +175,6 @@ module _ (f : ℕ → Bool) (d : Reading) where
     unfolding expand
     MarksReadTo-all place now to past = to.text ∙ ap (λ x. reordered_text d now (expand d x)) (decoded-all e units place past)
 
--- no more are in order than places are in use
-pub length-ordered : (b : WaitingList) → length (ordered_text b) ≤ item_count b
-unfolding ordered_text item_count
-length-ordered b =
-    let all = b.entries.items in
-    omega (arith, length-map (drop b.next (take b.run all)) (λ (w : ClassedChar). w.character), length-drop b.next (take b.run all), length-take-le b.run all b.within)
-
 -- a whole run was: the first character, the marks after it, and all of them were put in order
 module _ (d : Reading) (e : Encoding) (units : List ℕ) (s : Step) (some : 0 < length units) (is : s ≡ first_in e units) where
   pub decoded-first : decoded_in e units ≡ s.character ∷ decoded_in e (drop s.width units)
@@ -235,88 +216,22 @@ ordered-marks d b agrees marks =
     let classes : HasClassesOf d entries = All-drop (λ w. w.class ≡ d.class w.character) b.next (take b.run all) (All-take (λ w. w.class ≡ d.class w.character) b.run all agrees) in
     All-map (IsMark d) (λ w. w.character) entries (λ i w is. omega (arith, marks i w is, classes i w is))
 
--- ---- a starter and the marks after it are composed
-
--- what was in order is composed, but for those that are left
-pub record ComposedMarks (pairs : List Pair) (start : ℕ) (first : WaitingList) (starter : ℕ) (left : WaitingList) (marks : StayingMarks) : Type 0 where
-  pub agrees : (s : Characters) → AgreesWith (reading_by s Dropped pairs) first → AgreesWith (reading_by s Dropped pairs) left
-  pub blocking : (s : Characters) → AgreesWith (reading_by s Dropped pairs) first → BlocksBelow (reading_by s Dropped pairs) marks
-  pub composed : (s : Characters) → AgreesWith (reading_by s Dropped pairs) first
-      → compose_after (reading_by s Dropped pairs) start [] (ordered_text first) ≡ compose_after (reading_by s Dropped pairs) starter (staying_marks marks) (ordered_text left)
-  pub room : (s : Characters) → AgreesWith (reading_by s Dropped pairs) first → mark_count marks + length (ordered_text left) ≤ length (ordered_text first)
-
-module _ (pairs : List Pair) (start : ℕ) where
-  pub ComposedMarks-first : (first : WaitingList) (marks : StayingMarks) → staying_marks marks ≡ [] → mark_count marks ≡ 0 → ((d : Reading) → BlocksBelow d marks)
-      → ComposedMarks pairs start first start first marks
-  ComposedMarks-first first marks none used blocking = record {
-    agrees = λ s known. known;
-    blocking = λ s known. blocking (reading_by s Dropped pairs);
-    composed = λ s known. ap (λ l. compose_after (reading_by s Dropped pairs) start l (ordered_text first)) (sym none);
-    room = λ s known. omega arith;
-  }
-
-  -- one more was visited
-  module _ (first old new : WaitingList) (starter c : ℕ) (marks : StayingMarks) (before : ComposedMarks pairs start first starter old marks) (front : ordered_text old ≡ c ∷ ordered_text new)
-      (agrees : (d : Reading) → AgreesWith d old → AgreesWith d new) where
-    abbrev pub Visits : Visited → StayingMarks → Type 0
-    Visits v next = (s : Characters) → AgreesWith (reading_by s Dropped pairs) old → BlocksBelow (reading_by s Dropped pairs) marks
-        → HasVisited (reading_by s Dropped pairs) starter c marks v next
-
-    pub ComposedMarks-joined : (r : ℕ) (next : StayingMarks) → Visits (Joined r) next → ComposedMarks pairs start first r new next
-    ComposedMarks-joined r next visited = record {
-      agrees = λ s known. agrees (reading_by s Dropped pairs) (before.agrees s known);
-      blocking = λ s known.
-          let v = visited s (before.agrees s known) (before.blocking s known) in
-          subst (BlocksBelow (reading_by s Dropped pairs)) (sym v.1) (before.blocking s known);
-      composed = λ s known.
-          let d = reading_by s Dropped pairs in
-          let v = visited s (before.agrees s known) (before.blocking s known) in
-          before.composed s known ∙ ap (compose_after d starter (staying_marks marks)) front
-          ∙ compose_after-join d starter (staying_marks marks) c r (ordered_text new) v.0
-          ∙ ap (λ m. compose_after d r (staying_marks m) (ordered_text new)) (sym v.1);
-      room = λ s known.
-          let v = visited s (before.agrees s known) (before.blocking s known) in
-          omega (arith, before.room s known, ap length front, ap mark_count v.1);
-    }
-
-    pub ComposedMarks-stays : (next : StayingMarks) → Visits Stays next → ComposedMarks pairs start first starter new next
-    ComposedMarks-stays next visited = record {
-      agrees = λ s known. agrees (reading_by s Dropped pairs) (before.agrees s known);
-      blocking = λ s known. (visited s (before.agrees s known) (before.blocking s known)).4;
-      composed = λ s known.
-          let d = reading_by s Dropped pairs in
-          let v = visited s (before.agrees s known) (before.blocking s known) in
-          before.composed s known ∙ ap (compose_after d starter (staying_marks marks)) front
-          ∙ compose_after-mark d starter (staying_marks marks) c (ordered_text new) v.0 v.1
-          ∙ ap (λ l. compose_after d starter l (ordered_text new)) (sym v.2);
-      room = λ s known.
-          let v = visited s (before.agrees s known) (before.blocking s known) in
-          omega (arith, before.room s known, ap length front, v.3);
-    }
-
-    -- there is room for it if all fit
-    pub ComposedMarks-fits : (s : Characters) → AgreesWith (reading_by s Dropped pairs) first → length (ordered_text first) ≤ buffer_limit → mark_count marks < buffer_limit
-    ComposedMarks-fits s known few = omega (arith, before.room s known, ap length front)
-
-  -- all were
-  pub ComposedMarks-all : (first left : WaitingList) (starter : ℕ) (marks : StayingMarks) → ComposedMarks pairs start first starter left marks → ordered_text left ≡ []
-      → (s : Characters) → AgreesWith (reading_by s Dropped pairs) first → compose_after (reading_by s Dropped pairs) start [] (ordered_text first) ≡ starter ∷ staying_marks marks
-  ComposedMarks-all first left starter marks before none s known =
-      let d = reading_by s Dropped pairs in
-      before.composed s known ∙ ap (compose_after d starter (staying_marks marks)) none ∙ compose_after-nil d starter (staying_marks marks)
-
 -- ---- a run that was read
 
 -- its characters are those that are left, if none is composed
 pub characters_left-whole : (d : Reading) (x : List ℕ) (run : MarkRun) → IsUncomposed d x run → characters_left run ≡ x
 unfolding characters_left
-characters_left-whole d x run read = ap (λ l. option_to_list run.starter ++ (l ++ ordered_text run.waiting)) read.none ∙ sym read.whole
+characters_left-whole d x run read = sym read.whole
 
 pub characters_left-uncomposed : {E : Type 0} (d : Reading) (x : List ℕ) (made : Result (Option MarkRun) E) → IfOk made (λ read. IfSome read (IsUncomposed d x))
     → IfOk made (λ read. IfSome read (λ run. characters_left run ≡ x))
 characters_left-uncomposed d x (Ok (Some run)) read = characters_left-whole d x run read
 characters_left-uncomposed d x (Ok None) read = tt
 characters_left-uncomposed d x (Err e) read = tt
+
+composed_before-marks : (d : Reading) (a : ℕ) (p : List ℕ) → All (IsMark d) p → composed_before d a p (p ++ []) ≡ a ∷ p
+composed_before-marks d a [] marks = compose_after-nil d a []
+composed_before-marks d a (m ∷ p) marks = ap (λ l. a ∷ compose_by_starters d l) (append-nil (m ∷ p)) ∙ ap (λ l. a ∷ l) (compose_by_starters-marks d (m ∷ p) marks)
 
 module _ (d : Reading) (x : List ℕ) (run : MarkRun) (read : IsUncomposed d x run) where
   -- marks alone stay
@@ -325,18 +240,20 @@ module _ (d : Reading) (x : List ℕ) (run : MarkRun) (read : IsUncomposed d x r
       let whole : x ≡ ordered_text run.waiting = read.whole ∙ ap (λ o. option_to_list o ++ ordered_text run.waiting) none in
       characters_left-whole d x run read ∙ whole ∙ sym (ap (compose_by_starters d) whole ∙ compose_by_starters-marks d (ordered_text run.waiting) (ordered-marks d run.waiting read.classes marks))
 
-  -- a starter was composed with the marks after it
-  pub composed-run : (start composite : ℕ) (now : MarkRun) → run.starter ≡ Some start → now.starter ≡ Some composite → ordered_text now.waiting ≡ []
-      → compose_after d start [] (ordered_text run.waiting) ≡ composite ∷ staying_marks now.marks → characters_left now ≡ compose_by_starters d x
+  -- a starter was composed with what follows it, of which marks alone stay
+  pub composed-run : (pairs : List Pair) (start composite : ℕ) (now : MarkRun) → HasPairsOf pairs d → run.starter ≡ Some start → now.starter ≡ Some composite
+      → ComposesInPlace pairs start run.waiting composite now.waiting → AgreesWith d now.waiting → HasOnlyMarks now.waiting → characters_left now ≡ compose_by_starters d x
   unfolding characters_left
-  composed-run start composite now is became all text =
-      let whole : x ≡ start ∷ ordered_text run.waiting = read.whole ∙ ap (λ o. option_to_list o ++ ordered_text run.waiting) is in
-      ap (λ o. option_to_list o ++ (staying_marks now.marks ++ ordered_text now.waiting)) became
-      ∙ ap (λ l. composite ∷ (staying_marks now.marks ++ l)) all ∙ ap (λ l. composite ∷ l) (append-nil (staying_marks now.marks)) ∙ sym text
-      ∙ sym (ap (compose_by_starters d) whole ∙ compose_by_starters-starter d start (ordered_text run.waiting) (read.begins start is))
+  composed-run pairs start composite now same is became text agrees marks =
+      let front = ordered_text run.waiting in
+      let whole : x ≡ start ∷ front = read.whole ∙ ap (λ o. option_to_list o ++ front) is in
+      ap (λ o. option_to_list o ++ ordered_text now.waiting) became
+      ∙ sym (ap (compose_by_starters d) whole ∙ compose_by_starters-starter d start front (read.begins start is)
+      ∙ ap (compose_after d start []) (sym (append-nil front)) ∙ text d [] same read.classes tt
+      ∙ composed_before-marks d composite (ordered_text now.waiting) (ordered-marks d now.waiting agrees marks))
 
 -- neither ignored characters nor pairs change what was read
 pub IsUncomposed-reading_by : (s : Characters) (ignored : IgnoredCharacters) (pairs : List Pair) (x : List ℕ) (run : MarkRun) → IsUncomposed (reading_by s ignored []) x run
     → IsUncomposed (reading_by s Dropped pairs) x run
 IsUncomposed-reading_by s ignored pairs x run read =
-    record { whole = read.whole; begins = read.begins; classes = AgreesWith-reading_by s ignored pairs run.waiting read.classes; none = read.none; used = read.used; blocking = read.blocking }
+    record { whole = read.whole; begins = read.begins; classes = AgreesWith-reading_by s ignored pairs run.waiting read.classes }

@@ -10,7 +10,6 @@ use Rattle.normalizer_tables.specs.Readings.{reading_by}
 use Rattle.normalizer_iterators.specs.declared.mark_run.MarkRun.{MarkRun}
 use Rattle.normalizer_iterators.specs.declared.waiting.WaitingList.{WaitingList}
 use Rattle.normalizer_iterators.specs.LazyReading.{SuitsLazyReading}
-use Rattle.normalizer_iterators.specs.StayingMarks.{mark_count, staying_marks, BlocksBelow}
 use Rattle.normalizer_iterators.specs.WaitingList.{item_count, ordered_text, AgreesWith}
 
 -- the first character, if it is a starter
@@ -34,6 +33,3 @@ pub record IsUncomposed (d : Reading) (x : List ℕ) (run : MarkRun) : Type 0 wh
   pub whole : x ≡ option_to_list run.starter ++ ordered_text run.waiting
   pub begins : ForSome run.starter (IsStarter d)
   pub classes : AgreesWith d run.waiting
-  pub none : staying_marks run.marks ≡ []
-  pub used : mark_count run.marks ≡ 0
-  pub blocking : (e : Reading) → BlocksBelow e run.marks

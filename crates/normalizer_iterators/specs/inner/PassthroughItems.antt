@@ -46,8 +46,7 @@ module _ {I : Type 0} where
         × WillYield (MayYield from.next_gives e) s y × (compose_by_starters (reading_by s.characters Dropped pairs) y
         ≡ c ∷ compose_by_starters (reading_by s.characters Dropped pairs) rest)
     pub short : StaysShort from.next_gives s → StaysShort from.next_gives t
-    pub long : let d = reading_by s.characters Dropped pairs in
-        IsLong from.next_gives d t → IsLong from.next_gives d s
+    pub long : IsLong from.next_gives t → IsLong from.next_gives s
     pub ready : CanDecompose from.can_next from.remaining t
     pub at_passed : IsAtPassthrough pairs t
     pub kept : t.characters ≡ s.characters

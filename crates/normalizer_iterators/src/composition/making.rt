@@ -10,6 +10,7 @@ ghost use Rattle.normalizer_iterators.specs.LazyComposing.{SuitsLazyComposing};
 ghost use Rattle.normalizer_iterators.specs.LazyReading.{SuitsLazyReading};
 
 use crate::composition::Composition;
+use crate::decomposition::Decomposition;
 use crate::error::NormalizeError;
 use normalizer_tables::CanonicalCompositions;
 use normalizer_tables::characters::{CharacterData, IgnoredCharacters};
@@ -38,5 +39,10 @@ pub fn composed<'data, I: Iterator<Item = char> + Drop>(
     ensures kept { IfOk result (λ it.
         (data_of_composition it ≡ characters.entry) × (pairs_of_composition it ≡ pairs.now)) }
 {
-    Composition::over(characters, ignored, pairs, bounds, delegate)
+    Ok(Composition {
+        decomposed: Decomposition::over(characters, ignored, delegate)?,
+        pairs,
+        bounds,
+        ahead: None,
+    })
 }

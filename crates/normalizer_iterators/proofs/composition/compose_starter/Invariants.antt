@@ -6,8 +6,8 @@ use Rattle.normalizer_iterators.proofs.composition.compose_starter.Given as goal
 
 abbrev pub invariant-loop-bounds : goal.invariant-loop-bounds
 invariant-loop-bounds g l =
-    ComposedSoFar g.I.Iterator (reading_by l.initial.decomposed.characters Dropped l.pairs)
-    l.fn.starter l.initial.decomposed l.composite l.decomposed l.marks
+    ComposedSoFar g.I.Iterator (reading_by l.fn.decomposed.characters Dropped l.pairs)
+    l.fn.starter l.fn.decomposed l.composite l.decomposed
 
 abbrev pub decreases-loop-bounds : goal.decreases-loop-bounds
 decreases-loop-bounds g l = decomposition.items_left g.I.Iterator.remaining l.decomposed

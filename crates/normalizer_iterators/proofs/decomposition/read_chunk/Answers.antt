@@ -15,8 +15,8 @@ unreachable-requires g c =
     let is = c.members-members.ensures ∙ sym (list-reading_by c.args.characters.now c.args.ignored [] c.args.read.character) ∙ some.3 in
     no_member _ 0 (omega (arith, ap length is)) (sym c.in_default.is ∙ c.get.ensures)
 
-pub push_others-requires : goal.push_others-requires
-push_others-requires g c =
+pub hold_others-requires : goal.hold_others-requires
+hold_others-requires g c =
     let f = has_class_form c.args.characters.now in
     let d = reading_by c.args.characters.now c.args.ignored [] in
     let some = at_boundary-parts f d c.args.read.character c.requires.at_boundary in
@@ -27,16 +27,16 @@ pub read_on-requires : goal.read_on-requires
 read_on-requires g c =
     let d = reading_by c.args.characters.now c.args.ignored [] in
     let same = class-reading_by c.args.characters.now c.args.ignored [] in
-    record { ready = c.requires.ready; words = c.requires.words; classes = c.in_ok-push_others.ensures.classes d same (c.clear.ensures.classes d) }
+    record { ready = c.requires.ready; words = c.requires.words; classes = c.in_ok-hold_others.ensures.classes d same }
 
-pub returns-in_err-push_others-clause-err : goal.returns-in_err-push_others-clause-err
-returns-in_err-push_others-clause-err g c =
+pub returns-in_err-hold_others-clause-err : goal.returns-in_err-hold_others-clause-err
+returns-in_err-hold_others-clause-err g c =
     let f = has_class_form c.args.characters.now in
     let d = reading_by c.args.characters.now c.args.ignored [] in
     let is = c.members-members.ensures ∙ sym (list-reading_by c.args.characters.now c.args.ignored [] c.args.read.character) in
-    let long = too_many _ (buffer_limit + 1) c.in_err-push_others.ensures.succeeds in
+    let long = too_many _ (buffer_limit + 1) c.in_err-hold_others.ensures.succeeds in
     let exit = err_from_is_err_and c.from_residual.result c.from_residual.ensures.1 in
-    rw exit.1 (λ before read. ChunkDidNotFit-members g.I.Iterator.next_gives f d c.args.read.character _ before is (omega (arith, long, c.clear.ensures.held)))
+    rw exit.1 (λ before read. ChunkDidNotFit-members g.I.Iterator.next_gives f d c.args.read.character _ before is (omega (arith, long)))
 
 pub returns-in_err-pending-clause-err : goal.returns-in_err-pending-clause-err
 returns-in_err-pending-clause-err g c =
@@ -46,7 +46,7 @@ returns-in_err-pending-clause-err g c =
     let exit = err_from_is_err_and c.from_residual-in_err-pending.result c.from_residual-in_err-pending.ensures.1 in
     rw exit.1
     (λ before read.
-    ChunkDidNotFit-behind g.I.Iterator.next_gives f d c.args.read.character _ before _ is (omega (arith, c.in_ok-push_others.ensures.held, c.clear.ensures.held))
+    ChunkDidNotFit-behind g.I.Iterator.next_gives f d c.args.read.character _ before _ is c.in_ok-hold_others.ensures.held
     (c.in_err-pending.ensures.err before read))
 
 pub returns-clause-ok : goal.returns-clause-ok
@@ -56,7 +56,6 @@ returns-clause-ok g c =
     let same = class-reading_by c.args.characters.now c.args.ignored [] in
     let is = c.members-members.ensures ∙ sym (list-reading_by c.args.characters.now c.args.ignored [] c.args.read.character) in
     λ before read.
-    ReadsChunk-from g.I.Iterator f d c.args.read.character c.in-Some.first _ before _ _ _ _ _ is c.in-Some.ensures
-    c.clear.ensures.ordered c.clear.ensures.unordered
-    (c.in_ok-push_others.ensures.text d same (c.clear.ensures.classes d))
+    ReadsChunk-from g.I.Iterator f d c.args.read.character c.in-Some.first _ before _ _ _ _ is c.in-Some.ensures
+    (c.in_ok-hold_others.ensures.text d same)
     (c.in_ok-pending.ensures.ok before read)

@@ -6,7 +6,7 @@ use Rattle.normalizer_tables.specs.Characters.{has_class_form}
 use Rattle.normalizer_tables.specs.Readings.{reading_by}
 use Rattle.normalizer_iterators.specs.WaitingList.{ordered_text}
 use Rattle.normalizer_iterators.proofs.reads.LazyLemmas.{class-reading_by}
-use Rattle.normalizer_iterators.proofs.segments.BufferedMarks.{first-room, length-ordered, read_run-whole, starter_of-class}
+use Rattle.normalizer_iterators.proofs.segments.BufferedMarks.{first-room, read_run-whole, starter_of-class}
 use Rattle.normalizer_iterators.proofs.mark_run.read_run.Goals as goal
 
 pub read_marks-requires : goal.read_marks-requires
@@ -37,14 +37,6 @@ returns-in_err-put_in_order-clause-room g c = λ short.
     let read = c.in_ok-read_marks.ensures.room (short.0, omega (arith, room, c.new-waiting.ensures.held, c.in_ok-starter.ensures.held)) in
     cc (c.in_err-put_in_order.ensures.succeeds read.1)
 
-pub returns-clause-room : goal.returns-clause-room
-returns-clause-room g c = λ short.
-    let s = c.args.characters.now in
-    let d = reading_by s c.args.ignored [] in
-    let room = first-room d g.U.Units.encoding (g.U.Units.units c.args.units) c.args.first c.requires.some c.requires.first (has_class_form s) _ c.new-read.ensures.character short.0 short.1 in
-    let read = c.in_ok-read_marks.ensures.room (short.0, omega (arith, room, c.new-waiting.ensures.held, c.in_ok-starter.ensures.held)) in
-    omega (arith, length-ordered c.put_in_order.new.self, c.in_ok-put_in_order.ensures.held, read.1)
-
 pub returns-clause-text : goal.returns-clause-text
 returns-clause-text g c =
     let s = c.args.characters.now in
@@ -61,7 +53,4 @@ returns-clause-text g c =
           ∙ ap (λ o. option_to_list o ++ ordered_text c.put_in_order.new.self) (sym c.in_ok-starter.ensures.starter);
       begins = subst (λ o. ForSome o (IsStarter d)) (sym c.in_ok-starter.ensures.starter) (starter_of-class d _);
       classes = c.in_ok-put_in_order.ensures.classes d read;
-      none = c.new-marks.ensures.staying;
-      used = c.new-marks.ensures.used;
-      blocking = c.new-marks.ensures.blocking;
     }

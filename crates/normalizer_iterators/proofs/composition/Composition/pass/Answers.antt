@@ -19,8 +19,8 @@ returns-in-Some-Ok-Itself g c =
     let s = c.args.self.now in
     let reached = rw c.in-Some-Ok-Itself.field-0-is at c.in-Some-Ok-Itself.ensures s.pairs.now s.suits c.requires.at_passed in
     let given = rw c.in-Some-Ok-Itself.field-0-0-is at reached in
-    Steps-passed g.I.Iterator s c.requires.ahead c.requires.marks _ c.in-Some-Ok-Itself.character
-    (record { kept = (given.kept, refl); marks = c.requires.marks; ahead = c.requires.ahead }) given
+    Steps-passed g.I.Iterator s c.requires.ahead _ c.in-Some-Ok-Itself.character
+    (record { kept = (given.kept, refl); ahead = c.requires.ahead }) given
 
 pub invariant_of-self : goal.invariant_of-self
 invariant_of-self g c =
@@ -41,7 +41,7 @@ returns-in-Some-Ok-FirstMember g c =
     let s = c.args.self.now in
     let reached = rw c.in-Some-Ok-FirstMember.field-0-is at c.in-Some-Ok-FirstMember.ensures s.pairs.now s.suits c.requires.at_passed in
     let given = rw c.in-Some-Ok-FirstMember.field-0-0-is at reached in
-    Steps-first_starter g.I.Iterator s c.requires.ahead c.requires.marks c.in-Some-Ok-FirstMember.starter c.next_passthrough.new.decomposed _ _
+    Steps-first_starter g.I.Iterator s c.requires.ahead c.in-Some-Ok-FirstMember.starter c.next_passthrough.new.decomposed _ _
     given.steps (given.starter s.pairs.now) c.compose_on.ensures
 
 -- ---- a fault, or the end
@@ -50,12 +50,12 @@ pub returns-in-Some-Err : goal.returns-in-Some-Err
 returns-in-Some-Err g c =
     let s = c.args.self.now in
     let reached = rw c.in-Some-Err.field-0-is at c.in-Some-Err.ensures s.pairs.now s.suits c.requires.at_passed in
-    Steps-fault g.I.Iterator s c.requires.ahead c.requires.marks _ c.in-Some-Err.error
-    (record { kept = (reached.kept.0, refl); marks = c.requires.marks; ahead = c.requires.ahead }) reached
+    Steps-fault g.I.Iterator s c.requires.ahead _ c.in-Some-Err.error
+    (record { kept = (reached.kept.0, refl); ahead = c.requires.ahead }) reached
 
 pub returns-in-None : goal.returns-in-None
 returns-in-None g c =
     let s = c.args.self.now in
     let end = c.in-None.ensures s.pairs.now s.suits c.requires.at_passed in
-    Steps-end g.I.Iterator s c.requires.ahead c.requires.marks _
-    (record { kept = (end.kept.0, refl); marks = c.requires.marks; ahead = c.requires.ahead }) end
+    Steps-end g.I.Iterator s c.requires.ahead _
+    (record { kept = (end.kept.0, refl); ahead = c.requires.ahead }) end

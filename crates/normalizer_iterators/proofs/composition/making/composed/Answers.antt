@@ -1,33 +1,57 @@
-use Rattle.std.proofs.Common.{◌≡◌, []}
-use Rattle.std.proofs.lemmas.Result.{IfErr-weaker}
-use Rattle.normal_forms.specs.Forms.{nfc}
-use Rattle.normal_forms.specs.ShortRuns.{HasShortRuns}
+use Rattle.std.proofs.Common.{ℕ, List, None, ap, sym, ◌∙◌, []}
+use Rattle.std.proofs.lemmas.Result.{err_from_is_err_and}
+use Rattle.normal_forms.specs.CompositionByStarters.{compose_by_starters}
+use Rattle.normal_forms.specs.Forms.{nfc, nfd}
 use Rattle.normalizer_tables.specs.Characters.{has_class_form}
 use Rattle.normalizer_tables.specs.Readings.{reading_by}
+use Rattle.normalizer_tables.specs.declared.characters.IgnoredCharacters.TheVariants.{Dropped}
 use Rattle.normalizer_text.specs.DecodingSteps.{Spells}
-use Rattle.normalizer_iterators.specs.Delegate.{HasYieldedLong, MayYield}
-use Rattle.normalizer_iterators.specs.declared.composition.Composition.{Composition}
-use Rattle.normalizer_iterators.specs.declared.error.NormalizeError.TheVariants.{Memory}
-use Rattle.normalizer_iterators.specs.NextItem.{IsFormOfSource}
-use Rattle.normalizer_iterators.specs.CompositionItems.{WillYield, StaysShort, IsLong, CompositionSteps}
-use Rattle.normalizer_iterators.proofs.composing.ComposingLemmas.{HasShortRuns-reading_by}
-use Rattle.normalizer_iterators.proofs.items.ItemLemmas.{IfOk-both, YieldsForm-made, YieldsFormOfRun-composition, SpellsOk-composition, SpellsUnless-composition}
+use Rattle.normalizer_iterators.specs.Composing.{WillYieldAfter}
+use Rattle.normalizer_iterators.proofs.composing.ComposingLemmas.{HasShortRuns-reading_by, nfc-reading_by}
+use Rattle.normalizer_iterators.proofs.items.ItemLemmas.{YieldsFormOfRun-composition, SpellsOk-composition, SpellsUnless-composition}
 use Rattle.normalizer_iterators.proofs.composition.making.composed.Goals as goal
+
+pub returns-in_err-over-clause-form : goal.returns-in_err-over-clause-form
+returns-in_err-over-clause-form g c =
+    let s = c.args.characters in
+    let f = has_class_form s in
+    let short = HasShortRuns-reading_by f s c.args.ignored c.args.pairs.now in
+    let refused = c.in_err-over.ensures.refused in
+    let exit = err_from_is_err_and c.from_residual.result c.from_residual.ensures.1 in
+    rw exit.1 (record {
+      text = tt;
+      short = λ x spells runs. absurd (cc (c.in_err-over.ensures.succeeds x spells (short x runs)));
+      run = tt;
+      refused = (cc (exit.2, refused.0), (refused.1.0, refused.1.1, refused.1.2, λ runs. refused.1.3 (short refused.1.0 runs)));
+    })
 
 pub returns-clause-form : goal.returns-clause-form
 returns-clause-form g c =
     let gives = g.I.Iterator.next_gives in
     let s = c.args.characters in
-    let made = c.over.ensures in
-    let d = reading_by s c.args.ignored c.args.pairs.now in
-    let came : Composition g.row.I.Denot → Type 0 = IsFormOfSource gives (λ e. WillYield (MayYield gives e)) (nfc d) c.args.delegate in
-    let long : Composition g.row.I.Denot → Type 0 = λ it. IsLong gives it → HasYieldedLong gives (has_class_form s) (reading_by s c.args.ignored []) c.args.delegate in
-    let longer : HasYieldedLong gives (has_class_form s) (reading_by s c.args.ignored []) c.args.delegate → HasYieldedLong gives (has_class_form s) d c.args.delegate
-    = λ h. (h.0, h.1, h.2, λ short. h.3 (HasShortRuns-reading_by (has_class_form s) s c.args.ignored c.args.pairs.now h.0 short)) in
-    YieldsForm-made gives (WillYield (Spells gives)) (StaysShort gives) (CompositionSteps g.I.Iterator) (SpellsUnless-composition g.I.Iterator) (SpellsOk-composition g.I.Iterator)
-    (has_class_form s) (reading_by s c.args.ignored c.args.pairs.now) nfc c.args.delegate
-    (λ it. came it × long it) (λ it known. YieldsFormOfRun-composition g.I.Iterator (has_class_form s) d (nfc d) c.args.delegate it known.0 (λ h. longer (known.1 h)))
-    (HasShortRuns (has_class_form s) (reading_by s c.args.ignored []))
-    (HasShortRuns-reading_by (has_class_form s) s c.args.ignored c.args.pairs.now) c.over.result made.text made.short made.succeeds (IfOk-both c.over.result came long made.came made.long)
-    (IfErr-weaker c.over.result (λ e. (e ≡ Memory) × HasYieldedLong gives (has_class_form s) (reading_by s c.args.ignored []) c.args.delegate)
-    (λ e. (e ≡ Memory) × HasYieldedLong gives (has_class_form s) d c.args.delegate) (λ e h. (h.0, longer h.1)) made.refused)
+    let ignored = c.args.ignored in
+    let pairs = c.args.pairs.now in
+    let f = has_class_form s in
+    let d = reading_by s ignored pairs in
+    let made = c.in_ok-over.ensures in
+    let short = HasShortRuns-reading_by f s ignored pairs in
+    let same = λ (y : List ℕ). ap (λ k. compose_by_starters (reading_by k Dropped pairs) y) made.kept.0 in
+    let text : (x : List ℕ) → Spells gives c.args.delegate x → WillYieldAfter (Spells gives) (reading_by c.in_ok-over.field-0.characters Dropped pairs) None c.in_ok-over.field-0 (nfc d x)
+    = λ x spells. record {
+      unread = nfd (reading_by s ignored []) x;
+      source = made.text x spells;
+      text = nfc-reading_by s ignored pairs c.requires.composing.starters x ∙ sym (same (nfd (reading_by s ignored []) x));
+    } in
+    record {
+      text = λ x spells. SpellsUnless-composition g.I.Iterator _ (nfc d x) (text x spells);
+      short = λ x spells runs. SpellsOk-composition g.I.Iterator _ (nfc d x) (text x spells) (made.short x spells (short x runs));
+      run = YieldsFormOfRun-composition g.I.Iterator f d (nfc d) c.args.delegate _
+          (λ e out h.
+          let source = made.came e h.unread h.source in (
+            source.0,
+            source.1,
+            h.text ∙ same h.unread ∙ ap (compose_by_starters (reading_by s Dropped pairs)) source.2 ∙ sym (nfc-reading_by s ignored pairs c.requires.composing.starters source.0),
+          ))
+          (λ h. let long = made.long h in (long.0, long.1, long.2, λ runs. long.3 (short long.0 runs)));
+      refused = tt;
+    }

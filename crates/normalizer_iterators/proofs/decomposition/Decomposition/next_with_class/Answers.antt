@@ -22,6 +22,9 @@ pub returns-in-Some-clause-class : goal.returns-in-Some-clause-class
 unfolding AgreesWith
 returns-in-Some-clause-class g c = let s = c.args.self.now in c.in-Some.ensures.class (reading_by s.characters s.ignored []) s.classes
 
+pub returns-in-Some-clause-starter : goal.returns-in-Some-clause-starter
+returns-in-Some-clause-starter g c = λ none. cc (none, c.in-Some.ensures.some)
+
 pub returns-in-Some-clause-steps : goal.returns-in-Some-clause-steps
 returns-in-Some-clause-steps g c =
     Steps-front g.I.Iterator c.args.self.now _ _ refl refl refl refl c.in-Some.ensures.some

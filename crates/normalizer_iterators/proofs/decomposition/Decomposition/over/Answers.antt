@@ -1,10 +1,4 @@
-use Rattle.std.proofs.Common.{◌≡◌, false, [], arith, refl, subst, sym}
-use Rattle.normal_forms.specs.Forms.{nfd}
-use Rattle.normalizer_tables.specs.declared.characters.IgnoredCharacters.TheVariants.{Dropped}
-use Rattle.normalizer_iterators.specs.MarkRuns.{HasShortMarkRuns}
-use Rattle.normalizer_iterators.proofs.composing.ComposingLemmas.{HasShortMarkRuns-reading_by}
-use Rattle.normalizer_iterators.proofs.composing.DecomposedMarks.{HasShortMarkRuns-leading}
-use Rattle.normalizer_iterators.proofs.reads.ShortChunkLemmas.{HasShortMarkRuns-nfd}
+use Rattle.std.proofs.Common.{◌≡◌, false, [], refl}
 use Rattle.normal_forms.specs.ShortRuns.{continues}
 use Rattle.normalizer_tables.specs.Characters.{has_class_form}
 use Rattle.normalizer_tables.specs.Readings.{reading_by}
@@ -36,19 +30,12 @@ returns-in-Ok-clause-came g c = λ e out h.
     c.new-waiting.ensures.ordered c.new-waiting.ensures.unordered (c.in-Ok.ensures.ok _ read) h
 
 pub returns-in-Ok-clause-long : goal.returns-in-Ok-clause-long
-returns-in-Ok-clause-long g c = λ pairs h.
-    let s = c.args.characters in
-    let f = has_class_form s in
-    let d = reading_by s c.args.ignored [] in
-    let e = reading_by s Dropped pairs in
+returns-in-Ok-clause-long g c = λ h.
     let read =
     HasRead-as g.I.Iterator _ _ _ _ c.read_from-first.ensures.character c.next.ensures.steps
     (c.next.ensures.goes.on c.requires.ends) in
-    HasYieldedLong-start g.I.Iterator f d c.requires.suits c.args.delegate _ _ _ _ h.out
-    c.new-waiting.ensures.ordered c.new-waiting.ensures.unordered (c.in-Ok.ensures.ok _ read) h.comes
-    (λ x text runs short.
-    let marks : HasShortMarkRuns e h.out = subst (HasShortMarkRuns e) (sym text) (HasShortMarkRuns-reading_by s c.args.ignored pairs (nfd d x) (HasShortMarkRuns-nfd f d c.requires.suits x runs)) in
-    h.long short marks (omega (arith, HasShortMarkRuns-leading e h.out marks)))
+    HasYieldedLong-start g.I.Iterator (has_class_form c.args.characters) _ c.requires.suits c.args.delegate _ _ _ _ h.out
+    c.new-waiting.ensures.ordered c.new-waiting.ensures.unordered (c.in-Ok.ensures.ok _ read) h.comes h.long
 
 pub returns-in-Ok-clause-short : goal.returns-in-Ok-clause-short
 returns-in-Ok-clause-short g c = λ x spells short.
