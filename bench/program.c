@@ -1,15 +1,16 @@
 /* Times calls of libraries, by the processor time of this thread:
 
    program calls DATA ROUNDS FILE [LIBRARY]        each call of each library, but the named one, on the text of FILE
-   program through-c DATA ROUNDS FILE              each call of the C library, and the same in Rattle, on the text
+   program through-c DATA ROUNDS FILE LEAST        each call of the C library, and the same in Rattle, on the text
    program row DATA TIMES FILE FORM CALL LIBRARY   one call of a library, so many times, for a profiler
    program start DATA ROUNDS                       building data, and making normalizers over them
    program opening                                 the first time that a process makes a peer's four normalizers
    program child COMMAND..                         a program from its start to its end; by the same input and output
 
    DATA is the folder of UnicodeData.txt, CompositionExclusions.txt and the data prepared of them. `calls` and
-   `through-c` write a line for each cell: form, call, library, nanoseconds of a call, and the length and the checksum of
-   what was written, with a tab between each two. `opening` writes one for each peer: its name and nanoseconds. */
+   `through-c` write a line for each cell: form, call, library, nanoseconds of a call, the length and the checksum of
+   what was written, and the nanoseconds of the spin beside it, with a tab between each two. LEAST is the least time of
+   a spin so far, or 0. `opening` writes one for each peer: its name and nanoseconds. */
 #define _POSIX_C_SOURCE 200809L
 #define _DEFAULT_SOURCE
 
@@ -31,6 +32,8 @@
 #define MOST_TIMES 4000000u
 /* How many times as many rounds as are asked for are made at most, as long as a least time falls. */
 #define MOST_ROUNDS 8
+/* How many times a pair of cells is timed at most while the processor is busy. */
+#define MOST_TRIES 6
 
 static const char *const FORM_NAMES[] = {"NFD", "NFC", "NFKD", "NFKC"};
 static const char *const CALL_NAMES[] = {
@@ -199,9 +202,10 @@ struct cell {
     unsigned form, call;
     const struct library *library;
     const struct text *text;
-    size_t times;
-    uint64_t none, all; /* the least time of no call, and of so many */
+    size_t first, times;
+    uint64_t none, all; /* the least time of the first calls, none or one, and of so many more */
     size_t steady;      /* how many samples ago the latter last fell by half a percent */
+    uint64_t spun;      /* how long the longer of the spins before and after it took, if it is timed beside them */
     bool is_slow;
 };
 
@@ -214,14 +218,14 @@ static uint64_t spent(const struct cell *cell, size_t times) {
     return cell->library->repeat(cell->form, cell->call, cell->text, times, &output) ? now() - begin : NO_CALL;
 }
 
-/* How much more time the calls took than none. */
+/* How much more time the calls took than the first ones alone. */
 static uint64_t passed(const struct cell *cell) {
     return cell->all > cell->none ? cell->all - cell->none : 1;
 }
 
 /* A virtual machine's clock may jump: a sample of less than a quarter of the least so far is none. */
 static void sample(struct cell *cell) {
-    uint64_t none = spent(cell, 0), all = spent(cell, cell->times), least = cell->all;
+    uint64_t none = spent(cell, cell->first), all = spent(cell, cell->first + cell->times), least = cell->all;
     if (none < cell->none) cell->none = none;
     if (all < cell->all && (cell->all == UINT64_MAX || all > cell->all / 4)) cell->all = all;
     cell->steady = cell->all < least - least / 200 ? 0 : cell->steady + 1;
@@ -282,26 +286,20 @@ static void say_written(const struct cell *cell) {
     struct output output = {room_of(room), room, 0};
     cell->library->repeat(cell->form, cell->call, cell->text, 1, &output);
     size_t size = is_check(cell->call) ? 0 : cell->call == NORMALIZE_UTF16_TO ? 2 * output.length : output.length;
-    printf("%s\t%s\t%s\t%.2f\t%zu\t%u\n", FORM_NAMES[cell->form], CALL_NAMES[cell->call], cell->library->name,
-           (double)passed(cell) / (double)cell->times, output.length, digest_of(output.at, size));
+    printf("%s\t%s\t%s\t%.2f\t%zu\t%u\t%llu\n", FORM_NAMES[cell->form], CALL_NAMES[cell->call], cell->library->name,
+           (double)passed(cell) / (double)cell->times, output.length, digest_of(output.at, size),
+           (unsigned long long)cell->spun);
     free(output.at);
 }
 
-/* Which libraries are timed. */
-struct choice {
-    bool through_c;      /* the exports of the C library and the same calls in Rattle, else all but the latter */
-    const char *without; /* the name of a library that is left out */
-};
-
-static bool is_chosen(struct choice choice, const struct cell *cell) {
-    repeat *repeat = cell->library->repeat;
-    if (choice.through_c) return is_exported(cell->call) && (repeat == rattle_repeat || repeat == direct_repeat);
-    return repeat != direct_repeat && strcmp(cell->library->name, choice.without) && spent(cell, 0) != NO_CALL;
+/* Whether a cell is timed: not the calls of the library of that name, and not those of the C library in Rattle. */
+static bool is_chosen(const struct cell *cell, const char *without) {
+    return cell->library->repeat != direct_repeat && strcmp(cell->library->name, without) && spent(cell, 0) != NO_CALL;
 }
 
 /* Libraries take turns: a round has a sample of each cell whose least time fell in the last rounds, of which there are
    this many, and at most so many times as many. Checks are timed on the text in the form. */
-static void time_calls(struct text text, size_t rounds, struct choice choice) {
+static void time_calls(struct text text, size_t rounds, const char *without) {
     static struct cell cells[FORMS * CALLS * COUNT_OF_LIBRARIES];
     struct text forms[FORMS];
     size_t count = 0;
@@ -311,7 +309,7 @@ static void time_calls(struct text text, size_t rounds, struct choice choice) {
             for (size_t i = 0; i < COUNT_OF_LIBRARIES; i++) {
                 struct cell cell = {.form = form, .call = call, .library = &LIBRARIES[i]};
                 cell.text = is_check(call) ? &forms[form] : &text;
-                if (is_chosen(choice, &cell)) cells[count++] = cell;
+                if (is_chosen(&cell, without)) cells[count++] = cell;
             }
     }
     for (size_t i = 0; i < count; i++) begin(&cells[i]);
@@ -320,6 +318,66 @@ static void time_calls(struct text text, size_t rounds, struct choice choice) {
         for (size_t i = 0; i < count; i++)
             if (!cells[i].is_slow && cells[i].steady < rounds) sample(&cells[i]);
     for (size_t i = 0; i < count; i++) say_written(&cells[i]);
+}
+
+/* How long a loop of fixed work takes: its least time on a quiet processor, and more if another process uses the same
+   core or its caches. */
+static uint64_t spin(void) {
+    static uint64_t words[4096];
+    uint64_t a = 1, b = 2, c = 3, d = 4, begin = now();
+    for (unsigned round = 0; round < 512; round++)
+        for (size_t i = 0; i < sizeof words / sizeof *words; i += 4) {
+            a = a * 31 + words[i];
+            b = b * 37 + words[i + 1];
+            c = c * 41 + words[i + 2];
+            d = d * 43 + words[i + 3];
+        }
+    words[0] = a ^ b ^ c ^ d;
+    return now() - begin;
+}
+
+/* Samples of the two cells by turns, so that what changes meanwhile changes both. Each has as many as the other: both
+   are timed on as long as the least time of either falls. */
+static void time_by_turns(struct cell *pair, size_t rounds) {
+    pair[0].steady = pair[1].steady = 0;
+    size_t most = MOST_ROUNDS * rounds;
+    for (size_t round = 0; round < most && (pair[0].steady < rounds || pair[1].steady < rounds); round++)
+        for (size_t i = 0; i < 2; i++) sample(&pair[(round + i) % 2]);
+}
+
+/* Times a call through C and the same call in Rattle. If a spin before or after takes 2 % more than the least one, both
+   are timed again; what was sampled before counts too, since a busy processor makes no time less. */
+static void time_pair(struct cell *pair, size_t rounds, uint64_t *least) {
+    for (size_t i = 0; i < 2; i++) begin(&pair[i]);
+    for (size_t try = 0; try < MOST_TRIES; try++) {
+        uint64_t before = spin();
+        time_by_turns(pair, rounds);
+        uint64_t after = spin(), longer = before > after ? before : after;
+        if (before < *least) *least = before;
+        if (after < *least) *least = after;
+        if (!try || longer < pair[0].spun) pair[0].spun = pair[1].spun = longer;
+        if (longer <= *least + *least / 50) return;
+    }
+}
+
+/* Each call of the C library and the same in Rattle. One call comes before those that are timed, since the first one
+   makes the string of Rattle's grow. */
+static void time_through_c(struct text text, size_t rounds, uint64_t least) {
+    for (unsigned form = 0; form < FORMS; form++) {
+        struct text in_form = form_of(form, &text);
+        for (unsigned call = 0; call < CALLS; call++) {
+            if (!is_exported(call)) continue;
+            struct cell pair[2] = {{.library = &LIBRARIES[0]}, {.library = &LIBRARIES[COUNT_OF_LIBRARIES - 1]}};
+            for (size_t i = 0; i < 2; i++) {
+                pair[i].form = form;
+                pair[i].call = call;
+                pair[i].text = is_check(call) ? &in_form : &text;
+                pair[i].first = 1;
+            }
+            time_pair(pair, rounds, &least);
+            for (size_t i = 0; i < 2; i++) say_written(&pair[i]);
+        }
+    }
 }
 
 static unsigned place_of(const char *name, const char *const *names, unsigned count) {
@@ -443,11 +501,10 @@ int main(int count, char **arguments) {
     } else if (!strcmp(arguments[1], "row") && count == 8) {
         time_row(text_of(file_of(arguments[4], "")), rounds, arguments + 5);
     } else if (!strcmp(arguments[1], "calls") && count > 4) {
-        struct choice choice = {false, count > 5 ? arguments[5] : ""};
-        time_calls(text_of(file_of(arguments[4], "")), rounds, choice);
-    } else if (!strcmp(arguments[1], "through-c") && count == 5) {
-        struct choice choice = {true, ""};
-        time_calls(text_of(file_of(arguments[4], "")), rounds, choice);
+        time_calls(text_of(file_of(arguments[4], "")), rounds, count > 5 ? arguments[5] : "");
+    } else if (!strcmp(arguments[1], "through-c") && count == 6) {
+        uint64_t least = strtoull(arguments[5], NULL, 10);
+        time_through_c(text_of(file_of(arguments[4], "")), rounds, least ? least : UINT64_MAX);
     }
     icu_normalizer_close(&normalizer);
     return 0;
