@@ -20,7 +20,7 @@ IsJoinBy pairs a unblocked given r =
     (d : Reading) (marks : List ℕ) → HasPairsOf pairs d → BlockBelow d marks unblocked
     → given.class ≡ d.class given.character → r ≡ join d a marks given.character
 
--- what a starter and y compose to, if the marks at the front of y are left of it; none is if they are no longer
+-- what a starter and y compose to, at the front of which is what was left in place: y joins only if nothing was
 abbrev pub composed_before : Reading → ℕ → List ℕ → List ℕ → List ℕ
 composed_before d a [] y = compose_after d a [] y
 composed_before d a (m ∷ marks) y = a ∷ compose_by_starters d y
