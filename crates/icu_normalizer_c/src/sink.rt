@@ -1,6 +1,7 @@
 //! A sink over a buffer of a caller.
 ghost use Rattle.std.specs.Prelude.{◌≡◌, ◌≤◌, ◌-◌, ◌++◌, ◌^◌, length, drop, min, take};
 ghost use Rattle.std.specs.Char.{encode_utf8};
+ghost use Rattle.std.specs.Char.Escape.{encode_utf16};
 ghost use Rattle.icu_normalizer_c.specs.Overwriting.{overwritten};
 
 use crate::history::History;
@@ -83,6 +84,23 @@ impl<'a> Buffer<'a, u8> {
     }
 }
 
+impl<'a> Buffer<'a, u16> {
+    /// Takes a character in UTF-16: a single unit is stored without an array between.
+    #[inline(always)]
+    fn take_in_utf16(&mut self, c: char)
+        ensures same_reference { self.new.units.ghost_name ≡ self.old.units.ghost_name }
+        ensures room { length self.new.units.now ≡ length self.old.units.now }
+        ensures history { self.new.history.units ≡ self.old.history.units ++ encode_utf16 c }
+    {
+        if let Ok(unit) = u16::try_from(c as u32) {
+            self.take(&[unit]);
+        } else {
+            let mut units = [0; 2];
+            self.take(c.encode_utf16(&mut units));
+        }
+    }
+}
+
 impl<'a> Write for Buffer<'a, u8> {
     ghost use Rattle.icu_normalizer.specs.Sinks.{TakesNothing};
     ghost use Rattle.icu_normalizer_c.specs.Taken.{taken_by};
@@ -127,8 +145,7 @@ impl<'a> Write16 for Buffer<'a, u16> {
     }
 
     fn write_char(&mut self, c: char) -> Result<(), SinkError> {
-        let mut units = [0; 2];
-        self.take(c.encode_utf16(&mut units));
+        self.take_in_utf16(c);
         Ok(())
     }
 }
