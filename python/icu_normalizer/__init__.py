@@ -2,11 +2,11 @@
 
 >>> import icu_normalizer
 >>> icu_normalizer.normalize("NFC", "a\\u0308")
-'\\xe4'
+'ä'
 >>> icu_normalizer.is_normalized("NFC", "a\\u0308")
 False
 >>> icu_normalizer.first_mismatch("NFC", "xa\\u0308")
-Mismatch(offset=1, found='a', expected='\\xe4')
+Mismatch(offset=1, found='a', expected='ä')
 >>> icu_normalizer.split("NFC", "xya\\u0308")
 ('xy', 'a\\u0308')
 
