@@ -46,3 +46,15 @@ pub(crate) fn overwrite_after<T: Copy>(buffer: &mut [T], start: usize, units: &[
         overwrite(&mut buffer[start..], units);
     }
 }
+
+/// Does the same by a copy, whatever the number of units.
+#[inline(always)]
+pub(crate) fn copy_after<T: Copy>(buffer: &mut [T], start: usize, units: &[T])
+    ensures fits { length buffer.old ≤ 2 ^ 64 - 1 }
+    ensures len { length buffer.new ≡ length buffer.old }
+    ensures after { buffer.new ≡ take start buffer.old ++ overwritten (drop start buffer.old) units.now }
+{
+    if start < buffer.len() {
+        overwrite_by_copy(&mut buffer[start..], units);
+    }
+}

@@ -1,11 +1,10 @@
 //! A sink over a buffer of a caller.
 ghost use Rattle.std.specs.Prelude.{◌≡◌, ◌≤◌, ◌-◌, ◌++◌, ◌^◌, length, drop, min, take};
 ghost use Rattle.std.specs.Char.{encode_utf8};
-ghost use Rattle.std.specs.Char.Escape.{encode_utf16};
 ghost use Rattle.icu_normalizer_c.specs.Overwriting.{overwritten};
 
 use crate::history::History;
-use crate::overwrite::overwrite_after;
+use crate::overwrite::{copy_after, overwrite_after};
 use icu_normalizer::sink::{SinkError, Write, Write16};
 
 /// A buffer of a caller, as a sink. It never refuses: what it takes overwrites the buffer from its front on, as far as
@@ -56,6 +55,19 @@ impl<'a, T: Copy> Buffer<'a, T> {
         self.count = self.count.saturating_add(units.len());
         self.history = history;
     }
+
+    /// Takes a piece of a text in UTF-8, which is faster copied than told apart by its length.
+    #[inline(always)]
+    fn take_piece(&mut self, piece: &[T])
+        ensures same_reference { self.new.units.ghost_name ≡ self.old.units.ghost_name }
+        ensures room { length self.new.units.now ≡ length self.old.units.now }
+        ensures history { self.new.history.units ≡ self.old.history.units ++ piece.now }
+    {
+        let history = self.history.and(piece);
+        copy_after(self.units, self.count, piece);
+        self.count = self.count.saturating_add(piece.len());
+        self.history = history;
+    }
 }
 
 impl<'a> Buffer<'a, u8> {
@@ -84,23 +96,6 @@ impl<'a> Buffer<'a, u8> {
     }
 }
 
-impl<'a> Buffer<'a, u16> {
-    /// Takes a character in UTF-16: a single unit is stored without an array between.
-    #[inline(always)]
-    fn take_in_utf16(&mut self, c: char)
-        ensures same_reference { self.new.units.ghost_name ≡ self.old.units.ghost_name }
-        ensures room { length self.new.units.now ≡ length self.old.units.now }
-        ensures history { self.new.history.units ≡ self.old.history.units ++ encode_utf16 c }
-    {
-        if let Ok(unit) = u16::try_from(c as u32) {
-            self.take(&[unit]);
-        } else {
-            let mut units = [0; 2];
-            self.take(c.encode_utf16(&mut units));
-        }
-    }
-}
-
 impl<'a> Write for Buffer<'a, u8> {
     ghost use Rattle.icu_normalizer.specs.Sinks.{TakesNothing};
     ghost use Rattle.icu_normalizer_c.specs.Taken.{taken_by};
@@ -111,8 +106,9 @@ impl<'a> Write for Buffer<'a, u8> {
 
     ghost refusal_effect = { TakesNothing taken_by };
 
+    #[inline(always)]
     fn write_str(&mut self, text: &str) -> Result<(), SinkError> {
-        self.take(text.as_bytes());
+        self.take_piece(text.as_bytes());
         Ok(())
     }
 
@@ -139,13 +135,15 @@ impl<'a> Write16 for Buffer<'a, u16> {
         Ok(())
     }
 
+    #[inline(always)]
     fn write_slice(&mut self, units: &[u16]) -> Result<(), SinkError> {
         self.take(units);
         Ok(())
     }
 
     fn write_char(&mut self, c: char) -> Result<(), SinkError> {
-        self.take_in_utf16(c);
+        let mut units = [0; 2];
+        self.take(c.encode_utf16(&mut units));
         Ok(())
     }
 }
