@@ -10,7 +10,7 @@ ghost use Rattle.icu_normalizer.specs.ClassData.{
 
 use normalizer_check::check::check;
 use normalizer_check::loaded::LoadedData;
-use normalizer_tables::characters::CharacterData;
+use normalizer_tables::characters::{CharacterData, Purpose};
 use normalizer_tables::condition::{CLASSES, GREATEST_BOUNDS};
 use normalizer_tables::word::class_of_word;
 use normalizer_tables::{
@@ -75,7 +75,7 @@ impl CanonicalCombiningClassMap {
     {
         // Classes depend on no table of lists.
         let tables = DecompositionTables::empty(decompositions.table.allocator());
-        let characters = CharacterData::new(&decompositions, &tables, None, false);
+        let characters = CharacterData::new(&decompositions, &tables, None, Purpose::Forms);
         let loaded = LoadedData::new(characters, GREATEST_BOUNDS, None, None);
         check(&loaded, marker, &CLASSES)?;
         Ok(CanonicalCombiningClassMap { decompositions })

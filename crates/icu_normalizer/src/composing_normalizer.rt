@@ -15,7 +15,8 @@ use crate::composing_form::ComposingForm;
 use crate::decomposing_normalizer::DecomposingNormalizer;
 use normalizer_check::check::check;
 use normalizer_check::loaded::LoadedData;
-use normalizer_tables::condition::{Bounds, COMPOSING};
+use normalizer_tables::characters::Purpose;
+use normalizer_tables::condition::{Bounds, composing_conditions};
 use normalizer_tables::owned::OwnedCharacterData;
 use normalizer_tables::{
     CanonicalCompositions, DataError, DataMarkerInfo, DataProvider, NormalizerNfcV1,
@@ -113,10 +114,10 @@ impl ComposingNormalizer {
             SuitsComposing (characters_owned characters false, pairs)) }
         ensures err { IfErr result (RefusesToCompose marker (characters_owned characters false, pairs)) }
     {
-        let borrowed = characters.as_borrowed(false);
+        let borrowed = characters.as_borrowed(Purpose::Forms);
         let bounds = Bounds::of_cap(borrowed.cap());
         let loaded = LoadedData::new(borrowed, bounds, Some(&pairs), None);
-        check(&loaded, marker, &COMPOSING)?;
+        check(&loaded, marker, composing_conditions())?;
         Ok(ComposingNormalizer {
             decomposing: DecomposingNormalizer { characters },
             pairs,
@@ -136,7 +137,7 @@ impl ComposingNormalizer {
         ensures held { composing_data_of_borrowed result ≡ composing_data_of self.now }
         ensures pairs { pairs_of_borrowed result ≡ pairs_of self.now }
     {
-        let characters = self.decomposing.characters.as_borrowed(false);
+        let characters = self.decomposing.characters.as_borrowed(Purpose::Forms);
         let bounds = Bounds::of_cap(characters.cap());
         NormalizerBorrowed {
             form: ComposingForm {

@@ -15,7 +15,8 @@ use crate::borrowed::{DecomposingNormalizerBorrowed, NormalizerBorrowed};
 use crate::decomposing_form::DecomposingForm;
 use normalizer_check::check::check;
 use normalizer_check::loaded::LoadedData;
-use normalizer_tables::condition::{Bounds, DECOMPOSING};
+use normalizer_tables::characters::Purpose;
+use normalizer_tables::condition::{Bounds, decomposing_conditions};
 use normalizer_tables::owned::OwnedCharacterData;
 use normalizer_tables::{
     DataError, DataMarkerInfo, DataProvider, NormalizerNfdDataV1, NormalizerNfdTablesV1,
@@ -94,10 +95,10 @@ impl DecomposingNormalizer {
             (data_of n ≡ characters_owned characters false) × SuitsDecomposing (characters_owned characters false)) }
         ensures err { IfErr result (RefusesToDecompose marker (characters_owned characters false)) }
     {
-        let borrowed = characters.as_borrowed(false);
+        let borrowed = characters.as_borrowed(Purpose::Forms);
         let bounds = Bounds::of_cap(borrowed.cap());
         let loaded = LoadedData::new(borrowed, bounds, None, None);
-        check(&loaded, marker, &DECOMPOSING)?;
+        check(&loaded, marker, decomposing_conditions())?;
         Ok(DecomposingNormalizer { characters })
     }
 
@@ -105,7 +106,7 @@ impl DecomposingNormalizer {
     pub fn as_borrowed(&self) -> DecomposingNormalizerBorrowed<'_>
         ensures { data_of_borrowed result ≡ data_of self.now }
     {
-        let characters = self.characters.as_borrowed(false);
+        let characters = self.characters.as_borrowed(Purpose::Forms);
         let bounds = Bounds::of_cap(characters.cap());
         NormalizerBorrowed {
             form: DecomposingForm {

@@ -13,7 +13,7 @@ ghost use Rattle.icu_normalizer.specs.StepMeaning.{HasSteps, MeansInLists};
 
 use normalizer_check::check::check;
 use normalizer_check::loaded::LoadedData;
-use normalizer_tables::characters::CharacterData;
+use normalizer_tables::characters::{CharacterData, Purpose};
 use normalizer_tables::condition::{GREATEST_BOUNDS, STEPPING};
 use normalizer_tables::step::{Step as Decomposed, step_of};
 use normalizer_tables::{
@@ -76,7 +76,7 @@ impl CanonicalDecomposition {
             SuitsSteps (steps_from decompositions tables supplement)) }
         ensures err { IfErr result (RefusesSteps marker (steps_from decompositions tables supplement)) }
     {
-        let characters = CharacterData::new(&decompositions, &tables, None, false);
+        let characters = CharacterData::new(&decompositions, &tables, None, Purpose::Forms);
         // No condition that is checked here depends on the bounds.
         let loaded = LoadedData::new(characters, GREATEST_BOUNDS, None, Some(&supplement));
         check(&loaded, marker, &STEPPING)?;
@@ -92,7 +92,12 @@ impl CanonicalDecomposition {
         ensures { steps_of_borrowed result ≡ steps_of self.now }
     {
         CanonicalDecompositionBorrowed {
-            characters: CharacterData::new(&self.decompositions, &self.tables, None, false),
+            characters: CharacterData::new(
+                &self.decompositions,
+                &self.tables,
+                None,
+                Purpose::Forms,
+            ),
             supplement: &self.supplement,
         }
     }

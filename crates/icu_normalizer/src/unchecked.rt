@@ -5,7 +5,7 @@ ghost use Rattle.normalizer_tables.specs.Characters.{characters_from};
 
 use crate::borrowed::NormalizerBorrowed;
 use crate::decomposing_form::DecomposingForm;
-use normalizer_tables::characters::CharacterData;
+use normalizer_tables::characters::{CharacterData, Purpose};
 use normalizer_tables::condition::GREATEST_BOUNDS;
 use normalizer_tables::{DecompositionData, DecompositionTables};
 
@@ -29,7 +29,7 @@ impl<'a> NormalizerBorrowed<DecomposingForm<'a>> {
         requires { IsSoundNfdData decompositions.now tables.now }
         ensures { data_of_borrowed result ≡ characters_from decompositions.now tables.now None }
     {
-        let characters = CharacterData::new(decompositions, tables, None, false);
+        let characters = CharacterData::new(decompositions, tables, None, Purpose::Forms);
         NormalizerBorrowed {
             form: DecomposingForm {
                 characters: characters.with_passthrough_bound(GREATEST_BOUNDS.decomposition),

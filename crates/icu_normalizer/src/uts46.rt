@@ -14,8 +14,8 @@ use normalizer_check::check::check;
 use normalizer_check::loaded::LoadedData;
 use normalizer_iterators::composition::composed;
 use normalizer_iterators::{Composition, NormalizeError};
-use normalizer_tables::characters::{CharacterData, IgnoredCharacters};
-use normalizer_tables::condition::{Bounds, MAPPING};
+use normalizer_tables::characters::{CharacterData, IgnoredCharacters, Purpose};
+use normalizer_tables::condition::{Bounds, mapping_conditions};
 use normalizer_tables::owned::OwnedCharacterData;
 use normalizer_tables::{
     CanonicalCompositions, DataError, DataMarkerInfo, DataProvider, NormalizerNfcV1,
@@ -78,10 +78,14 @@ impl Uts46Mapper {
         ensures err { IfErr result (RefusesToCompose DataMarkerInfo.NormalizerUts46DataV1
             (characters_owned characters true, pairs)) }
     {
-        let borrowed = characters.as_borrowed(true);
+        let borrowed = characters.as_borrowed(Purpose::Mapping);
         let bounds = Bounds::of_cap(borrowed.cap());
         let loaded = LoadedData::new(borrowed, bounds, Some(&pairs), None);
-        check(&loaded, DataMarkerInfo::NormalizerUts46DataV1, &MAPPING)?;
+        check(
+            &loaded,
+            DataMarkerInfo::NormalizerUts46DataV1,
+            mapping_conditions(),
+        )?;
         Ok(Uts46Mapper { characters, pairs })
     }
 
@@ -89,7 +93,7 @@ impl Uts46Mapper {
     pub fn as_borrowed(&self) -> Uts46MapperBorrowed<'_>
         ensures { mapper_data_of_borrowed result ≡ mapper_data_of self.now }
     {
-        let characters = self.characters.as_borrowed(true);
+        let characters = self.characters.as_borrowed(Purpose::Mapping);
         let bounds = Bounds::of_cap(characters.cap());
         Uts46MapperBorrowed {
             characters: characters.with_passthrough_bound(bounds.decomposition),

@@ -1,28 +1,29 @@
 -- Built data meet all conditions of constructors.
-use Rattle.std.proofs.Common.{false, true, [], ◌∷◌, List, All, None, refl}
-use Rattle.std.proofs.lemmas.List.Elements.{All-cons, All-nil}
+use Rattle.std.proofs.Common.{false, true, not, ◌==◌, [], ◌∷◌, List, All, None, refl}
+use Rattle.std.proofs.lemmas.List.Sums.{AllPass-from_list_all}
 use Rattle.normalizer_tables.specs.declared.condition.Bounds.{Bounds}
 use Rattle.normalizer_tables.specs.declared.condition.Condition.{Condition}
-use Rattle.normalizer_tables.specs.declared.condition.Condition.TheVariants.{ItemLimit, Surrogates, PastTheEnd, Hangul, Words, Members, Order, Pairs, FdfaForms, Steps}
+use Rattle.normalizer_tables.specs.declared.condition.Condition.TheVariants.{Surrogates, PastTheEnd, Words, Passthrough, Pairs, FdfaForms, Steps}
 use Rattle.normalizer_tables.specs.declared.provider.DataError.{DataError}
 use Rattle.normalizer_tables.specs.declared.provider.DataMarkerInfo.{DataMarkerInfo}
 use Rattle.normalizer_check.specs.RequiredConditions.{AreAcceptedPairs, class_conditions, composing_conditions, decomposing_conditions, IsAccepted, step_conditions}
-use Rattle.normalizer_tables.specs.conditions.Conditions.{IsMet, says}
+use Rattle.normalizer_tables.specs.conditions.Conditions.{every_condition, IsMet, number_of}
 use Rattle.normalizer_tables.specs.conditions.Loaded.{Loaded, bounds_of_cap, characters_alone, characters_and_pairs, characters_loaded, classes_loaded, pairs_loaded}
 use Rattle.normalizer_tables.specs.conditions.PairConditions.{AreSoundPairs}
 use Rattle.normalizer_tables.specs.Characters.{Characters}
 use Rattle.normalizer_tables.specs.Pairs.{Pair}
 use Rattle.normalizer_check.specs.Refusals.{RefusesFirstFailing}
-use Rattle.normalizer_tables.proofs.conditions.ListedConditions.{met}
+use Rattle.normalizer_tables.specs.conditions.NfdData.{nfd_bounds}
+use Rattle.normalizer_tables.proofs.conditions.ListedConditions.{all_met, met}
 use Rattle.normalizer_check.proofs.conditions.FailingLemmas.{IsFirstFailing-not_all}
-use Rattle.normalizer_check.proofs.conditions.LoadedLemmas.{All-front, IsMet-unsupplemented, parts_met}
+use Rattle.normalizer_check.proofs.conditions.EachCondition.{IsMet-unpaired, IsMet-unsupplemented}
+use Rattle.normalizer_check.proofs.conditions.LoadedLemmas.{All-front, parts_met}
 use Rattle.normalizer_packing.specs.declared.Packed.{Packed}
 use Rattle.normalizer_tables.specs.declared.entry.Kind.TheVariants.{Canonical, Compatibility, Mapper}
 use Rattle.normalizer_packing.specs.ReadBack.{characters_of}
 use Rattle.normalizer_builder.specs.Accepted.{steps_loaded}
 use Rattle.normalizer_records.specs.RecordValue.{RecordValue}
 use Rattle.normalizer_builder.specs.Demands.{IsFirstUnmet, loaded_of}
-use Rattle.normalizer_builder.specs.inner.Earlier.{conditions_of}
 use Rattle.normalizer_builder.proofs.FirstUnmet.{fit_kind}
 
 pub met_not_refused : (d : Loaded) (conditions : List Condition) (kind : DataMarkerInfo) (e : DataError) → All (IsMet d) conditions → ¬ RefusesFirstFailing kind d conditions e
@@ -65,16 +66,7 @@ module _ (records : List RecordValue) (p : Packed) (fit : IsFirstUnmet records p
 
   -- the conditions of one step are among those of canonical data, and none of them looks at the bounds
   pub steps_met : All (IsMet (steps_loaded p)) step_conditions
-  unfolding says
-  steps_met =
-      let all = fit_kind records p fit Canonical in
-      let holds = met (loaded_of p Canonical) (conditions_of Canonical) in
-      let P = IsMet (steps_loaded p) in
-      All-cons P ItemLimit (PastTheEnd ∷ Hangul ∷ Words ∷ Members ∷ Order ∷ FdfaForms ∷ Steps ∷ []) (holds ItemLimit all refl)
-      (All-cons P PastTheEnd (Hangul ∷ Words ∷ Members ∷ Order ∷ FdfaForms ∷ Steps ∷ []) (holds PastTheEnd all refl)
-      (All-cons P Hangul (Words ∷ Members ∷ Order ∷ FdfaForms ∷ Steps ∷ []) (holds Hangul all refl)
-      (All-cons P Words (Members ∷ Order ∷ FdfaForms ∷ Steps ∷ []) (holds Words all refl)
-      (All-cons P Members (Order ∷ FdfaForms ∷ Steps ∷ []) (holds Members all refl)
-      (All-cons P Order (FdfaForms ∷ Steps ∷ []) (holds Order all refl)
-      (All-cons P FdfaForms (Steps ∷ []) (holds FdfaForms all refl)
-      (All-cons P Steps [] (holds Steps all refl) (All-nil P))))))))
+  steps_met = λ k c h.
+      let others = AllPass-from_list_all (λ e. not (number_of e == number_of Passthrough)) step_conditions refl in
+      IsMet-unpaired (loaded_of p Canonical) nfd_bounds _ (λ same. absurd (cc (others k c h)))
+      (all_met (loaded_of p Canonical) every_condition step_conditions (fit_kind records p fit Canonical) refl k c h)

@@ -1,13 +1,12 @@
 -- The first requirement that isn't met: of two lists of requirements put together, of the data of each kind, and of all.
-use Rattle.std.proofs.Common.{◌≡◌, ◌∙◌, ◌↔◌, ◌⊎◌, inl, inr, ℕ, suc, ◌<◌, ◌≤◌, ◌==◌, Bool, true, false, List, [], ◌∷◌, ◌++◌, length, map, flat_map, get_or, All, Option, Some, None, IfSome}
+use Rattle.std.proofs.Common.{◌≡◌, ◌∙◌, ◌↔◌, ◌⊎◌, inl, inr, ℕ, suc, ◌<◌, ◌≤◌, ◌==◌, true, false, List, [], ◌∷◌, ◌++◌, length, map, flat_map, get_or, All, Option, Some, None, IfSome}
 use Rattle.std.proofs.Common.{ap, eqb-true, if◌then◌else◌, subst, sym, refl, arith}
 use Rattle.std.proofs.lemmas.Bool.Decides.{nat_tests}
 use Rattle.std.proofs.lemmas.List.{append_assoc, get_or_default, get_or-map, length-append, length-map}
 use Rattle.std.proofs.lemmas.List.Elements.{All-append, All-cons, All-contains, All-nil}
 use Rattle.std.specs.Option.{option_map}
 use Rattle.normalizer_tables.specs.declared.condition.Condition.{Condition}
-use Rattle.normalizer_tables.specs.declared.condition.Condition.TheVariants.{FdfaForms, Results, Steps}
-use Rattle.normalizer_tables.specs.conditions.Conditions.{IsFirstFailing, IsMet, number_of}
+use Rattle.normalizer_tables.specs.conditions.Conditions.{every_condition, IsFirstFailing, IsMet, number_of}
 use Rattle.normalizer_tables.specs.Steps.{step_to}
 use Rattle.normalizer_tables.specs.declared.entry.Kind.{Kind}
 use Rattle.normalizer_tables.specs.declared.entry.Kind.TheVariants.{Canonical, Compatibility, Mapper}
@@ -22,8 +21,8 @@ use Rattle.normalizer_records.specs.Faults.{AreRising}
 use Rattle.normalizer_records.proofs.record_faults.LookupLemmas.{find-found}
 use Rattle.normalizer_builder.specs.declared.demand.Demand.{Demand}
 use Rattle.normalizer_builder.specs.declared.demand.Demand.TheVariants.{Asks, KeepsMappings}
-use Rattle.normalizer_builder.specs.Demands.{constructor_demands, every, IsFirstUnmet, KeepsMapping, loaded_of, Meets, reported_number}
-use Rattle.normalizer_builder.specs.inner.Earlier.{asked_of, conditions_of, earlier}
+use Rattle.normalizer_builder.specs.Demands.{conditions_of, constructor_demands, IsFirstUnmet, is_asked, KeepsMapping, loaded_of, Meets, reported_number}
+use Rattle.normalizer_builder.specs.inner.Earlier.{asked_of, earlier}
 use Rattle.normalizer_builder.specs.inner.Parts.{KeepsRecord}
 
 module _ {D : Type 0} (P : D → Type 0) where
@@ -132,21 +131,14 @@ module _ (P : Demand → Type 0) (f g : Condition → List Demand) (of_f : (c : 
       (All-append P (f c) (flat_map f cs) (All-front P (f c) (g c) here) others.0, All-append P (g c) (flat_map g cs) (All-behind P (f c) (g c) here) others.1)
 
 -- the requirements on the data of one kind, condition by condition
-abbrev is_asked : Kind → Condition → Bool
-is_asked Canonical c = true
-is_asked kind FdfaForms = false
-is_asked kind Steps = false
-is_asked Mapper Results = false
-is_asked kind c = true
-
 abbrev on : Kind → Condition → List Demand
-on kind c = if is_asked kind c then Asks c kind ∷ [] else []
+on kind c = if is_asked c kind then Asks c kind ∷ [] else []
 
 abbrev on_others : Condition → List Demand
 on_others c = on Compatibility c ++ on Mapper c
 
 of_on : (kind : Kind) (c : Condition) → AreOf c (on kind c)
-of_on kind c = elim (is_asked kind c) as (λ b. AreOf c (if b then Asks c kind ∷ [] else [])) [
+of_on kind c = elim (is_asked c kind) as (λ b. AreOf c (if b then Asks c kind ∷ [] else [])) [
   | true ↦ All-cons (λ d. reported_number d ≡ number_of c) (Asks c kind) [] refl (All-nil (λ d. reported_number d ≡ number_of c))
   | false ↦ All-nil (λ d. reported_number d ≡ number_of c)
 ]
@@ -154,15 +146,15 @@ of_on kind c = elim (is_asked kind c) as (λ b. AreOf c (if b then Asks c kind �
 of_others : (c : Condition) → AreOf c (on_others c)
 of_others c = All-append (λ d. reported_number d ≡ number_of c) (on Compatibility c) (on Mapper c) (of_on Compatibility c) (of_on Mapper c)
 
-numbered : AreNumbered 1 every
-numbered = (refl, (refl, (refl, (refl, (refl, (refl, (refl, (refl, (refl, (refl, (refl, (refl, (refl, (refl, (refl, (refl, tt))))))))))))))))
+numbered : AreNumbered 1 every_condition
+numbered = search
 
-by_kind : (kind : Kind) → flat_map (on kind) every ≡ asked_of kind
+by_kind : (kind : Kind) → flat_map (on kind) every_condition ≡ asked_of kind
 by_kind Canonical = refl
 by_kind Compatibility = refl
 by_kind Mapper = refl
 
-by_condition : flat_map (λ c. on Canonical c ++ on_others c) every ≡ constructor_demands
+by_condition : flat_map (λ c. on Canonical c ++ on_others c) every_condition ≡ constructor_demands
 by_condition = refl
 
 module _ (p : Packed) where
@@ -175,8 +167,8 @@ module _ (p : Packed) where
       ((records : List RecordValue) → IsFirstFailing (Meets records p) (asked_of Compatibility) b) → ((records : List RecordValue) → IsFirstFailing (Meets records p) (asked_of Mapper) m) →
       (records : List RecordValue) → IsFirstFailing (Meets records p) constructor_demands (earlier a (earlier b m))
   of_all_kinds a b m canonical compatibility mapper records =
-      let others = first_of_both (Meets records p) (on Compatibility) (on Mapper) (of_on Compatibility) (of_on Mapper) every 1 numbered b m (compatibility records) (mapper records) in
-      first_of_both (Meets records p) (on Canonical) on_others (of_on Canonical) of_others every 1 numbered a (earlier b m) (canonical records) others
+      let others = first_of_both (Meets records p) (on Compatibility) (on Mapper) (of_on Compatibility) (of_on Mapper) every_condition 1 numbered b m (compatibility records) (mapper records) in
+      first_of_both (Meets records p) (on Canonical) on_others (of_on Canonical) of_others every_condition 1 numbered a (earlier b m) (canonical records) others
 
 module _ (records : List RecordValue) (p : Packed) where
   -- the data keep a record if they keep the mapping of its character
@@ -219,8 +211,8 @@ module _ (records : List RecordValue) (p : Packed) where
   pub fit_kind : IsFirstUnmet records p None → (kind : Kind) → All (IsMet (loaded_of p kind)) (conditions_of kind)
   unfolding IsFirstFailing Meets
   fit_kind met kind =
-      let first = both_met (Meets records p) (on Canonical) on_others (of_on Canonical) of_others every (All-front (Meets records p) constructor_demands (KeepsMappings ∷ []) met) in
-      let others = both_met (Meets records p) (on Compatibility) (on Mapper) (of_on Compatibility) (of_on Mapper) every first.1 in
+      let first = both_met (Meets records p) (on Canonical) on_others (of_on Canonical) of_others every_condition (All-front (Meets records p) constructor_demands (KeepsMappings ∷ []) met) in
+      let others = both_met (Meets records p) (on Compatibility) (on Mapper) (of_on Compatibility) (of_on Mapper) every_condition first.1 in
       let parts : All (Meets records p) (asked_of kind) = elim kind as (λ k. All (Meets records p) (asked_of k)) [ Canonical ↦ first.0 | Compatibility ↦ others.0 | Mapper ↦ others.1 ] in
       λ k c within. subst (Meets records p) (get_or-map (λ e. Asks e kind) (conditions_of kind) k c (Asks c kind) within)
       (parts k (Asks c kind) (omega (arith, within, length-map (conditions_of kind) (λ e. Asks e kind))))

@@ -1,10 +1,12 @@
 -- What is required of data that pack records, in order, and how data that don't meet a requirement are reported.
-use Rattle.std.specs.Prelude.{◌≡◌, ℕ, List, [], ◌∷◌, ◌++◌, flat_map, map, Option, Some, None, IfSome, false}
+use Rattle.std.specs.Prelude.{◌≡◌, ◌==◌, ℕ, Bool, true, false, List, [], ◌∷◌, ◌++◌, filter, flat_map, map}
+use Rattle.std.specs.Prelude.{Option, Some, None, IfSome}
+use Rattle.std.specs.List.{list_any}
 use Rattle.normalizer_tables.specs.declared.condition.Condition.{Condition}
-use Rattle.normalizer_tables.specs.declared.condition.Condition.TheVariants.{FdfaForms, Results, Steps}
+use Rattle.normalizer_tables.specs.declared.condition.Condition.TheVariants.{Steps}
 use Rattle.normalizer_tables.specs.declared.provider.DataMarkerInfo.{DataMarkerInfo}
 use Rattle.normalizer_tables.specs.declared.provider.DataMarkerInfo.TheVariants as marker
-use Rattle.normalizer_check.specs.RequiredConditions.{composing_conditions}
+use Rattle.normalizer_tables.specs.conditions.Conditions.{composing_conditions, every_condition}
 use Rattle.normalizer_tables.specs.conditions.Conditions.{IsFirstFailing, IsMet, number_of}
 use Rattle.normalizer_tables.specs.conditions.Loaded.{bounds_of_cap, Loaded}
 use Rattle.normalizer_tables.specs.Data.{Supplement}
@@ -45,21 +47,24 @@ unfoldable pub Meets : List RecordValue → Packed → Demand → Type 0
 Meets records p (Asks c kind) = IsMet (loaded_of p kind) c
 Meets records p KeepsMappings = (n : ℕ) → KeepsMapping records p n
 
--- conditions 1 to 16
-abbrev pub every : List Condition
-every = composing_conditions false ++ FdfaForms ∷ Steps ∷ []
+-- the conditions that constructors require of the data of one kind
+abbrev pub conditions_of : Kind → List Condition
+conditions_of Canonical = every_condition
+conditions_of Compatibility = composing_conditions false
+conditions_of Mapper = composing_conditions true
+
+-- one with this number is among the conditions on the data of the kind
+abbrev pub is_asked : Condition → Kind → Bool
+is_asked c kind = list_any (λ e. number_of e == number_of c) (conditions_of kind)
 
 -- the kinds of data of which constructors require the condition. What is required for classes alone, or of pairs
 -- alone, is part of these, under their numbers and markers.
 abbrev pub kinds_asked : Condition → List Kind
-kinds_asked Results = Canonical ∷ Compatibility ∷ []
-kinds_asked FdfaForms = Canonical ∷ []
-kinds_asked Steps = Canonical ∷ []
-kinds_asked c = Canonical ∷ Compatibility ∷ Mapper ∷ []
+kinds_asked c = filter (is_asked c) (Canonical ∷ Compatibility ∷ Mapper ∷ [])
 
 -- what constructors require
 abbrev pub constructor_demands : List Demand
-constructor_demands = flat_map (λ c. map (Asks c) (kinds_asked c)) every
+constructor_demands = flat_map (λ c. map (Asks c) (kinds_asked c)) every_condition
 
 -- all that is required: by constructors, then that the recorded mappings are kept
 abbrev pub demands : List Demand

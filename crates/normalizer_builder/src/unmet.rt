@@ -7,13 +7,14 @@ ghost use Rattle.normalizer_records.specs.RecordValue.{RecordValue};
 ghost use Rattle.normalizer_records.specs.Faults.{AreRising};
 ghost use Rattle.normalizer_builder.specs.Demands.{
   characters_of,
+  conditions_of,
   constructor_demands,
   IsFirstUnmet,
   loaded_of,
   Meets,
 };
 ghost use Rattle.normalizer_builder.specs.declared.demand.Demand.TheVariants.{Asks};
-ghost use Rattle.normalizer_builder.specs.inner.Earlier.{asked_of, conditions_of};
+ghost use Rattle.normalizer_builder.specs.inner.Earlier.{asked_of};
 ghost use Rattle.normalizer_builder.specs.inner.Parts.{KeepsRecord};
 
 use crate::demand::{Demand, earlier};
@@ -21,8 +22,10 @@ use normalizer_check::check::first_failing;
 use normalizer_check::loaded::LoadedData;
 use normalizer_packing::Packed;
 use normalizer_records::{Record, recorded_step};
-use normalizer_tables::characters::CharacterData;
-use normalizer_tables::condition::{Bounds, COMPOSING, Condition, EVERY, MAPPING};
+use normalizer_tables::characters::{CharacterData, Purpose};
+use normalizer_tables::condition::{
+    Bounds, Condition, EVERY, composing_conditions, mapping_conditions,
+};
 use normalizer_tables::entry::Kind;
 use normalizer_tables::step::step_of;
 
@@ -64,11 +67,17 @@ fn asked_of(kind: Kind, condition: Option<Condition>) -> Option<Demand>
 fn first_failing_of_kind(packed: &Packed, kind: Kind) -> Option<Condition>
     ensures { IsFirstFailing (IsMet (loaded_of packed.now kind)) (conditions_of kind) result }
 {
-    let loaded = loaded_of(packed, kind);
+    first_failing(&loaded_of(packed, kind), conditions_of(kind))
+}
+
+/// The conditions that constructors require of the data of one kind.
+fn conditions_of(kind: Kind) -> &'static [Condition]
+    ensures { result.now ≡ conditions_of kind }
+{
     match kind {
-        Kind::Canonical => first_failing(&loaded, &EVERY),
-        Kind::Compatibility => first_failing(&loaded, &COMPOSING),
-        Kind::Mapper => first_failing(&loaded, &MAPPING),
+        Kind::Canonical => &EVERY,
+        Kind::Compatibility => composing_conditions(),
+        Kind::Mapper => mapping_conditions(),
     }
 }
 
@@ -89,21 +98,16 @@ pub(crate) fn loaded_of(packed: &Packed, kind: Kind) -> LoadedData<'_>
 pub(crate) fn characters_of(packed: &Packed, kind: Kind) -> CharacterData<'_>
     ensures { result ≡ characters_of packed.now kind }
 {
-    let supplementary = &packed.supplementary_tables;
+    let tables = &packed.tables;
+    let supplementary = Some(&packed.supplementary_tables);
     match kind {
-        Kind::Canonical => CharacterData::new(&packed.canonical, &packed.tables, None, false),
-        Kind::Compatibility => CharacterData::new(
-            &packed.compatibility,
-            &packed.tables,
-            Some(supplementary),
-            false,
-        ),
-        Kind::Mapper => CharacterData::new(
-            &packed.mapper,
-            &packed.tables,
-            Some(supplementary),
-            true,
-        ),
+        Kind::Canonical => CharacterData::new(&packed.canonical, tables, None, Purpose::Forms),
+        Kind::Compatibility => {
+            CharacterData::new(&packed.compatibility, tables, supplementary, Purpose::Forms)
+        }
+        Kind::Mapper => {
+            CharacterData::new(&packed.mapper, tables, supplementary, Purpose::Mapping)
+        }
     }
 }
 

@@ -1,5 +1,6 @@
 -- The written conditions and accepted data.
 pub mod AcceptedLaws
+pub mod EachCondition
 pub mod FailingLemmas
 pub mod FirstFailing
 pub mod LoadedLemmas

@@ -10,22 +10,9 @@ ghost use Rattle.normalizer_tables.specs.declared.provider.DataMarkerInfo.TheVar
 
 use crate::check::check;
 use crate::loaded::LoadedData;
-use normalizer_tables::characters::CharacterData;
-use normalizer_tables::condition::{Condition, GREATEST_BOUNDS};
+use normalizer_tables::characters::{CharacterData, Purpose};
+use normalizer_tables::condition::{GREATEST_BOUNDS, NFD_DATA};
 use normalizer_tables::{DataError, DataMarkerInfo, DecompositionData, DecompositionTables};
-
-/// What is required of canonical data that a caller passes in: nothing of their cap.
-const NFD_DATA: [Condition; 9] = [
-    Condition::ItemLimit,
-    Condition::ReplacementCharacter,
-    Condition::Surrogates,
-    Condition::PastTheEnd,
-    Condition::Hangul,
-    Condition::Words,
-    Condition::Members,
-    Condition::Order,
-    Condition::Passthrough,
-];
 
 /// Checks canonical data for `DecomposingNormalizerBorrowed::new_with_data` and `Decomposition::new`, which don't
 /// check them: conditions 1, 3 to 9, and 10 for the characters below U+00C0 (`docs/CONDITIONS.md`). It takes no
@@ -47,7 +34,7 @@ pub fn check_nfd_data<'a>(
     ensures err { IfErr result (RefusesFirstFailing marker.NormalizerNfdDataV1
         (nfd_loaded decompositions.now tables.now) nfd_conditions) }
 {
-    let characters = CharacterData::new(decompositions, tables, None, false);
+    let characters = CharacterData::new(decompositions, tables, None, Purpose::Forms);
     let loaded = LoadedData::new(characters, GREATEST_BOUNDS, None, None);
     check(&loaded, DataMarkerInfo::NormalizerNfdDataV1, &NFD_DATA)
 }

@@ -25,7 +25,7 @@ use crate::error::NormalizeError;
 use crate::pending::{PendingChar, read_from};
 use crate::reading::{hold_others, is_at_boundary, read_on};
 use crate::waiting::{ClassedChar, WaitingList};
-use normalizer_tables::characters::{CharacterData, IgnoredCharacters};
+use normalizer_tables::characters::{CharacterData, IgnoredCharacters, Purpose};
 use normalizer_tables::condition::GREATEST_BOUNDS;
 use normalizer_tables::{CanonicalCompositions, DecompositionData, DecompositionTables};
 use std::alloc::AllocError;
@@ -81,7 +81,7 @@ impl<'data, I: Iterator<Item = char> + Drop> Decomposition<'data, I> {
             (characters_from decompositions.now tables.now None) Dropped [] nfd delegate result }
         ensures ready { IfOk result ⟦<Decomposition<'data, I> as Iterator>⟧.can_next }
     {
-        let characters = CharacterData::new(decompositions, tables, None, false);
+        let characters = CharacterData::new(decompositions, tables, None, Purpose::Forms);
         let characters = characters.with_passthrough_bound(GREATEST_BOUNDS.decomposition);
         decomposed(characters, IgnoredCharacters::Dropped, delegate)
     }

@@ -9,7 +9,6 @@ mod faults;
 pub mod laws;
 mod list_faults;
 mod lookup;
-mod ordering;
 mod pair_list;
 mod ranges;
 mod recorded;

@@ -10,6 +10,7 @@ pub mod Owned
 pub mod Pairs
 pub mod Passthrough
 pub mod Places
+pub mod Purposes
 pub mod Ranges
 pub mod Read
 pub mod Readings

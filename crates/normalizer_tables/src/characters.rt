@@ -21,6 +21,7 @@ ghost use Rattle.normalizer_tables.specs.Characters.{
   wide_at,
   word_of,
 };
+ghost use Rattle.normalizer_tables.specs.Purposes.{is_mapping};
 ghost use Rattle.normalizer_tables.specs.Ranges.{IsComplete};
 ghost use Rattle.normalizer_tables.specs.Table.{code_points};
 ghost use Rattle.normalizer_tables.specs.Passthrough.{IsPassthroughBelow, IsPassthrough};
@@ -43,6 +44,15 @@ pub enum IgnoredCharacters {
     Dropped,
     /// It reads as U+FFFD, as validation requires.
     Replaced,
+}
+
+/// What decomposition data are for.
+#[derive(Clone, Copy, PartialEq, Eq, Debug)]
+pub enum Purpose {
+    /// The normalization forms, which ignore no character.
+    Forms,
+    /// The mapper, which ignores characters (UTS #46, section 4).
+    Mapping,
 }
 
 /// How many code points there are.
@@ -77,26 +87,26 @@ impl<'a> Model for CharacterData<'a> {
 }
 
 impl<'a> CharacterData<'a> {
-    /// Makes it from data, the tables that come first, the supplementary ones if the data have them, and whether the
-    /// data are the mapper's. Every word is looked up.
+    /// Makes it from data, the tables that come first, the supplementary ones if the data have them, and what the data
+    /// are for. Every word is looked up.
     pub fn new(
         decompositions: &'a DecompositionData,
         tables: &'a DecompositionTables,
         supplementary: Option<&'a DecompositionTables>,
-        is_mapper: bool,
+        purpose: Purpose,
     ) -> Self
         ensures { result ≡ record {
           decompositions = decompositions.now;
           tables = tables.now;
           supplementary = lists_or_none (option_copied supplementary.entry);
-          is_mapper = is_mapper;
+          is_mapper = is_mapping purpose;
         } }
     {
         CharacterData {
             decompositions,
             tables,
             supplementary,
-            is_mapper,
+            is_mapper: purpose == Purpose::Mapping,
             unseen_below: 0,
         }
     }

@@ -1,6 +1,10 @@
 //! The written conditions on all that is loaded: decomposition data, pairs and the supplement.
-ghost use Rattle.std.specs.Prelude.{◌≡◌};
-ghost use Rattle.normalizer_tables.specs.conditions.Conditions.{number_of};
+ghost use Rattle.std.specs.Prelude.{◌≡◌, false, true};
+ghost use Rattle.normalizer_tables.specs.conditions.Conditions.{
+  composing_conditions,
+  decomposing_conditions,
+  number_of,
+};
 ghost use Rattle.normalizer_tables.specs.conditions.Loaded.{bounds_of_cap};
 
 /// The most items that all tables may have together.
@@ -88,22 +92,8 @@ impl Bounds {
     }
 }
 
-/// What is required of data for decomposing.
-pub const DECOMPOSING: [Condition; 10] = [
-    Condition::ItemLimit,
-    Condition::CapLimit,
-    Condition::ReplacementCharacter,
-    Condition::Surrogates,
-    Condition::PastTheEnd,
-    Condition::Hangul,
-    Condition::Words,
-    Condition::Members,
-    Condition::Order,
-    Condition::Passthrough,
-];
-
-/// What is required of data and pairs for composing.
-pub const COMPOSING: [Condition; 14] = [
+/// All that is required of canonical data, pairs and supplement, in the order of the numbers.
+pub const EVERY: [Condition; 16] = [
     Condition::ItemLimit,
     Condition::CapLimit,
     Condition::ReplacementCharacter,
@@ -118,12 +108,34 @@ pub const COMPOSING: [Condition; 14] = [
     Condition::RoundTrip,
     Condition::SafeBeginning,
     Condition::Results,
+    Condition::FdfaForms,
+    Condition::Steps,
 ];
 
-/// What is required of the mapper's data and pairs.
-pub const MAPPING: [Condition; 13] = [
+/// Returns what is required of data for decomposing.
+pub fn decomposing_conditions() -> &'static [Condition]
+    ensures { result.now ≡ decomposing_conditions }
+{
+    &EVERY[..10]
+}
+
+/// Returns what is required of data and pairs for composing.
+pub fn composing_conditions() -> &'static [Condition]
+    ensures { result.now ≡ composing_conditions false }
+{
+    &EVERY[..14]
+}
+
+/// Returns what is required of the mapper's data and pairs.
+pub fn mapping_conditions() -> &'static [Condition]
+    ensures { result.now ≡ composing_conditions true }
+{
+    &EVERY[..13]
+}
+
+/// What is required of canonical data that a caller passes in: nothing of their cap.
+pub const NFD_DATA: [Condition; 9] = [
     Condition::ItemLimit,
-    Condition::CapLimit,
     Condition::ReplacementCharacter,
     Condition::Surrogates,
     Condition::PastTheEnd,
@@ -132,9 +144,6 @@ pub const MAPPING: [Condition; 13] = [
     Condition::Members,
     Condition::Order,
     Condition::Passthrough,
-    Condition::Pairs,
-    Condition::RoundTrip,
-    Condition::SafeBeginning,
 ];
 
 /// What is required of data and supplement for single decomposition steps.
@@ -154,26 +163,6 @@ pub const CLASSES: [Condition; 3] = [
     Condition::SurrogateClasses,
     Condition::PastTheEnd,
     Condition::WordClasses,
-];
-
-/// All that is required of canonical data, pairs and supplement.
-pub const EVERY: [Condition; 16] = [
-    Condition::ItemLimit,
-    Condition::CapLimit,
-    Condition::ReplacementCharacter,
-    Condition::Surrogates,
-    Condition::PastTheEnd,
-    Condition::Hangul,
-    Condition::Words,
-    Condition::Members,
-    Condition::Order,
-    Condition::Passthrough,
-    Condition::Pairs,
-    Condition::RoundTrip,
-    Condition::SafeBeginning,
-    Condition::Results,
-    Condition::FdfaForms,
-    Condition::Steps,
 ];
 
 impl Condition {

@@ -8,6 +8,7 @@ pub mod entry;
 pub mod hangul;
 pub mod laws;
 pub mod members;
+pub mod ordering;
 pub mod owned;
 mod pairs;
 pub mod places;

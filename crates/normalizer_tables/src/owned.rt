@@ -1,8 +1,9 @@
 //! Decomposition data with the tables that their words point into, as a normalizer owns them.
 ghost use Rattle.std.specs.Prelude.{◌≡◌};
 ghost use Rattle.normalizer_tables.specs.Owned.{characters_owned};
+ghost use Rattle.normalizer_tables.specs.Purposes.{is_mapping};
 
-use crate::characters::CharacterData;
+use crate::characters::{CharacterData, Purpose};
 use crate::provider::{DecompositionData, DecompositionTables};
 
 /// Decomposition data with the tables that their words point into.
@@ -27,15 +28,15 @@ impl Drop for OwnedCharacterData {
 }
 
 impl OwnedCharacterData {
-    /// Returns the data, borrowed: those of a mapper, in which characters may be ignored, or others.
-    pub fn as_borrowed(&self, is_mapper: bool) -> CharacterData<'_>
-        ensures { result ≡ characters_owned self.now is_mapper }
+    /// Returns the data, borrowed for this purpose.
+    pub fn as_borrowed(&self, purpose: Purpose) -> CharacterData<'_>
+        ensures { result ≡ characters_owned self.now (is_mapping purpose) }
     {
         CharacterData::new(
             &self.decompositions,
             &self.tables,
             self.supplementary.as_ref(),
-            is_mapper,
+            purpose,
         )
     }
 }

@@ -8,7 +8,7 @@ use crate::language::words::{all, first_of};
 use crate::plain::{CharacterRow, Form, PairRow, Rows, cut, normal_form};
 use icu_normalizer::Record;
 use normalizer_records::pairs;
-use normalizer_tables::characters::{CharacterData, IgnoredCharacters};
+use normalizer_tables::characters::{CharacterData, IgnoredCharacters, Purpose};
 use std::alloc::Global;
 
 /// A character with the class and the list that data have of it.
@@ -54,7 +54,7 @@ fn canonical_lines(alloc: Global, held: &Held, records: &[Record]) -> Result<Vec
     };
     lines_of(
         alloc,
-        &CharacterData::new(words, tables, None, false),
+        &CharacterData::new(words, tables, None, Purpose::Forms),
         records,
     )
 }

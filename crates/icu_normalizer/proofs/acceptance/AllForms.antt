@@ -5,7 +5,8 @@ use Rattle.std.proofs.lemmas.List.Elements.{All-cons, All-from_recursion, All-he
 use Rattle.normal_forms.specs.declared.Form.TheVariants.{Composing, Decomposing}
 use Rattle.normalizer_check.specs.RequiredConditions.{decomposing_conditions, pair_conditions}
 use Rattle.normalizer_check.proofs.conditions.FailingLemmas.{IsFirstFailing-here, IsFirstFailing-next}
-use Rattle.normalizer_check.proofs.conditions.LoadedLemmas.{IsMet-alone, parts_met}
+use Rattle.normalizer_check.proofs.conditions.EachCondition.{IsMet-alone}
+use Rattle.normalizer_check.proofs.conditions.LoadedLemmas.{parts_met}
 use Rattle.normalizer_tables.specs.Characters.{Characters}
 use Rattle.normalizer_tables.specs.conditions.Conditions.{IsFirstFailing, IsMet, says}
 use Rattle.normalizer_tables.specs.Held.{AcceptsHeld}
@@ -50,8 +51,7 @@ first_failing-split P Q (x ∷ xs) ys c same weaker (b ∷ before, after, e, met
 -- the conditions for decomposing say nothing of pairs
 same_met : (s : Characters) (pairs : List Pair) → All (λ c. IsMet (characters_alone s) c → IsMet (characters_and_pairs s pairs) c) decomposing_conditions
 unfolding says
-same_met s pairs = All-from_recursion (λ c. IsMet (characters_alone s) c → IsMet (characters_and_pairs s pairs) c) decomposing_conditions
-    (λ h. h, (λ h. h, (λ h. h, (λ h. h, (λ h. h, (λ h. h, (λ h. h, (λ h. h, (λ h. h, (λ h. h, tt))))))))))
+same_met s pairs = All-from_recursion (λ c. IsMet (characters_alone s) c → IsMet (characters_and_pairs s pairs) c) decomposing_conditions search
 
 -- data with pairs that are refused for composing text are refused for decomposing it, with the same error, or suit that
 pub composing-refuses : (kind : DataMarkerInfo) (s : Characters) (pairs : List Pair) (e : DataError) → RefusesToCompose kind (s, pairs) e

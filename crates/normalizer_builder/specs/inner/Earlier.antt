@@ -1,20 +1,11 @@
 -- The first of the requirements on the data of each kind, put together.
-use Rattle.std.specs.Prelude.{nat_lt, List, map, Option, Some, None, true, false, if◌then◌else◌}
-use Rattle.normalizer_tables.specs.declared.condition.Condition.{Condition}
+use Rattle.std.specs.Prelude.{nat_lt, List, map, Option, Some, None, if◌then◌else◌}
 use Rattle.normalizer_tables.specs.declared.entry.Kind.{Kind}
-use Rattle.normalizer_tables.specs.declared.entry.Kind.TheVariants.{Canonical, Compatibility, Mapper}
-use Rattle.normalizer_check.specs.RequiredConditions.{composing_conditions}
 use Rattle.normalizer_builder.specs.declared.demand.Demand.{Demand}
 use Rattle.normalizer_builder.specs.declared.demand.Demand.TheVariants.{Asks}
-use Rattle.normalizer_builder.specs.Demands.{every, reported_number}
+use Rattle.normalizer_builder.specs.Demands.{conditions_of, reported_number}
 
--- the conditions that constructors require of the data of one kind
-abbrev pub conditions_of : Kind → List Condition
-conditions_of Canonical = every
-conditions_of Compatibility = composing_conditions false
-conditions_of Mapper = composing_conditions true
-
--- that they meet them
+-- what constructors require of the data of one kind
 abbrev pub asked_of : Kind → List Demand
 asked_of kind = map (λ c. Asks c kind) (conditions_of kind)
 

@@ -15,7 +15,8 @@ use Rattle.normalizer_tables.specs.conditions.Conditions.{IsFirstFailing, IsMet,
 use Rattle.normalizer_tables.specs.conditions.Loaded.{Loaded}
 use Rattle.normalizer_check.specs.inner.Walk.{is_asked_of_words, AreUnasked, IsMetBefore, IsPlaceOfFirstFailing}
 use Rattle.normalizer_tables.proofs.lists.ListedLemmas.{drop_member}
-use Rattle.normalizer_check.proofs.conditions.LoadedLemmas.{IsMet-parts, of_each-unasked}
+use Rattle.normalizer_check.proofs.conditions.EachCondition.{of_each-unasked}
+use Rattle.normalizer_check.proofs.conditions.LoadedLemmas.{IsMet-parts}
 
 -- what is checked before the walk is met, and what is checked of the characters below `number`
 abbrev pub IsMetBelow : Loaded → ℕ → Condition → Type 0

@@ -1,39 +1,21 @@
 -- What is checked of the words that aren't 0 suffices for all.
-use Rattle.std.proofs.Common.{◌≡◌, ◌≢◌, ℕ, ◌<◌, ◌≤◌, inl, inr, Bool, true, false, List, All, Option, Some, None, refl, sym, subst, ◌∙◌}
+use Rattle.std.proofs.Common.{◌≡◌, ℕ, ◌<◌, ◌≤◌, inl, inr, Bool, true, false, List, All, Option, Some, None, refl, sym, subst, ◌∙◌}
 use Rattle.std.specs.Char.{IsScalar}
 use Rattle.std.proofs.lemmas.Bool.{cases_Bool, cases_order, cond-false}
 use Rattle.normalizer_tables.specs.declared.condition.Bounds.{Bounds}
 use Rattle.normalizer_tables.specs.declared.condition.Condition.{Condition}
-use Rattle.normalizer_tables.specs.declared.condition.Condition.TheVariants.{Words, Members, Order, Passthrough, RoundTrip, SafeBeginning, FdfaForms, Steps, WordClasses}
-use Rattle.normalizer_tables.specs.Characters.{Characters, IsNextWord, word_of, reading_of_word}
-use Rattle.normalizer_tables.specs.conditions.CharacterConditions.{IsPlainStarter, IsSoundHangul, ReadsToItself}
+use Rattle.normalizer_tables.specs.Characters.{Characters, IsNextWord, word_of}
+use Rattle.normalizer_tables.specs.conditions.CharacterConditions.{IsSoundHangul}
 use Rattle.normalizer_tables.specs.conditions.Loaded.{Loaded}
 use Rattle.normalizer_tables.specs.conditions.PairConditions.{KeepsBoundary, is_taken_as_boundary}
 use Rattle.normalizer_tables.specs.Pairs.{Pair, IsNeverSecond, is_vowel_or_trailing_jamo, listed_result, pair_of}
-use Rattle.normalizer_tables.specs.conditions.StepConditions.{AvoidsFdfa}
 use Rattle.normalizer_check.specs.inner.Walk.{IsEndOfEqualWords, IsMetBefore, KeepsPlainBoundary}
 use Rattle.normalizer_tables.specs.conditions.Conditions.{says}
 use Rattle.normalizer_tables.specs.Words.{is_plain}
-use Rattle.normalizer_tables.proofs.conditions.ConditionLemmas.{class_of-plain, HasSoundStep-plain, IsOrderedList-plain, IsSoundClass-none, IsSoundWord-plain}
-use Rattle.normalizer_tables.proofs.conditions.ConditionLemmas.{itself_reads_in_full, list_read-plain, plain-no_class_form, read-plain, syllable-scalar}
-use Rattle.normalizer_check.proofs.conditions.LoadedLemmas.{IfSome-all}
-use Rattle.normalizer_check.proofs.composites.PairConditionLemmas.{ListBeginsAtBoundary-plain, IsNeverSecond-plain, KeepsRoundTrip-plain}
+use Rattle.normalizer_tables.proofs.conditions.ConditionLemmas.{syllable-scalar}
+use Rattle.normalizer_check.proofs.composites.PairConditionLemmas.{ListBeginsAtBoundary-plain, IsNeverSecond-plain}
 use Rattle.normalizer_tables.proofs.composites.PairLemmas.{All-listed_result}
-use Rattle.normalizer_check.proofs.syllables.SyllableLemmas.{of_each-syllable_behind}
-
--- a character whose word is 0, flags aside, is as each condition says, but for the one on its beginning
-pub of_each-plain : (d : Loaded) (c : Condition) → c ≢ SafeBeginning → (n : ℕ) → IsScalar n → is_plain (word_of d.characters n) ≡ true → (says d c).of_each n
-unfolding says AvoidsFdfa reading_of_word ReadsToItself IsPlainStarter
-of_each-plain d Words other n is plain = IsSoundWord-plain d.characters n is plain
-of_each-plain d Members other n is plain = itself_reads_in_full d.characters n (list_read-plain d.characters n is plain)
-of_each-plain d Order other n is plain = IsOrderedList-plain d.characters n is plain
-of_each-plain d Passthrough other n is plain = λ below. (list_read-plain d.characters n is plain, class_of-plain d.characters n is plain)
-of_each-plain d RoundTrip other n is plain = IfSome-all _ (λ pairs. KeepsRoundTrip-plain d.characters d.bounds pairs n is plain) d.pairs
-of_each-plain d SafeBeginning other n is plain = absurd (other refl)
-of_each-plain d FdfaForms other n is plain = λ fdfa. (let itself = read-plain n (word_of d.characters n) d.characters.is_mapper plain in cc)
-of_each-plain d Steps other n is plain = IfSome-all _ (λ t. HasSoundStep-plain d.characters t n is plain) d.supplement
-of_each-plain d WordClasses other n is plain = IsSoundClass-none n (word_of d.characters n) (plain-no_class_form (word_of d.characters n) plain)
-of_each-plain d _ other n is plain = tt
+use Rattle.normalizer_check.proofs.conditions.EachCondition.{of_each-syllable_behind}
 
 -- checking a number suffices for those before it whose words are 0, for itself, and for the syllables after it that are
 -- alike

@@ -1,6 +1,6 @@
 //! The lists of what pairs compose to.
-ghost use Rattle.std.specs.Prelude.{◌≡◌, ◌↔◌, ◌<◌, ◌+◌, ◌++◌, [], ◌∷◌, IsTrue, length, drop, slice_index};
-ghost use Rattle.normal_forms.specs.Order.{insert, is_reorderable, order};
+ghost use Rattle.std.specs.Prelude.{◌≡◌, ◌↔◌, ◌++◌, [], IsTrue, length};
+ghost use Rattle.normal_forms.specs.Order.{order};
 ghost use Rattle.normalizer_tables.specs.Characters.{list_of};
 ghost use Rattle.normalizer_tables.specs.conditions.PairConditions.{HasOrderedLists};
 ghost use Rattle.normalizer_tables.specs.Readings.{reading_by};
@@ -8,6 +8,7 @@ ghost use Rattle.normalizer_tables.specs.declared.characters.IgnoredCharacters.T
 
 use normalizer_tables::characters::{CharacterData, IgnoredCharacters};
 use normalizer_tables::members::Members;
+use normalizer_tables::ordering;
 
 /// Room for two lists, each of at most 18 characters.
 const ROOM: usize = 36;
@@ -55,27 +56,9 @@ pub(crate) fn is_spelled(list: &Members<'_>, characters: &[char]) -> bool
     list.len() == characters.len()
 }
 
-/// Puts characters in canonical order: from the last on, each is inserted into those after it.
-#[tactic(auto, using(crate::proofs::composites::PairConditionLemmas::ordered_lists))]
+/// Puts characters in canonical order.
 pub(crate) fn put_in_order(data: &CharacterData<'_>, characters: &mut [char])
     ensures { characters.new ≡ order (reading_by data.now Dropped []) characters.old }
 {
-    if let Some((first, rest)) = characters.split_first_mut() {
-        put_in_order(data, rest);
-        insert_first(data, first, rest);
-    }
-}
-
-/// The first character passes its neighbour as long as the two are a reorderable pair.
-#[tactic(auto, using(crate::proofs::composites::PairConditionLemmas::ordered_lists), unfolding(normal_forms::specs::Order::is_reorderable))]
-fn insert_first(data: &CharacterData<'_>, first: &mut char, rest: &mut [char])
-    ensures { (first.new ∷ rest.new) ≡ insert (reading_by data.now Dropped []) first.old rest.old }
-{
-    if let Some((next, behind)) = rest.split_first_mut() {
-        let class = data.class_of(*next);
-        if 0 < class && class < data.class_of(*first) {
-            std::mem::swap(first, next);
-            insert_first(data, next, behind);
-        }
-    }
+    ordering::put_in_order(&|c| data.class_of(c), characters);
 }

@@ -1,6 +1,6 @@
--- The written conditions, with the numbers and in the order of `docs/CONDITIONS.md`, and the first of a list of them
--- that fails.
-use Rattle.std.specs.Prelude.{◌≡◌, ℕ, ◌+◌, ◌<◌, ◌≤◌, true, false, List, [], ◌∷◌, ◌++◌, All}
+-- The written conditions, with the numbers and in the order of `docs/CONDITIONS.md`, what is required of which data, and
+-- the first of a list of conditions that fails.
+use Rattle.std.specs.Prelude.{◌≡◌, ℕ, ◌+◌, ◌<◌, ◌≤◌, Bool, true, false, if◌then◌else◌, List, [], ◌∷◌, ◌++◌, All}
 use Rattle.std.specs.Prelude.{Option, Some, None, IfSome}
 use Rattle.std.specs.Char.{IsScalar}
 use Rattle.normalizer_tables.specs.declared.condition.Condition.{Condition}
@@ -51,6 +51,38 @@ number_of Steps = 16
 number_of SurrogateClasses = 4
 number_of WordClasses = 7
 number_of PairOrder = 11
+
+-- the conditions on data for decomposing text: 1 to 10
+abbrev pub decomposing_conditions : List Condition
+decomposing_conditions =
+    ItemLimit ∷ CapLimit ∷ ReplacementCharacter ∷ Surrogates ∷ PastTheEnd ∷ Hangul ∷ Words ∷ Members ∷ Order
+    ∷ Passthrough ∷ []
+
+-- the conditions on pairs with these data: 11 to 14, for the mapper's data 11 to 13
+abbrev pub pair_conditions : Bool → List Condition
+pair_conditions is_mapper = Pairs ∷ RoundTrip ∷ SafeBeginning ∷ (if is_mapper then [] else Results ∷ [])
+
+-- the conditions on data for composing text: 1 to 14, for the mapper's data 1 to 13
+abbrev pub composing_conditions : Bool → List Condition
+composing_conditions is_mapper = decomposing_conditions ++ pair_conditions is_mapper
+
+-- the conditions on canonical data, pairs and supplement: 1 to 16
+abbrev pub every_condition : List Condition
+every_condition = composing_conditions false ++ FdfaForms ∷ Steps ∷ []
+
+-- the conditions on canonical data that a caller may pass in unchecked: all on data for decomposing text but the one on
+-- the cap
+abbrev pub nfd_conditions : List Condition
+nfd_conditions =
+    ItemLimit ∷ ReplacementCharacter ∷ Surrogates ∷ PastTheEnd ∷ Hangul ∷ Words ∷ Members ∷ Order ∷ Passthrough ∷ []
+
+-- the conditions on data for single decomposition steps: 1, 5 to 9, 15 and 16
+abbrev pub step_conditions : List Condition
+step_conditions = ItemLimit ∷ PastTheEnd ∷ Hangul ∷ Words ∷ Members ∷ Order ∷ FdfaForms ∷ Steps ∷ []
+
+-- the conditions on data of which only classes are read: parts of 4, 5 and 7
+abbrev pub class_conditions : List Condition
+class_conditions = SurrogateClasses ∷ PastTheEnd ∷ WordClasses ∷ []
 
 -- what is said of all that was loaded, and of each character
 pub record Statement : Type 1 where

@@ -1,23 +1,15 @@
 -- Canonical data that a caller may pass in unchecked.
-use Rattle.std.specs.Prelude.{List, [], ◌∷◌, None, All}
-use Rattle.normalizer_tables.specs.declared.condition.Condition.{Condition}
-use Rattle.normalizer_tables.specs.declared.condition.Condition.TheVariants.{ItemLimit, ReplacementCharacter}
-use Rattle.normalizer_tables.specs.declared.condition.Condition.TheVariants.{Surrogates, PastTheEnd, Hangul, Words}
-use Rattle.normalizer_tables.specs.declared.condition.Condition.TheVariants.{Members, Order, Passthrough}
+use Rattle.std.specs.Prelude.{None, All}
 use Rattle.normalizer_tables.specs.Characters.{characters_from}
 use Rattle.normalizer_tables.specs.Data.{Decompositions, Lists}
 use Rattle.normalizer_tables.specs.conditions.Conditions.{IsMet}
+pub use Rattle.normalizer_tables.specs.conditions.Conditions.{nfd_conditions}
 use Rattle.normalizer_tables.specs.conditions.Loaded.{Loaded, characters_loaded}
 pub use Rattle.normalizer_tables.specs.conditions.Loaded.{nfd_bounds}
 
 -- they alone, with the greatest bounds
 abbrev pub nfd_loaded : Decompositions → Lists → Loaded
 nfd_loaded decompositions tables = characters_loaded (characters_from decompositions tables None) nfd_bounds
-
--- what is required of them: all conditions but the one on the cap
-abbrev pub nfd_conditions : List Condition
-nfd_conditions =
-    ItemLimit ∷ ReplacementCharacter ∷ Surrogates ∷ PastTheEnd ∷ Hangul ∷ Words ∷ Members ∷ Order ∷ Passthrough ∷ []
 
 -- conditions 1, 3 to 9, and 10 at the bound 0xC0
 abbrev pub IsSoundNfdData : Decompositions → Lists → Type 0

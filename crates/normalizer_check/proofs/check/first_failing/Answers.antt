@@ -2,7 +2,8 @@ use Rattle.std.proofs.Common.{◌+◌, ◌∙◌, subst, arith}
 use Rattle.normalizer_tables.specs.Characters.{IsNextWord}
 use Rattle.normalizer_tables.specs.Table.{code_points}
 use Rattle.normalizer_check.proofs.conditions.FirstFailing.{FailsFirst-all, copied_slice_get, FailsFirst-step, FirstFailing-asked, has_sound_hangul, unasked}
-use Rattle.normalizer_check.proofs.conditions.LoadedLemmas.{IsMet-parts, of_each-unasked}
+use Rattle.normalizer_check.proofs.conditions.EachCondition.{of_each-unasked}
+use Rattle.normalizer_check.proofs.conditions.LoadedLemmas.{IsMet-parts}
 use Rattle.normalizer_check.proofs.composites.PairConditionLemmas.{scalar_below}
 use Rattle.normalizer_check.proofs.conditions.WalkLemmas.{of_each-answered}
 use Rattle.normalizer_check.proofs.check.first_failing.Goals as goal

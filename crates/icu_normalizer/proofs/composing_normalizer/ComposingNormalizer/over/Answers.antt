@@ -9,7 +9,7 @@ use Rattle.icu_normalizer.proofs.composing_normalizer.ComposingNormalizer.over.G
 
 -- the data that were supplied meet the conditions
 met : (c : In_ok-check) → SuitsComposing (characters_owned c.args.characters false, c.args.pairs)
-met c = let h = c.in_ok-check.ensures.ok.0 refl in rw (c.new-loaded.ensures, c.of_cap-bounds.ensures, c.cap.ensures, c.as_borrowed-borrowed.ensures) at h
+met c = let h = c.in_ok-check.ensures.ok.0 refl in rw (c.composing_conditions.ensures, c.new-loaded.ensures, c.of_cap-bounds.ensures, c.cap.ensures, c.as_borrowed-borrowed.ensures) at h
 
 pub invariant_of-result : goal.invariant_of-result
 invariant_of-result c = record { serves = ServesDecomposing-met _ refl (parts_met _ _ (met c)).0 }
@@ -24,4 +24,4 @@ pub returns-in_err-check-clause-err : goal.returns-in_err-check-clause-err
 returns-in_err-check-clause-err c =
     let is : c.from_residual.result ≡ Err c.in_err-check.field-0.0 = search rules in
     let refused = rw c.in_err-check.was at c.check.ensures.err in
-    rw is (rw (c.new-loaded.ensures, c.of_cap-bounds.ensures, c.cap.ensures, c.as_borrowed-borrowed.ensures) at refused)
+    rw is (rw (c.composing_conditions.ensures, c.new-loaded.ensures, c.of_cap-bounds.ensures, c.cap.ensures, c.as_borrowed-borrowed.ensures) at refused)

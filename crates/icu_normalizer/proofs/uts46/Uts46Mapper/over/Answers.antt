@@ -8,7 +8,7 @@ use Rattle.icu_normalizer.proofs.uts46.Uts46Mapper.over.Goals.{In_ok-check}
 
 -- the data that were supplied meet the conditions
 met : (c : In_ok-check) → SuitsComposing (characters_owned c.args.characters true, c.args.pairs)
-met c = let h = c.in_ok-check.ensures.ok.0 refl in rw (c.new-loaded.ensures, c.of_cap-bounds.ensures, c.cap.ensures, c.as_borrowed-borrowed.ensures) at h
+met c = let h = c.in_ok-check.ensures.ok.0 refl in rw (c.mapping_conditions.ensures, c.new-loaded.ensures, c.of_cap-bounds.ensures, c.cap.ensures, c.as_borrowed-borrowed.ensures) at h
 
 pub invariant_of-result : goal.invariant_of-result
 invariant_of-result c = record { serves = ServesMapper-met _ _ (met c) }

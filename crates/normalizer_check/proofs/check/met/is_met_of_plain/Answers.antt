@@ -1,5 +1,5 @@
 use Rattle.std.proofs.Common.{refl}
-use Rattle.normalizer_check.proofs.conditions.WalkLemmas.{of_each-plain}
+use Rattle.normalizer_check.proofs.conditions.EachCondition.{of_each-plain}
 use Rattle.normalizer_check.proofs.check.met.is_met_of_plain.Goals as goal
 
 pub returns-in_default : goal.returns-in_default

@@ -1,5 +1,0 @@
-use Rattle.std.proofs.Common.{length}
-use Rattle.normalizer_check.proofs.pair_check.results.+put_in_order.Given as goal
-
-abbrev pub decreases-put_in_order : goal.decreases-put_in_order
-decreases-put_in_order l = length l.characters.now
