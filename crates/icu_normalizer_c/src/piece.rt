@@ -13,7 +13,7 @@ pub(crate) trait Piece<T>: AsSlice<T> + Copy {
 }
 
 impl<T: Copy> Piece<T> for &[T] {
-    /// Stores most by two loads and two stores, which may overlap.
+    /// Stores the first and the last of them, which may overlap: two stores are faster than a call.
     #[inline(always)]
     fn store(self, to: &mut [T]) {
         match self.len() {
