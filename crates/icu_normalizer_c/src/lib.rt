@@ -8,6 +8,7 @@ mod mapping;
 mod mismatch;
 mod opening;
 mod overwrite;
+mod piece;
 mod question;
 mod sink;
 mod text;

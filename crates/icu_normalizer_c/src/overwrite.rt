@@ -2,29 +2,10 @@
 ghost use Rattle.std.specs.Prelude.{◌≡◌, ◌≤◌, ◌^◌, ◌-◌, ◌++◌, length, drop, take};
 ghost use Rattle.icu_normalizer_c.specs.Overwriting.{overwritten};
 
-/// Writes units to the beginning of a buffer, as many as it has room for. Up to three are stored without a copy.
-#[inline(always)]
-fn overwrite<T: Copy>(buffer: &mut [T], units: &[T])
-    ensures { buffer.new ≡ overwritten buffer.old units.now }
-{
-    let room = buffer.len();
-    match units {
-        [unit] if 1 <= room => buffer[0] = *unit,
-        [first, second] if 2 <= room => {
-            buffer[0] = *first;
-            buffer[1] = *second;
-        }
-        [first, second, third] if 3 <= room => {
-            buffer[0] = *first;
-            buffer[1] = *second;
-            buffer[2] = *third;
-        }
-        _ => overwrite_by_copy(buffer, units),
-    }
-}
+use crate::piece::Piece;
 
-/// Copies units to the beginning of a buffer, as many as it has room for.
-fn overwrite_by_copy<T: Copy>(buffer: &mut [T], units: &[T])
+/// Writes units to the beginning of a buffer, as many as it has room for.
+fn overwrite<T: Copy>(buffer: &mut [T], units: &[T])
     ensures { buffer.new ≡ overwritten buffer.old units.now }
 {
     if units.len() <= buffer.len() {
@@ -36,8 +17,8 @@ fn overwrite_by_copy<T: Copy>(buffer: &mut [T], units: &[T])
 }
 
 /// Writes units to a buffer from a position on, as many as it has room for. After its end there is none.
-#[inline(always)]
-pub(crate) fn overwrite_after<T: Copy>(buffer: &mut [T], start: usize, units: &[T])
+#[inline(never)]
+fn overwrite_by_call<T: Copy>(buffer: &mut [T], start: usize, units: &[T])
     ensures fits { length buffer.old ≤ 2 ^ 64 - 1 }
     ensures len { length buffer.new ≡ length buffer.old }
     ensures after { buffer.new ≡ take start buffer.old ++ overwritten (drop start buffer.old) units.now }
@@ -47,14 +28,20 @@ pub(crate) fn overwrite_after<T: Copy>(buffer: &mut [T], start: usize, units: &[
     }
 }
 
-/// Does the same by a copy, whatever the number of units.
+/// Does the same, without a call for few units that end before the end of the buffer.
 #[inline(always)]
-pub(crate) fn copy_after<T: Copy>(buffer: &mut [T], start: usize, units: &[T])
+pub(crate) fn overwrite_after<T: Copy, P: Piece<T>>(buffer: &mut [T], start: usize, piece: P)
     ensures fits { length buffer.old ≤ 2 ^ 64 - 1 }
     ensures len { length buffer.new ≡ length buffer.old }
-    ensures after { buffer.new ≡ take start buffer.old ++ overwritten (drop start buffer.old) units.now }
+    ensures after { buffer.new ≡ take start buffer.old ++ overwritten (drop start buffer.old) (P.items piece) }
 {
-    if start < buffer.len() {
-        overwrite_by_copy(&mut buffer[start..], units);
+    let units = piece.as_slice();
+    let end = start.saturating_add(units.len());
+    if end < buffer.len() && units.len() <= 64 {
+        piece.store(&mut buffer[start..start + units.len()]);
+    } else {
+        // A copy is lent, so that an array that is stored at once is never in memory.
+        let lent = piece;
+        overwrite_by_call(buffer, start, lent.as_slice());
     }
 }

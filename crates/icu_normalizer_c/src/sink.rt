@@ -1,10 +1,12 @@
 //! A sink over a buffer of a caller.
 ghost use Rattle.std.specs.Prelude.{◌≡◌, ◌≤◌, ◌-◌, ◌++◌, ◌^◌, length, drop, min, take};
 ghost use Rattle.std.specs.Char.{encode_utf8};
+ghost use Rattle.std.specs.Char.Escape.{encode_utf16};
 ghost use Rattle.icu_normalizer_c.specs.Overwriting.{overwritten};
 
 use crate::history::History;
-use crate::overwrite::{copy_after, overwrite_after};
+use crate::overwrite::overwrite_after;
+use crate::piece::Piece;
 use icu_normalizer::sink::{SinkError, Write, Write16};
 
 /// A buffer of a caller, as a sink. It never refuses: what it takes overwrites the buffer from its front on, as far as
@@ -43,35 +45,24 @@ impl<'a, T: Copy> Buffer<'a, T> {
         self.count
     }
 
-    /// Takes units.
+    /// Takes a piece or an array of units.
     #[inline(always)]
-    fn take(&mut self, units: &[T])
+    fn take<P: Piece<T>>(&mut self, piece: P)
         ensures same_reference { self.new.units.ghost_name ≡ self.old.units.ghost_name }
         ensures room { length self.new.units.now ≡ length self.old.units.now }
-        ensures history { self.new.history.units ≡ self.old.history.units ++ units.now }
+        ensures history { self.new.history.units ≡ self.old.history.units ++ P.items piece }
     {
+        let units = piece.as_slice();
         let history = self.history.and(units);
-        overwrite_after(self.units, self.count, units);
-        self.count = self.count.saturating_add(units.len());
-        self.history = history;
-    }
-
-    /// Takes a piece of a text in UTF-8, which is faster copied than told apart by its length.
-    #[inline(always)]
-    fn take_piece(&mut self, piece: &[T])
-        ensures same_reference { self.new.units.ghost_name ≡ self.old.units.ghost_name }
-        ensures room { length self.new.units.now ≡ length self.old.units.now }
-        ensures history { self.new.history.units ≡ self.old.history.units ++ piece.now }
-    {
-        let history = self.history.and(piece);
-        copy_after(self.units, self.count, piece);
-        self.count = self.count.saturating_add(piece.len());
+        let count = self.count.saturating_add(units.len());
+        overwrite_after(self.units, self.count, piece);
+        self.count = count;
         self.history = history;
     }
 }
 
 impl<'a> Buffer<'a, u8> {
-    /// Takes a character in UTF-8: up to three bytes are stored without an array between.
+    /// Takes a character in UTF-8.
     #[inline(always)]
     fn take_in_utf8(&mut self, c: char)
         ensures same_reference { self.new.units.ghost_name ≡ self.old.units.ghost_name }
@@ -80,11 +71,11 @@ impl<'a> Buffer<'a, u8> {
     {
         let number = c as u32;
         if number < 0x80 {
-            self.take(&[number as u8]);
+            self.take([number as u8]);
         } else if number < 0x800 {
-            self.take(&[(0xC0 + number / 64) as u8, (0x80 + number % 64) as u8]);
+            self.take([(0xC0 + number / 64) as u8, (0x80 + number % 64) as u8]);
         } else if number < 0x10000 {
-            self.take(&[
+            self.take([
                 (0xE0 + number / 4096) as u8,
                 (0x80 + number / 64 % 64) as u8,
                 (0x80 + number % 64) as u8,
@@ -92,6 +83,24 @@ impl<'a> Buffer<'a, u8> {
         } else {
             let mut bytes = [0; 4];
             self.take(c.encode_utf8(&mut bytes).as_bytes());
+        }
+    }
+}
+
+impl<'a> Buffer<'a, u16> {
+    /// Takes a character in UTF-16.
+    #[inline(always)]
+    fn take_in_utf16(&mut self, c: char)
+        ensures same_reference { self.new.units.ghost_name ≡ self.old.units.ghost_name }
+        ensures room { length self.new.units.now ≡ length self.old.units.now }
+        ensures history { self.new.history.units ≡ self.old.history.units ++ encode_utf16 c }
+    {
+        if let Ok(unit) = u16::try_from(c as u32) {
+            self.take([unit]);
+        } else {
+            let mut units = [0; 2];
+            let pair: &[u16] = c.encode_utf16(&mut units);
+            self.take(pair);
         }
     }
 }
@@ -108,7 +117,7 @@ impl<'a> Write for Buffer<'a, u8> {
 
     #[inline(always)]
     fn write_str(&mut self, text: &str) -> Result<(), SinkError> {
-        self.take_piece(text.as_bytes());
+        self.take(text.as_bytes());
         Ok(())
     }
 
@@ -142,8 +151,7 @@ impl<'a> Write16 for Buffer<'a, u16> {
     }
 
     fn write_char(&mut self, c: char) -> Result<(), SinkError> {
-        let mut units = [0; 2];
-        self.take(c.encode_utf16(&mut units));
+        self.take_in_utf16(c);
         Ok(())
     }
 }
