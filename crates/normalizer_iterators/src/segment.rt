@@ -1,12 +1,12 @@
 //! The normal forms of short texts, in buffers that are used again.
-ghost use Rattle.std.specs.Prelude.{◌≡◌, ◌+◌, ◌≤◌, [], length, IsTrue};
+ghost use Rattle.std.specs.Prelude.{◌≡◌, ◌+◌, ◌≤◌, ◌∷◌, [], ℕ, List, length, IfSome, IsTrue};
 ghost use Rattle.normal_forms.specs.CompositionByStarters.{compose_by_starters};
 ghost use Rattle.normal_forms.specs.Decomposition.{expand};
 ghost use Rattle.normal_forms.specs.Forms.{nfd, nfc};
 ghost use Rattle.normal_forms.specs.Hypotheses.{HasStarterResults};
 ghost use Rattle.normal_forms.specs.ShortRuns.{buffer_limit};
 ghost use Rattle.normal_forms.specs.Reading.{Reading};
-ghost use Rattle.normalizer_tables.specs.Characters.{list_of};
+ghost use Rattle.normalizer_tables.specs.Characters.{class_of, list_of};
 ghost use Rattle.normalizer_tables.specs.Ignored.{ignored_list};
 ghost use Rattle.normalizer_tables.specs.Readings.{reading_by};
 ghost use Rattle.normalizer_tables.specs.declared.characters.IgnoredCharacters.TheVariants.{Dropped};
@@ -23,7 +23,7 @@ use crate::segment::short_text::ShortText;
 use crate::waiting::{ClassedChar, WaitingList};
 use normalizer_tables::CanonicalCompositions;
 use normalizer_tables::characters::{CharacterData, IgnoredCharacters};
-use normalizer_text::Units;
+use normalizer_text::{Step, Units};
 
 mod short_text;
 
@@ -79,6 +79,10 @@ impl SegmentBuffers {
         ensures fits { length (expand (reading_by characters.now ignored []) (decoded_in U.encoding (U.units units)))
             ≤ buffer_limit → IsTrue result }
     {
+        if let Some((first, second)) = two_in_order(characters, units) {
+            self.text.clear();
+            return self.text.push(first) && self.text.push(second);
+        }
         if !read_all(characters, ignored, units, &mut self.waiting) {
             return false;
         }
@@ -109,6 +113,43 @@ impl SegmentBuffers {
         }
         compose_all(pairs, &mut self.waiting, &mut self.text)
     }
+}
+
+/// Returns two characters in canonical order, if the units decode to two, and each is its own list.
+#[inline(always)]
+fn two_in_order<U: Units>(characters: &CharacterData<'_>, units: U) -> Option<(char, char)>
+    ensures { IfSome result (λ two. (ignored : IgnoredCharacters) →
+        two.0 ∷ two.1 ∷ [] ≡ nfd (reading_by characters.now ignored []) (decoded_in U.encoding (U.units units))) }
+{
+    let len = units.len();
+    if len == 0 {
+        return None;
+    }
+    let first = units.step_at(0);
+    if first.width == len {
+        return None;
+    }
+    let second = units.step_at(first.width);
+    if len - first.width != second.width {
+        return None;
+    }
+    let before = class_of_itself(characters, first)?;
+    let after = class_of_itself(characters, second)?;
+    if 0 < after && after < before {
+        Some((second.character, first.character))
+    } else {
+        Some((first.character, second.character))
+    }
+}
+
+/// Returns the class of the character of a step, if that is its own list.
+#[inline(always)]
+fn class_of_itself(characters: &CharacterData<'_>, step: Step) -> Option<u8>
+    ensures itself { (ignored : List ℕ) →
+        IfSome result (λ _. list_of characters.now ignored step.character ≡ step.character ∷ []) }
+    ensures class { IfSome result (λ class. class ≡ class_of characters.now step.character) }
+{
+    PendingChar::new(characters, 0, step.character).class_of_itself(characters)
 }
 
 /// Composes what the units decode to, if each character is its own list, they are in canonical order, and they fit.
