@@ -17,6 +17,9 @@ use normalizer_tables::compose;
 use normalizer_tables::members::Members;
 use normalizer_text::{Step, Units};
 
+/// The bits of a word that are 0 if its list is neither two characters nor in a table.
+const HIGH_BITS: u32 = 0x3FFF_0000;
+
 /// A segment that stays as it is, or becomes one character: its end, whether a run may begin there, and that character.
 #[derive(Clone, Copy)]
 pub struct SeenSegment {
@@ -129,6 +132,9 @@ fn single_segment<U: Units>(
         IsSeenSegment (is_taken_as_boundary f.characters f.bounds) U.encoding
         (reading_by f.characters Dropped f.pairs.now) Composing (U.units units) seen.end seen.becomes) }
 {
+    if !may_have_one_member(word) {
+        return None;
+    }
     let members = form
         .characters
         .members_by(first.character, word, IgnoredCharacters::Dropped);
@@ -144,6 +150,12 @@ fn single_segment<U: Units>(
         is_before_run: true,
         becomes: Some(members.at(0)),
     })
+}
+
+/// Returns whether a list may have one member, by the word: lists in tables are taken to have more.
+#[inline(always)]
+fn may_have_one_member(word: u32) -> bool {
+    word & HIGH_BITS == 0
 }
 
 /// Returns why a character after marks, of which the last has the class `last`, is none that stays or joins.
