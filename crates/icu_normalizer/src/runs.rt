@@ -105,6 +105,9 @@ const NEAR: u8 = 28;
 /// The sum that a run begins with.
 const UNKNOWN: u8 = 32;
 
+/// Up to so many units are a short text: what comes after its first mark is looked at one by one.
+const SHORT: usize = 40;
+
 /// Returns the sum of the counts of units between marks, each 7/8 of the one after it, after one more count.
 #[inline(always)]
 fn gaps_after(gaps: u8, passed: usize) -> u8 {
@@ -215,6 +218,24 @@ fn with_members<U: Units, N: Forming>(normalizer: &N, units: U, run: RunSoFar) -
     }
 }
 
+/// Returns the run with low characters after it, which are passed over one by one.
+#[inline(always)]
+fn with_low<U: Units, N: Forming>(normalizer: &N, units: U, run: RunSoFar) -> RunSoFar
+    requires { IsRunSoFar (N.passthrough_class normalizer.now) U.encoding (U.units units) run }
+    ensures { GoesOn (N.passthrough_class normalizer.now) U.encoding (U.units units) run result }
+{
+    let end = units.end_of_low(run.end, normalizer.passing().first_missing());
+    if end == run.end {
+        return run;
+    }
+    RunSoFar {
+        marks: end,
+        end,
+        last: 0,
+        gaps: run.gaps,
+    }
+}
+
 /// Returns the run with what is passed over at once after it. Where letters and marks alternate, each change between the
 /// two kinds of loop is a branch that isn't foreseen.
 #[inline(always)]
@@ -251,6 +272,48 @@ fn with_more<U: Units, N: Forming>(normalizer: &N, units: U, run: RunSoFar) -> R
     longer
 }
 
+/// Returns the members of the set that the units begin with.
+#[inline(always)]
+fn first_run<U: Units, N: Forming>(normalizer: &N, units: U) -> RunSoFar
+    ensures { IsRunSoFar (N.passthrough_class normalizer.now) U.encoding (U.units units) result }
+{
+    let end = units.end_of_members(0, normalizer.passing());
+    RunSoFar {
+        marks: end,
+        end,
+        last: 0,
+        gaps: gaps_after(UNKNOWN, end),
+    }
+}
+
+/// Returns the run, which a step ends that doesn't pass.
+#[inline(always)]
+fn stopped(run: RunSoFar, step: Step, unseen: Unseen) -> Run
+    ensures end { (result.marks ≡ run.marks) × (result.end ≡ run.end) }
+    ensures next { result.next ≡ Some step }
+{
+    Run {
+        marks: run.marks,
+        end: run.end,
+        next: Some(step),
+        is_unordered: matches!(unseen, Unseen::Unordered),
+    }
+}
+
+/// Returns the run, which goes up to the end of the units.
+#[inline(always)]
+fn whole(run: RunSoFar) -> Run
+    ensures end { (result.marks ≡ run.marks) × (result.end ≡ run.end) }
+    ensures next { result.next ≡ None }
+{
+    Run {
+        marks: run.marks,
+        end: run.end,
+        next: None,
+        is_unordered: false,
+    }
+}
+
 /// Returns the run of characters that are passed on as they are: marks as long as their classes don't fall.
 #[inline(always)]
 fn run_end<U: Units, N: Forming>(normalizer: &N, units: U) -> Run
@@ -258,33 +321,56 @@ fn run_end<U: Units, N: Forming>(normalizer: &N, units: U) -> Run
     ensures next { MatchOption result.next (result.end ≡ length (U.units units))
         (λ next. next ≡ first_in U.encoding (drop result.end (U.units units))) }
 {
-    let end = units.end_of_members(0, normalizer.passing());
-    let mut run = RunSoFar {
-        marks: end,
-        end,
-        last: 0,
-        gaps: gaps_after(UNKNOWN, end),
-    };
+    let mut run = first_run(normalizer, units);
     while run.end < units.len() {
         let step = units.step_at(run.end);
         match next_class(normalizer, run.last, step) {
             Ok(class) => run = with_more(normalizer, units, with_step(run, step, class)),
-            Err(unseen) => {
-                return Run {
-                    marks: run.marks,
-                    end: run.end,
-                    next: Some(step),
-                    is_unordered: matches!(unseen, Unseen::Unordered),
-                };
-            }
+            Err(unseen) => return stopped(run, step, unseen),
         }
     }
-    Run {
-        marks: run.marks,
-        end: run.end,
-        next: None,
-        is_unordered: false,
+    whole(run)
+}
+
+/// Returns the run with the step after it, if that passes, or why it doesn't. A member of the set isn't looked up.
+#[inline(always)]
+fn with_passing<U: Units, N: Forming>(
+    normalizer: &N,
+    units: U,
+    run: RunSoFar,
+    step: Step,
+) -> Result<RunSoFar, Unseen>
+    requires run { IsRunSoFar (N.passthrough_class normalizer.now) U.encoding (U.units units) run }
+    requires some { run.end < length (U.units units) }
+    requires step { step ≡ first_in U.encoding (drop run.end (U.units units)) }
+    requires fits { length (U.units units) < 2 ^ 64 }
+    ensures { MatchResult result (λ longer. IsRunSoFar (N.passthrough_class normalizer.now) U.encoding (U.units units)
+        longer × (longer.end ≡ run.end + step.width))
+        (λ _. next_class (N.passthrough_class normalizer.now) run.last step ≡ None) }
+{
+    if normalizer.passing().contains(step.character) {
+        return Ok(with_step(run, step, 0));
     }
+    let class = next_class(normalizer, run.last, step)?;
+    Ok(with_step(run, step, class))
+}
+
+/// Returns the same run of a short text, after members of the set.
+#[inline(always)]
+fn short_run_end<U: Units, N: Forming>(normalizer: &N, units: U) -> Run
+    ensures run { IsRunEnd (N.passthrough_class normalizer.now) U.encoding (U.units units) result.marks result.end }
+    ensures next { MatchOption result.next (result.end ≡ length (U.units units))
+        (λ next. next ≡ first_in U.encoding (drop result.end (U.units units))) }
+{
+    let mut run = first_run(normalizer, units);
+    while run.end < units.len() {
+        let step = units.step_at(run.end);
+        match with_passing(normalizer, units, run, step) {
+            Ok(longer) => run = with_low(normalizer, units, longer),
+            Err(unseen) => return stopped(run, step, unseen),
+        }
+    }
+    whole(run)
 }
 
 /// Returns the first step of the units, which may have been read before.
@@ -341,11 +427,38 @@ fn before_last<U: Units>(units: U, end: usize) -> usize
 
 /// Returns the end of the front of the units that is passed on as it is: of a run, unless what follows begins a new part,
 /// without the last starter and the marks after it if it may compose with what follows, and else without these marks.
+#[inline(always)]
 pub(crate) fn passthrough_end<U: Units, N: Forming>(normalizer: &N, units: U) -> Passed
     ensures { let m = N.made_form normalizer.now in 0 < result.end → IsPart U.encoding m.reading m.form (U.units units)
         result.end × IsInputNormalized U.encoding m.reading m.form (take result.end (U.units units)) }
 {
+    if units.len() <= SHORT {
+        short_passthrough_end(normalizer, units)
+    } else {
+        long_passthrough_end(normalizer, units)
+    }
+}
+
+/// Returns the same end of a text that isn't short.
+#[inline(never)]
+fn long_passthrough_end<U: Units, N: Forming>(normalizer: &N, units: U) -> Passed
+    ensures { let m = N.made_form normalizer.now in 0 < result.end → IsPart U.encoding m.reading m.form (U.units units)
+        result.end × IsInputNormalized U.encoding m.reading m.form (take result.end (U.units units)) }
+{
     let run = run_end(normalizer, units);
+    Passed {
+        end: end_before(normalizer, units, run),
+        is_unordered: run.is_unordered,
+    }
+}
+
+/// Returns the same end of a short text.
+#[inline(never)]
+fn short_passthrough_end<U: Units, N: Forming>(normalizer: &N, units: U) -> Passed
+    ensures { let m = N.made_form normalizer.now in 0 < result.end → IsPart U.encoding m.reading m.form (U.units units)
+        result.end × IsInputNormalized U.encoding m.reading m.form (take result.end (U.units units)) }
+{
+    let run = short_run_end(normalizer, units);
     Passed {
         end: end_before(normalizer, units, run),
         is_unordered: run.is_unordered,

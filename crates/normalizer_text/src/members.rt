@@ -19,11 +19,11 @@ use crate::{scan, utf8, utf16};
 use normalizer_sets::CharacterSet;
 use std::ops::ControlFlow;
 
-/// Bytes below this are characters by themselves.
-const ASCII: u32 = 0x80;
-
 /// How many 16-bit units are looked up together.
 const GROUP: usize = 4;
+
+/// Up to so many 16-bit units are looked up one by one.
+const FEW: usize = 16;
 
 /// Units whose steps are looked up one after another.
 pub(crate) trait Members: Copy {
@@ -250,7 +250,7 @@ impl<'a> Members for &'a [u8] {
 
     #[inline(always)]
     fn low_unit(self, bound: u32) -> u32 {
-        bound.min(ASCII)
+        bound.min(utf8::ASCII)
     }
 
     #[inline(always)]
@@ -355,16 +355,13 @@ fn end_of_single_members(units: &[u16], position: usize, set: &CharacterSet) -> 
 {
     let limit = set.first_missing();
     let end = scan::end_of_below(units, position, limit);
-    if end == units.len() {
-        return end;
+    if units.len() - end <= FEW {
+        return end_of_few_singles(units, end, set);
     }
     if !set.has_unit(units[end]) {
         return end;
     }
     let next = end + 1;
-    if next == units.len() {
-        return next;
-    }
     if !set.has_unit(units[next]) {
         return next;
     }
@@ -393,6 +390,16 @@ fn end_of_single_run(units: &[u16], position: usize, set: &CharacterSet) -> usiz
             end += GROUP;
         }
     }
+    end_of_few_singles(units, end, set)
+}
+
+/// Returns the same end, unit by unit.
+#[inline(always)]
+fn end_of_few_singles(units: &[u16], position: usize, set: &CharacterSet) -> usize
+    requires { position ≤ length units.now }
+    ensures { result ≡ position + prefix_len (has set.now) (drop position units.now) }
+{
+    let mut end = position;
     while end < units.len() && set.has_unit(units[end]) {
         end += 1;
     }

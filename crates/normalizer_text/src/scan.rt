@@ -119,7 +119,7 @@ fn end_of_fewer<L: Lanes>(units: L, position: usize, bound: u32) -> usize
 
 /// Returns the same end, unit by unit.
 #[inline(always)]
-fn end_by_units<L: Lanes>(units: L, position: usize, bound: u32) -> usize
+pub(crate) fn end_by_units<L: Lanes>(units: L, position: usize, bound: u32) -> usize
     requires { position ≤ length (L.units units) }
     ensures { result ≡ position + leading_below bound (drop position (L.units units)) }
 {

@@ -6,11 +6,11 @@ ghost use Rattle.normalizer_sets.specs.CharacterSets.{has};
 ghost use Rattle.normalizer_text.specs.DecodingSteps.{steps, IsBoundary, IsFirstStep, IsLastStep};
 ghost use Rattle.normalizer_text.specs.inner.Backwards.{IsLastStart};
 ghost use Rattle.normalizer_text.specs.Encodings.{Encoding, first_in, trails_in};
-ghost use Rattle.normalizer_text.specs.Scans.{width_within};
+ghost use Rattle.normalizer_text.specs.Scans.{width_within, EndsLowCharacters};
 
 use crate::decoding_step::Step;
 use crate::utf8::Lead;
-use crate::{members, utf8, utf16};
+use crate::{members, scan, utf8, utf16};
 use normalizer_sets::CharacterSet;
 
 /// No step takes more units.
@@ -61,6 +61,12 @@ pub trait Units: Copy {
         ensures { result ≡ position
             + width_within (has set.now) (steps (first_in encoding) (drop position (units self))) };
 
+    /// Returns an end of characters from a position on that are below a bound. They are passed over unit by unit, up to
+    /// the first unit that isn't seen at once to be of such a character.
+    fn end_of_low(self, position: usize, bound: u32) -> usize
+        requires { IsBoundary (first_in encoding) (units self) position }
+        ensures { EndsLowCharacters encoding (units self) position bound result };
+
     final fn is_empty(self) -> bool
         ensures { result ≡ (length (units self) == 0) }
     {
@@ -79,6 +85,7 @@ pub trait Units: Copy {
     }
 
     /// The step at the back, if there are units.
+    #[inline(always)]
     final fn last_step(self) -> Option<Step>
         ensures { MatchOption result (units self ≡ []) (IsLastStep (first_in encoding) (units self)) }
     {
@@ -97,6 +104,7 @@ pub trait Units: Copy {
 }
 
 /// Returns the beginning of the last step, if it takes more than one unit.
+#[inline(always)]
 fn last_start<U: Units>(units: U) -> usize
     requires { 0 < length (U.units units) }
     ensures { IsLastStart (trails_in U.encoding) (U.units units) result }
@@ -143,6 +151,11 @@ impl<'a> Units for &'a str {
     }
 
     #[inline(always)]
+    fn end_of_low(self, position: usize, bound: u32) -> usize {
+        scan::end_by_units(self.as_bytes(), position, utf8::low_byte_bound(bound))
+    }
+
+    #[inline(always)]
     fn end_of_members(self, position: usize, set: &CharacterSet) -> usize {
         members::end_of_members(self, position, set)
     }
@@ -180,6 +193,11 @@ impl<'a> Units for &'a [u8] {
     }
 
     #[inline(always)]
+    fn end_of_low(self, position: usize, bound: u32) -> usize {
+        scan::end_by_units(self, position, bound.min(utf8::ASCII))
+    }
+
+    #[inline(always)]
     fn end_of_members(self, position: usize, set: &CharacterSet) -> usize {
         members::end_of_members(self, position, set)
     }
@@ -214,6 +232,11 @@ impl<'a> Units for &'a [u16] {
 
     fn trails_at(self, position: usize) -> bool {
         utf16::is_low_surrogate(u32::from(self[position]))
+    }
+
+    #[inline(always)]
+    fn end_of_low(self, position: usize, bound: u32) -> usize {
+        scan::end_by_units(self, position, bound.min(utf16::SURROGATES))
     }
 
     #[inline(always)]

@@ -14,6 +14,9 @@ ghost use Rattle.normalizer_text.specs.inner.Trails.{BeginsWithSequence, LeadsFo
 use crate::decoding_step::Step;
 use normalizer_sets::CharacterSet;
 
+/// Bytes below this are characters by themselves.
+pub(crate) const ASCII: u32 = 0x80;
+
 /// A byte that may come after the first one of a character.
 #[inline(always)]
 pub(crate) fn is_continuation(byte: u8) -> bool

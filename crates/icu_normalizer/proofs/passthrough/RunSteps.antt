@@ -1,5 +1,5 @@
 -- Runs of characters that are passed on as they are, step by step.
-use Rattle.std.proofs.Common.{◌≡◌, ℕ, ◌+◌, ◌-◌, ◌<◌, ◌≤◌, Bool, true, false, List, [], ◌∷◌, ◌++◌, length, take, drop, refl, sym, ap, subst, ◌∙◌}
+use Rattle.std.proofs.Common.{◌≡◌, ℕ, ◌+◌, ◌-◌, ◌<◌, ◌≤◌, Bool, true, false, List, [], ◌∷◌, ◌++◌, length, length-drop, take, drop, map, refl, sym, ap, subst, ◌∙◌}
 use Rattle.std.proofs.Common.{append_assoc, append-nil, arith, length-take-le, inl, inr}
 use Rattle.std.specs.Prelude.{All, ◌⊎◌, ◌≢◌, ◌==◌, ◌||◌, nat_le, Option, Some, None, option_and_then}
 use Rattle.std.proofs.lemmas.Bool.{cases_Bool, cond-true, cond-false, eqb-true, leb-true, ne_eqb, or_cases}
@@ -8,9 +8,9 @@ use Rattle.std.proofs.lemmas.List.Elements.{All-nil, All-cons, All-append, All-h
 use Rattle.normalizer_text.specs.declared.decoding_step.Step.{Step}
 use Rattle.normalizer_text.specs.Encodings.{Encoding, first_in}
 use Rattle.normalizer_text.specs.DecodingSteps.{steps, width_of, IsBoundary, IsLastStep}
-use Rattle.normalizer_text.specs.Scans.{width_within}
+use Rattle.normalizer_text.specs.Scans.{width_within, EndsLowCharacters}
 use Rattle.normalizer_text.proofs.scans.MemberLemmas.{members_in_front}
-use Rattle.normalizer_text.proofs.steps.StepBoundaries.{boundary-after, boundary-first, boundary-le, boundary-more, steps-parts, steps-take-drop, width_of-append, width_of-steps}
+use Rattle.normalizer_text.proofs.steps.StepBoundaries.{boundary-after, boundary-between, boundary-first, boundary-le, boundary-more, steps-parts, steps-take-drop, width_of-append, width_of-steps}
 use Rattle.normalizer_text.proofs.steps.StepLemmas.{steps-nil, steps-some}
 use Rattle.icu_normalizer.specs.inner.PassthroughRuns.{IsRun, IsPassthroughTo, replacement}
 use Rattle.icu_normalizer.specs.inner.PassthroughRuns.{class_after, class_in_order, class_of_step, next_class}
@@ -39,6 +39,12 @@ module _ (passed : ℕ → Option ℕ) where
   next_class-starter : (last : ℕ) (s : Step) → class_of_step passed s ≡ Some 0 → next_class passed last s ≡ Some 0
   unfolding next_class class_in_order
   next_class-starter last s is = ap (option_and_then (class_in_order last)) is
+
+  -- a character of class 0 passes after any other
+  pub next_class-member : (last : ℕ) (s : Step) → s.character ≢ replacement → passed s.character ≡ Some 0 → next_class passed last s ≡ Some 0
+  unfolding class_of_step
+  next_class-member last s other is =
+      next_class-starter last s (cond-false (s.character == replacement) None (passed s.character) (ne_eqb s.character replacement other) ∙ is)
 
   class_after-append : (a b : List Step) (last k : ℕ) → class_after passed last a ≡ Some k → class_after passed last (a ++ b) ≡ class_after passed k b
   unfolding class_after
@@ -142,6 +148,35 @@ module _ (passed : ℕ → Option ℕ) (e : Encoding) (units : List ℕ) where
           pass = class_after-append passed b.before more.front 0 last so_far.pass
               ∙ class_after-starters passed last more.front (λ no. none (omega (arith, is, more.width, ap width_of no))) (members_pass more.front more.members);
         }
+
+    -- and with low characters, each of which is in the set
+    pub IsPassthroughTo-low : (last end bound new : ℕ) → ((c : ℕ) → c < bound → test c ≡ true) → EndsLowCharacters e units end bound new → (new ≡ end → last ≡ 0) → IsPassthroughTo passed e units end last
+        → IsPassthroughTo passed e units new 0
+    IsPassthroughTo-low last end bound new low ends none so_far =
+        let b = so_far.boundary in
+        let k = new - end in
+        let rest = drop end units in
+        let front = steps (first_in e) (take k rest) in
+        let behind = ends.behind in
+        let most = boundary-le e units new ends.boundary in
+        let width = width_of-steps e (take k rest) ∙ length-take-le k rest (omega (arith, length-drop end units)) in
+        record {
+          boundary = record {
+            before = b.before ++ front;
+            after = steps (first_in e) (drop k rest);
+            apart = b.apart
+                ∙ ap (λ l. b.before ++ l) (sym (steps-parts e units end b).1 ∙ steps-take-drop e rest k (boundary-between e units end new b ends.boundary behind))
+                ∙ sym (append_assoc b.before front (steps (first_in e) (drop k rest)));
+            taken = (let t = b.taken in omega (arith, width_of-append b.before front, width));
+          };
+          pass = class_after-append passed b.before front 0 last so_far.pass
+              ∙ class_after-starters passed last front (λ no. none (omega (arith, width, ap width_of no))) (members_pass front (all_in front ends.low));
+        }
+      where
+        all_in : (ss : List Step) → All (λ c. c < bound) (map (λ s. s.character) ss) → All (λ s. test s.character ≡ true) ss
+        all_in [] all = All-nil (λ s. test s.character ≡ true)
+        all_in (s ∷ ss) all = All-cons (λ t. test t.character ≡ true) s ss (low s.character (All-head (λ c. c < bound) s.character (map (λ t. t.character) ss) all))
+            (all_in ss (All-tail (λ c. c < bound) s.character (map (λ t. t.character) ss) all))
 
   pub IsPassthroughTo-le : (end last : ℕ) → IsPassthroughTo passed e units end last → end ≤ length units
   IsPassthroughTo-le end last so_far = boundary-le e units end so_far.boundary

@@ -1,17 +1,10 @@
-use Rattle.std.proofs.Common.{arith, refl}
-use Rattle.normalizer_sets.specs.CharacterSets.{has}
-use Rattle.normalizer_sets.proofs.SetLemmas.{has-IsCandidate}
-use Rattle.normalizer_text.proofs.steps.StepBoundaries.{boundary-start, step-some}
-use Rattle.icu_normalizer.proofs.passthrough.RunSteps.{IsRun-le, IsRun-longer, IsRun-starters, IsPassthroughTo-members, IsPassthroughTo-none}
+use Rattle.std.proofs.Common.{arith}
+use Rattle.normalizer_text.proofs.steps.StepBoundaries.{step-some}
+use Rattle.icu_normalizer.proofs.passthrough.RunSteps.{IsRun-le, IsRun-longer}
 use Rattle.icu_normalizer.proofs.runs.run_end.Goals as goal
 
-pub end_of_members-end-requires : goal.end_of_members-end-requires
-end_of_members-end-requires g c = boundary-start g.U.Units.encoding (g.U.Units.units c.args.units)
-
 pub loop-run-init : goal.loop-run-init
-loop-run-init g c =
-    IsRun-starters _ _ _ _
-    (IsPassthroughTo-members _ _ _ (has c.passing.result.now) (λ n is. ((has-IsCandidate c.passing.result.now n is).other, c.passing.ensures n is)) _ _ _ c.end_of_members-end.ensures (λ _. refl) (IsPassthroughTo-none _ _ _))
+loop-run-init g c = c.first_run-run.ensures
 
 pub with_step-requires : goal.with_step-requires
 with_step-requires g c =
@@ -32,4 +25,4 @@ loop-run-smaller g c =
 pub returns-clause-next : goal.returns-clause-next
 returns-clause-next g c =
     let most = (IsRun-le _ _ _ _ _ _ c.loop-run.invariant).1 in
-    omega (arith, c.len.ensures)
+    rw c.whole.ensures.next (omega (arith, c.len.ensures, c.whole.ensures.end))

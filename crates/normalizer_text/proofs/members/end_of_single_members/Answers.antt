@@ -1,5 +1,5 @@
 use Rattle.std.proofs.Common.{◌+◌, ◌<◌, length, arith, sym, ◌∙◌}
-use Rattle.std.proofs.lemmas.List.Sums.{prefix_len-drop_all, prefix_len-drop_no, prefix_len-drop_yes}
+use Rattle.std.proofs.lemmas.List.Sums.{prefix_len-drop_no, prefix_len-drop_yes}
 use Rattle.normalizer_sets.specs.CharacterSets.{has}
 use Rattle.normalizer_text.proofs.scans.PrefixLemmas.{prefix-below}
 use Rattle.normalizer_text.proofs.members.end_of_single_members.Goals as goal
@@ -24,23 +24,26 @@ offset_bounds-units-next c =
     let low = prefix-below (has c.args.set.now) c.first_missing-limit.result c.first_missing-limit.ensures.below c.args.units.now c.args.position _ c.requires c.end_of_below-end.ensures in
     omega (arith, low.0)
 
-pub returns-then-end-units : goal.returns-then-end-units
-returns-then-end-units c =
+pub overflow_sub-units : goal.overflow_sub-units
+overflow_sub-units c =
     let low = prefix-below (has c.args.set.now) c.first_missing-limit.result c.first_missing-limit.ensures.below c.args.units.now c.args.position _ c.requires c.end_of_below-end.ensures in
-    omega (arith, low.1, prefix_len-drop_all (has c.args.set.now) c.args.units.now c.end_of_below-end.result (omega arith))
+    omega (arith, low.0)
+
+pub end_of_few_singles-requires : goal.end_of_few_singles-requires
+end_of_few_singles-requires c =
+    let low = prefix-below (has c.args.set.now) c.first_missing-limit.result c.first_missing-limit.ensures.below c.args.units.now c.args.position _ c.requires c.end_of_below-end.ensures in
+    omega (arith, low.0)
+
+pub returns-then-units-end-le-FEW : goal.returns-then-units-end-le-FEW
+returns-then-units-end-le-FEW c =
+    let low = prefix-below (has c.args.set.now) c.first_missing-limit.result c.first_missing-limit.ensures.below c.args.units.now c.args.position _ c.requires c.end_of_below-end.ensures in
+    c.end_of_few_singles.ensures ∙ low.1
 
 pub returns-then-not-has_unit : goal.returns-then-not-has_unit
 returns-then-not-has_unit c =
     let low = prefix-below (has c.args.set.now) c.first_missing-limit.result c.first_missing-limit.ensures.below c.args.units.now c.args.position _ c.requires c.end_of_below-end.ensures in
     let some : c.end_of_below-end.result < length c.args.units.now = omega (arith, low.0) in
     omega (arith, low.1, prefix_len-drop_no (has c.args.set.now) c.args.units.now c.end_of_below-end.result 0 some (sym c.has_unit.ensures ∙ c.if-not-has_unit.true))
-
-pub returns-then-next-units : goal.returns-then-next-units
-returns-then-next-units c =
-    let low = prefix-below (has c.args.set.now) c.first_missing-limit.result c.first_missing-limit.ensures.below c.args.units.now c.args.position _ c.requires c.end_of_below-end.ensures in
-    let some : c.end_of_below-end.result < length c.args.units.now = omega (arith, low.0) in
-    let one = prefix_len-drop_yes (has c.args.set.now) c.args.units.now c.end_of_below-end.result 0 some (sym c.has_unit.ensures ∙ c.if-not-has_unit.false) in
-    omega (arith, low.1, one, prefix_len-drop_all (has c.args.set.now) c.args.units.now (c.end_of_below-end.result + 1) (omega arith))
 
 pub returns-then-not-has_unit-2 : goal.returns-then-not-has_unit-2
 returns-then-not-has_unit-2 c =

@@ -10,10 +10,3 @@ invariant-loop-end l =
 
 abbrev pub decreases-loop-end : goal.decreases-loop-end
 decreases-loop-end l = length l.units - l.end
-
-abbrev pub invariant-loop-end-2 : goal.invariant-loop-end-2
-invariant-loop-end-2 l =
-    (l.end ≤ length l.units) × (l.end + prefix_len (has l.set) (drop l.end l.units) ≡ l.position + prefix_len (has l.set) (drop l.position l.units))
-
-abbrev pub decreases-loop-end-2 : goal.decreases-loop-end-2
-decreases-loop-end-2 l = length l.units - l.end
