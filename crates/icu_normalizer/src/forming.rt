@@ -9,6 +9,7 @@ ghost use Rattle.normal_forms.specs.ShortRuns.{buffer_limit};
 ghost use Rattle.normalizer_check.specs.RequiredConditions.{SuitsTexts};
 ghost use Rattle.normalizer_tables.specs.Characters.{class_of, class_of_itself, has_class_form, list_of};
 ghost use Rattle.normalizer_tables.specs.Characters.{reading_of_word, word_of};
+ghost use Rattle.normalizer_tables.specs.ShortLists.{text_of};
 ghost use Rattle.normalizer_tables.specs.conditions.PairConditions.{is_taken_as_boundary};
 ghost use Rattle.normalizer_text.specs.Encodings.{decoded_in, first_in};
 ghost use Rattle.normalizer_iterators.specs.CharactersLeft.{characters_left};
@@ -31,6 +32,7 @@ use normalizer_sets::CharacterSet;
 use normalizer_tables::characters::{CharacterData, IgnoredCharacters};
 use normalizer_tables::may_be_second;
 use normalizer_tables::members::Members;
+use normalizer_tables::short_list::ShortList;
 use normalizer_tables::word::{is_ordinary_class_form, is_plain, low_byte};
 use normalizer_text::output::Output;
 use normalizer_text::{Chars, Step, Units};
@@ -91,6 +93,10 @@ pub trait Forming {
         requires { 0 < length (U.units units) }
         ensures { let m = made_form self.now in IfOk result (λ seen. IsSeenSegment (beginning self.now)
             U.encoding m.reading m.form (U.units units) seen.end seen.becomes) };
+
+    /// The form of a character alone, if it is held in registers. `None` says nothing.
+    fn short_list(&self, character: char) -> Option<ShortList>
+        ensures { IfSome result (λ list. form_of (made_form self.now) (character ∷ []) ≡ text_of list) };
 
     /// The form of a character alone, if its list is that.
     fn form_of_one(&self, character: char) -> Option<Members<'_>>
@@ -236,6 +242,12 @@ impl<'a> Forming for DecomposingForm<'a> {
     }
 
     #[inline(always)]
+    fn short_list(&self, character: char) -> Option<ShortList> {
+        let word = self.characters.word_of(character);
+        self.characters.short_list(character, word)
+    }
+
+    #[inline(always)]
     fn form_of_one(&self, character: char) -> Option<Members<'_>> {
         Some(
             self.characters
@@ -330,6 +342,11 @@ impl<'a> Forming for ComposingForm<'a> {
     #[inline(always)]
     fn seen_segment<U: Units>(&self, units: U) -> Result<SeenSegment, Unseen> {
         seen_segment(self, units)
+    }
+
+    #[inline(always)]
+    fn short_list(&self, _character: char) -> Option<ShortList> {
+        None
     }
 
     fn form_of_one(&self, character: char) -> Option<Members<'_>> {

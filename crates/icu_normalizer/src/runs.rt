@@ -355,6 +355,18 @@ fn with_passing<U: Units, N: Forming>(
     Ok(with_step(run, step, class))
 }
 
+/// Returns the step at a place. Sequences of two bytes are decoded apart, which takes fewer instructions.
+#[inline(always)]
+fn step_ahead<U: Units>(units: U, place: usize) -> Step
+    requires { place < length (U.units units) }
+    ensures { result ≡ first_in U.encoding (drop place (U.units units)) }
+{
+    match units.two_byte_step_at(place) {
+        Some(step) => step,
+        None => units.step_at(place),
+    }
+}
+
 /// Returns the same run of a short text, after members of the set.
 #[inline(always)]
 fn short_run_end<U: Units, N: Forming>(normalizer: &N, units: U) -> Run
@@ -364,7 +376,7 @@ fn short_run_end<U: Units, N: Forming>(normalizer: &N, units: U) -> Run
 {
     let mut run = first_run(normalizer, units);
     while run.end < units.len() {
-        let step = units.step_at(run.end);
+        let step = step_ahead(units, run.end);
         match with_passing(normalizer, units, run, step) {
             Ok(longer) => run = with_low(normalizer, units, longer),
             Err(unseen) => return stopped(run, step, unseen),

@@ -2,6 +2,7 @@
 ghost use Rattle.std.specs.Prelude.{ℕ, ◌≡◌, ◌<◌, ◌∷◌, [], List, drop, length};
 ghost use Rattle.std.specs.Prelude.{Err, IfErr, IfOk, IfSome, IsErrOf, IsOk, IsOkUnless};
 ghost use Rattle.std.specs.Iterator.{IsFinite};
+ghost use Rattle.normalizer_tables.specs.ShortLists.{text_of};
 ghost use Rattle.normalizer_text.specs.Encodings.{first_in};
 ghost use Rattle.normalizer_iterators.specs.Items.{SpellsOk, SpellsUnless};
 ghost use Rattle.normalizer_iterators.specs.CharactersLeft.{characters_left};
@@ -15,6 +16,7 @@ use crate::forming::Forming;
 use crate::runs::{Composite, Kept, Segment, first_step, front_segment, kept_end};
 use normalizer_iterators::{MarkRun, NormalizeError, SegmentBuffers};
 use normalizer_tables::members::Members;
+use normalizer_tables::short_list::ShortList;
 use normalizer_text::output::Output;
 use normalizer_text::{Step, Units};
 
@@ -62,18 +64,33 @@ fn write_members<U: Units, O: Output<U>>(
     ensures text { WritesText U.encoding O.Output NothingOffered members.now output.old result output.new }
     ensures room { ¬ IsErrOf result NormalizeError.Memory }
 {
-    if let Some(two) = members.as_two() {
-        return write_text::<U, O>(&two, output);
-    }
-    if let Some(three) = members.as_three() {
-        return write_text::<U, O>(&three, output);
-    }
     let mut place = 0;
     while place < members.len() {
         output.write_char(members.at(place))?;
         place += 1;
     }
     Ok(())
+}
+
+/// Writes the characters of a list, each after the one before.
+#[tactic(auto, unfolding(normalizer_tables::specs::ShortLists::text_of))]
+#[inline(always)]
+fn write_short<U: Units, O: Output<U>>(
+    list: ShortList,
+    output: &mut O,
+) -> Result<(), NormalizeError>
+    ensures text { WritesText U.encoding O.Output NothingOffered (text_of list) output.old result output.new }
+    ensures room { ¬ IsErrOf result NormalizeError.Memory }
+{
+    let ShortList {
+        first,
+        second,
+        third,
+    } = list;
+    match third {
+        Some(third) => write_text::<U, O>(&[first, second, third], output),
+        None => write_text::<U, O>(&[first, second], output),
+    }
 }
 
 /// Writes characters, each after the one before.
@@ -151,6 +168,9 @@ fn write_segment<U: Units, N: Forming, O: Output<U>>(
         return write_text::<U, O>(&[character], output);
     }
     if first.width == units.len() {
+        if let Some(list) = normalizer.short_list(first.character) {
+            return write_short::<U, O>(list, output);
+        }
         if let Some(members) = normalizer.form_of_one(first.character) {
             return write_members::<U, O>(&members, output);
         }

@@ -190,7 +190,7 @@ static inline const char *icu_normalizer_reason_text(uint32_t reason) {
         case 13: return "a mapping of a wrong length or with a character that it may not have";
         case 14: return "more than 16 records lead from one to the next";
         case 15: return "a list is too long";
-        case 16: return "two records have the same pair";
+        case 16: return "two records give the same pair";
         case 17: return "the data break a written condition";
         case 18: return "the lists have more items than the tables hold";
         case 19: return "the last line has no line feed: the file is cut off";

@@ -29,7 +29,8 @@ use Rattle.normalizer_records.specs.Meaning.{mapping_among, recorded_classes, re
 use Rattle.normalizer_records.proofs.replacing.ExpansionLemmas.{expansion-alone, expansion-replaced}
 use Rattle.normalizer_records.proofs.record_faults.RefusalLemmas.{unrefused}
 use Rattle.normalizer_records.proofs.checked_lists.RoomLemmas.{asked}
-use Rattle.normalizer_records.proofs.checked_lists.JamoOfSyllables.{by_jamo, jamo_some, replacement-syllable}
+use Rattle.normalizer_tables.proofs.syllables.SyllableJamo.{by_jamo, jamo_some}
+use Rattle.normalizer_records.proofs.checked_lists.JamoOfSyllables.{replacement-syllable}
 use Rattle.normalizer_records.proofs.checked_lists.UnrecordedLemmas.{jamo_alone, jamo_fixed}
 use Rattle.normalizer_records.specs.Recorded.{recorded_characters}
 

@@ -4,6 +4,7 @@ ghost use Rattle.std.specs.Char.{IsScalar};
 ghost use Rattle.std.specs.List.{Contains};
 ghost use Rattle.normalizer_tables.specs.conditions.Conditions.{IsFirstFailing, IsMet, says};
 ghost use Rattle.normalizer_check.specs.Refusals.{RefusesFirstFailing};
+ghost use Rattle.normalizer_tables.specs.Characters.{word_of};
 ghost use Rattle.normalizer_tables.specs.Table.{code_points};
 ghost use Rattle.normalizer_tables.specs.declared.condition.Condition.TheVariants as condition;
 ghost use Rattle.normalizer_check.specs.inner.Walk.{AreUnasked, is_asked_of_words, IsEndOfEqualWords, IsMetBefore};
@@ -14,9 +15,8 @@ use crate::loaded::LoadedData;
 use crate::refusal::refusal_of;
 use normalizer_tables::characters::CODE_POINTS;
 use normalizer_tables::condition::Condition;
-use normalizer_tables::hangul::{N_COUNT, S_BASE};
-use normalizer_tables::read::read_character;
-use normalizer_tables::word::is_hangul_syllable;
+use normalizer_tables::hangul::{N_COUNT, S_BASE, is_hangul_syllable};
+use normalizer_tables::read::read_by_word;
 use normalizer_tables::{DataError, DataMarkerInfo};
 
 pub mod breaking;
@@ -54,8 +54,8 @@ pub fn first_failing(data: &LoadedData<'_>, conditions: &[Condition]) -> Option<
     let asked = first_asked_of_words(conditions);
     let mut from = 0;
     while from < CODE_POINTS && asked < failing {
-        let number = data.characters.next_with_word(from);
-        failing = asked + first_failing_at(data, &conditions[asked..failing], number);
+        let (number, word) = data.characters.next_with_word(from);
+        failing = asked + first_failing_at(data, &conditions[asked..failing], number, word);
         from = end_of_equal_words(number, hangul_is_sound);
     }
     conditions.get(failing).copied()
@@ -112,15 +112,21 @@ fn first_failing_before(data: &LoadedData<'_>, conditions: &[Condition]) -> usiz
         .unwrap_or(conditions.len())
 }
 
-/// The place of the first condition that fails of a number, if a character has it.
-fn first_failing_at(data: &LoadedData<'_>, conditions: &[Condition], number: u32) -> usize
+/// The place of the first condition that fails of a number with this word, if a character has it.
+fn first_failing_at(
+    data: &LoadedData<'_>,
+    conditions: &[Condition],
+    number: u32,
+    word: u32,
+) -> usize
+    requires { word ≡ word_of data.now.characters number }
     ensures { IsPlaceOfFirstFailing (λ c. IsScalar number → (says data.now c).of_each number) conditions.now result }
 {
     let Some(character) = char::from_u32(number) else {
         return conditions.len();
     };
     // It is read here for all conditions.
-    let read = read_character(&data.characters, character);
+    let read = read_by_word(&data.characters, character, word);
     conditions
         .iter()
         .position(|&condition| !is_met_at(data, condition, &read))

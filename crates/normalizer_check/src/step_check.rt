@@ -12,10 +12,10 @@ ghost use Rattle.normalizer_tables.specs.declared.word.WordReading.TheVariants.{
 use crate::pair_check::results::{is_ordered_lists, is_spelled, put_in_order, write};
 use normalizer_tables::NonRecursiveDecompositionSupplement;
 use normalizer_tables::characters::{CharacterData, IgnoredCharacters};
+use normalizer_tables::hangul::is_hangul_syllable;
 use normalizer_tables::members::Members;
 use normalizer_tables::read::ReadCharacter;
 use normalizer_tables::step::{Step, step_by_reading};
-use normalizer_tables::word::is_hangul_syllable;
 
 /// Room for a list, of at most 18 characters.
 const ROOM: usize = 18;

@@ -23,7 +23,7 @@ ghost use Rattle.normalizer_iterators.specs.ComposingInPlace.{ComposesInPlace};
 
 use crate::error::NormalizeError;
 use crate::pending::{PendingChar, read_from};
-use crate::reading::{hold_others, is_at_boundary, read_on};
+use crate::reading::{first_of_list, is_at_boundary, read_on};
 use crate::waiting::{ClassedChar, WaitingList};
 use normalizer_tables::characters::{CharacterData, IgnoredCharacters, Purpose};
 use normalizer_tables::condition::GREATEST_BOUNDS;
@@ -264,11 +264,7 @@ fn read_chunk<I: Iterator<Item = char> + Drop>(
     ensures err { OnErr result (ChunkDidNotFitAfter I.next_gives I.remaining characters.now ignored read.character
         (character_of following) delegate.old) }
 {
-    let members = read.members(characters, ignored);
-    let Some(first) = members.get(0) else {
-        unreachable!()
-    };
-    hold_others(characters, &members, waiting)?;
+    let first = first_of_list(characters, ignored, read, waiting)?;
     let pending = read_on(characters, ignored, following, delegate, waiting)?;
     Ok((first, pending))
 }

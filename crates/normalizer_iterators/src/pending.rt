@@ -2,6 +2,7 @@
 ghost use Rattle.std.specs.Prelude.{◌≡◌, ◌↔◌, ◌∷◌, [], ℕ, List, false, IfSome, IsTrue};
 ghost use Rattle.normal_forms.specs.ShortRuns.{continues};
 ghost use Rattle.normalizer_tables.specs.Characters.{Characters, class_of, has_class_form, list_of, word_of};
+ghost use Rattle.normalizer_tables.specs.ShortLists.{text_of};
 ghost use Rattle.normalizer_tables.specs.Ignored.{ignored_list};
 ghost use Rattle.normalizer_tables.specs.Readings.{reading_by};
 ghost use Rattle.normalizer_tables.specs.Passthrough.{IsPassthrough};
@@ -9,6 +10,7 @@ ghost use Rattle.normalizer_iterators.specs.Reads.{character_of, HasNoFlag, HasO
 
 use normalizer_tables::characters::{CharacterData, IgnoredCharacters};
 use normalizer_tables::members::Members;
+use normalizer_tables::short_list::ShortList;
 use normalizer_tables::word::{is_backward_combining, is_class_form, is_non_round_trip};
 
 /// The bits of a word that are all 0 if the character is its own list, a starter.
@@ -104,6 +106,19 @@ impl PendingChar {
             return Some(0);
         }
         characters.class_of_itself(self.character, self.word_by(characters))
+    }
+
+    /// The list of the character, if it is held in registers. `None` says nothing.
+    #[inline(always)]
+    pub(crate) fn short_list(self, characters: &CharacterData<'_>) -> Option<ShortList>
+        requires { HasOwnWord characters.now self }
+        ensures { (ignored : List ℕ) →
+            IfSome result (λ list. list_of characters.now ignored self.character ≡ text_of list) }
+    {
+        if self.is_plain() {
+            return None;
+        }
+        characters.short_list(self.character, self.word_by(characters))
     }
 
     /// The list of the character.

@@ -1,12 +1,13 @@
 //! Reading further characters, up to a boundary.
 ghost use Rattle.std.specs.Prelude.{◌≡◌, ◌+◌, ◌≤◌, ◌++◌, ℕ, List, length, drop, IsOk, IfOk, OnOk, OnErr, []};
-ghost use Rattle.std.specs.Prelude.{false, IfSome, IsTrue};
+ghost use Rattle.std.specs.Prelude.{false, IfSome, IsTrue, Some, slice_get};
 ghost use Rattle.normal_forms.specs.Order.{order};
 ghost use Rattle.normal_forms.specs.Reading.{Reading};
 ghost use Rattle.normal_forms.specs.ShortRuns.{buffer_limit, continues};
 ghost use Rattle.normalizer_tables.specs.Characters.{class_of, has_class_form, list_of};
 ghost use Rattle.normalizer_tables.specs.Ignored.{ignored_list};
 ghost use Rattle.normalizer_tables.specs.Readings.{reading_by};
+ghost use Rattle.normalizer_tables.specs.ShortLists.{text_of};
 ghost use Rattle.normalizer_iterators.specs.Delegate.{IsReadyAfter};
 ghost use Rattle.normalizer_iterators.specs.LazyReading.{HasClassesFrom};
 ghost use Rattle.normalizer_iterators.specs.WaitingList.{item_count, reordered_text, AgreesWith};
@@ -17,6 +18,7 @@ use crate::pending::{PendingChar, read_from};
 use crate::waiting::{ClassedChar, WaitingList};
 use normalizer_tables::characters::{CharacterData, IgnoredCharacters};
 use normalizer_tables::members::Members;
+use normalizer_tables::short_list::ShortList;
 use std::alloc::AllocError;
 
 /// Buffers the characters that continue what comes before them, in canonical order, up to the first boundary. Returns
@@ -119,7 +121,7 @@ pub(crate) fn push_from(
 
 /// Buffers the members of a list after the first, in place of what is buffered.
 #[inline(always)]
-pub(crate) fn hold_others(
+fn hold_others(
     characters: &CharacterData<'_>,
     members: &Members<'_>,
     waiting: &mut WaitingList,
@@ -131,14 +133,60 @@ pub(crate) fn hold_others(
     ensures held { OnOk result (item_count waiting.new + 1 ≡ length members.now) }
     ensures succeeds { length members.now ≤ buffer_limit + 1 → IsOk result }
 {
-    if let Some(two) = members.as_two() {
-        return waiting.hold(classed(characters, two[1]));
-    }
-    if let Some(three) = members.as_three() {
-        return waiting.hold_two(classed(characters, three[1]), classed(characters, three[2]));
-    }
     waiting.clear();
     push_from(characters, members, 1, waiting)
+}
+
+/// Buffers the characters of a list after the first, in place of what is buffered.
+#[tactic(auto, unfolding(normalizer_tables::specs::ShortLists::text_of))]
+#[inline(always)]
+fn hold_short(
+    characters: &CharacterData<'_>,
+    list: ShortList,
+    waiting: &mut WaitingList,
+) -> Result<(), AllocError>
+    ensures text { OnOk result ((d : Reading) → HasClassesFrom characters.now d → (rest : List ℕ) →
+        order d (drop 1 (text_of list) ++ rest) ≡ reordered_text d waiting.new rest) }
+    ensures classes { OnOk result ((d : Reading) → HasClassesFrom characters.now d → AgreesWith d waiting.new) }
+    ensures held { OnOk result (item_count waiting.new + 1 ≡ length (text_of list)) }
+    ensures succeeds { IsOk result }
+{
+    let second = classed(characters, list.second);
+    match list.third {
+        Some(third) => waiting.hold_two(second, classed(characters, third)),
+        None => waiting.hold(second),
+    }
+}
+
+/// The first member of the list of a character, if the list has members; the others are buffered, in place of what is
+/// buffered.
+#[tactic(auto, unfolding(normalizer_tables::specs::ShortLists::text_of))]
+#[inline(always)]
+pub(crate) fn first_of_list(
+    characters: &CharacterData<'_>,
+    ignored: IgnoredCharacters,
+    read: PendingChar,
+    waiting: &mut WaitingList,
+) -> Result<char, AllocError>
+    requires word { HasOwnWord characters.now read }
+    requires some { 1 ≤ length (list_of characters.now (ignored_list ignored) read.character) }
+    ensures first { IfOk result (λ c. Some c ≡ slice_get (list_of characters.now (ignored_list ignored) read.character) 0) }
+    ensures text { OnOk result ((d : Reading) → HasClassesFrom characters.now d → (rest : List ℕ) →
+        order d (drop 1 (list_of characters.now (ignored_list ignored) read.character) ++ rest)
+        ≡ reordered_text d waiting.new rest) }
+    ensures classes { OnOk result ((d : Reading) → HasClassesFrom characters.now d → AgreesWith d waiting.new) }
+    ensures held { OnOk result (item_count waiting.new + 1
+        ≡ length (list_of characters.now (ignored_list ignored) read.character)) }
+    ensures succeeds { length (list_of characters.now (ignored_list ignored) read.character) ≤ buffer_limit + 1 →
+        IsOk result }
+{
+    if let Some(list) = read.short_list(characters) {
+        hold_short(characters, list, waiting)?;
+        return Ok(list.first);
+    }
+    let members = read.members(characters, ignored);
+    hold_others(characters, &members, waiting)?;
+    Ok(members.at(0))
 }
 
 /// A character with its class.

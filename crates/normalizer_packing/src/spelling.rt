@@ -9,9 +9,10 @@ ghost use Rattle.normalizer_packing.specs.Spelling.{spelling_of_two};
 ghost use Rattle.normalizer_tables.specs.conditions.Conditions.{is_surrogate};
 
 use crate::entries::{Entries, class_of};
+use normalizer_tables::hangul::is_hangul_syllable;
 use normalizer_tables::members::fdfa_list;
 use normalizer_tables::special::fixed_list_of;
-use normalizer_tables::word::{IGNORED_MARKER, is_hangul_syllable};
+use normalizer_tables::word::{HANGUL_WORD, IGNORED_MARKER, SURROGATE_WORD};
 
 /// The first line that fits.
 #[derive(Clone, Copy, Debug, PartialEq, Eq)]
@@ -43,9 +44,9 @@ pub fn final_word(number: u32) -> Option<u32>
     ensures { result ≡ final_word number }
 {
     if is_hangul_syllable(number) {
-        Some(1)
+        Some(HANGUL_WORD)
     } else if is_surrogate(number) {
-        Some(0xC000_FFFD)
+        Some(SURROGATE_WORD)
     } else if number == 0xFFFD {
         Some(0x4000_0000)
     } else {

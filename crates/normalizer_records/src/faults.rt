@@ -22,7 +22,7 @@ ghost use Rattle.normalizer_records.specs.Statuses.{status_of};
 ghost use Rattle.normalizer_tables.specs.Hangul.{is_hangul_syllable};
 
 use crate::records::{Record, Uts46Record, Uts46Status};
-use normalizer_tables::word::is_hangul_syllable;
+use normalizer_tables::hangul::is_hangul_syllable;
 
 /// Whether records are sorted, without duplicates, by character.
 pub(crate) fn are_rising(records: &[Record]) -> bool

@@ -154,7 +154,7 @@ pub enum BuildError {
     /// A list that is longer than words can encode.
     #[error("a list is too long")]
     Length,
-    /// Two records have the same pair.
+    /// Two records give the same pair.
     #[error("two records give the same pair")]
     Pair,
     /// The data that the records make break the written condition of this number (`docs/CONDITIONS.md`).

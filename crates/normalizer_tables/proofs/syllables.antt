@@ -1,2 +1,3 @@
 -- Hangul.
 pub mod HangulLemmas
+pub mod SyllableJamo

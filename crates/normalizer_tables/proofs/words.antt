@@ -3,4 +3,5 @@ pub mod CharacterLemmas
 pub mod PassthroughBound
 pub mod PlainCharacters
 pub mod ReadLemmas
+pub mod ShortListLemmas
 pub mod WordLemmas

@@ -14,6 +14,7 @@ pub mod Purposes
 pub mod Ranges
 pub mod Read
 pub mod Readings
+pub mod ShortLists
 pub mod SpecialLists
 pub mod Steps
 pub mod Table

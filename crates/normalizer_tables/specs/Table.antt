@@ -27,10 +27,10 @@ without_flags flags word = bit_and word (bit_not w32 flags)
 unfoldable pub HaveNoWord : Table → ℕ → ℕ → ℕ → Type 0
 HaveNoWord t flags from to = (n : ℕ) → from ≤ n → n < to → without_flags flags (word_at t n) ≡ 0
 
--- the least code point from `from` on that has a word besides flags, or that none has
-unfoldable pub IsNextWithWord : Table → ℕ → ℕ → Option ℕ → Type 0
-IsNextWithWord t flags from (Some n) =
-    (from ≤ n) × (n < code_points) × (without_flags flags (word_at t n) ≢ 0) × HaveNoWord t flags from n
+-- the least code point from `from` on that has a word besides flags, with its word, or that none has
+unfoldable pub IsNextWithWord : Table → ℕ → ℕ → Option (ℕ × ℕ) → Type 0
+IsNextWithWord t flags from (Some (n, w)) =
+    (from ≤ n) × (n < code_points) × (word_at t n ≡ w) × (without_flags flags w ≢ 0) × HaveNoWord t flags from n
 IsNextWithWord t flags from None = HaveNoWord t flags from code_points
 
 -- the words of 64 code points

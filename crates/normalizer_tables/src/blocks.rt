@@ -8,6 +8,7 @@ ghost use Rattle.normalizer_tables.specs.inner.TableSets.{HasPlacesWithout};
 ghost use Rattle.normalizer_tables.specs.Ranges.{word_in, words_of, IsRangeList};
 ghost use Rattle.normalizer_tables.specs.Table.{code_points, IsNextWithWord};
 
+use crate::characters::CODE_POINTS;
 use normalizer_sets::CharacterSet;
 use std::alloc::{AllocError, Global};
 use std::marker::Model;
@@ -20,9 +21,6 @@ const MORE_BLOCKS: usize = 16;
 
 /// How many blocks the code points have.
 const PLACES: u32 = 17_408;
-
-/// The last code point.
-pub(crate) const LAST_CODE_POINT: u32 = 0x10FFFF;
 
 /// A word for each code point.
 #[derive(Drop)]
@@ -85,9 +83,9 @@ impl Blocks {
         self.blocks.len()
     }
 
-    /// The least code point from a number on whose word, without the bits of `flags`, isn't 0.
+    /// The least code point from a number on whose word, without the bits of `flags`, isn't 0, and its word.
     #[tactic(auto, unfolding(crate::specs::Table::without_flags))]
-    pub(crate) fn next_with_word(&self, from: u32, flags: u32) -> Option<u32>
+    pub(crate) fn next_with_word(&self, from: u32, flags: u32) -> Option<(u32, u32)>
         ensures { (above : ℕ) → IsNextWithWord (record { words = self.now; past = above }) flags from result }
     {
         let mut passed = None;
@@ -99,8 +97,9 @@ impl Blocks {
             let start = place * BLOCK;
             let block = &self.blocks[number as usize];
             for offset in from.saturating_sub(start)..BLOCK {
-                if block[offset as usize] & !flags != 0 {
-                    return Some(start + offset);
+                let word = block[offset as usize];
+                if word & !flags != 0 {
+                    return Some((start + offset, word));
                 }
             }
             if from <= start {
@@ -277,7 +276,7 @@ fn run_from(ranges: &[(u32, u32, u32)], number: u32) -> (u32, u32)
     ensures within { result.1 ≤ 0x10FFFF }
 {
     match ranges {
-        [] => (0, LAST_CODE_POINT),
+        [] => (0, CODE_POINTS - 1),
         [(first, _, _), ..] if number < *first => (0, first - 1),
         [(_, last, word), ..] => (*word, *last),
     }

@@ -21,6 +21,7 @@ ghost use Rattle.normalizer_tables.specs.Characters.{
   wide_at,
   word_of,
 };
+ghost use Rattle.normalizer_tables.specs.ShortLists.{text_of};
 ghost use Rattle.normalizer_tables.specs.Purposes.{is_mapping};
 ghost use Rattle.normalizer_tables.specs.Ranges.{IsComplete};
 ghost use Rattle.normalizer_tables.specs.Table.{code_points};
@@ -28,11 +29,13 @@ ghost use Rattle.normalizer_tables.specs.Passthrough.{IsPassthroughBelow, IsPass
 ghost use Rattle.normalizer_tables.specs.Characters.{IsNextWord};
 ghost use Rattle.normalizer_tables.specs.Readings.{reading_by};
 
+use crate::hangul::{decompose_hangul, is_hangul_syllable};
 use crate::members::Members;
 use crate::provider::{DecompositionData, DecompositionTables};
 use crate::scalars::Scalars16;
+use crate::short_list::ShortList;
 use crate::special::fixed_list_of;
-use crate::word::{FLAGS, WordReading, class_of_word, is_class_form, is_plain, read};
+use crate::word::{FLAGS, HANGUL_WORD, WordReading, class_of_word, is_class_form, is_plain, read};
 use normalizer_sets::CharacterSet;
 use std::alloc::Global;
 use std::marker::Model;
@@ -167,15 +170,17 @@ impl<'a> CharacterData<'a> {
         decompositions.table.get32(number)
     }
 
-    /// Returns the first number from this one on whose word isn't 0, flags aside, or the first past the code points.
-    pub fn next_with_word(&self, from: u32) -> u32
+    /// Returns the first number from this one on whose word isn't 0, flags aside, or the first past the code points, and
+    /// its word.
+    pub fn next_with_word(&self, from: u32) -> (u32, u32)
         requires { from ≤ code_points }
-        ensures { IsNextWord self.now from result }
+        ensures next { IsNextWord self.now from result.0 }
+        ensures word { result.1 ≡ word_of self.now result.0 }
     {
         let decompositions = self.decompositions;
         match decompositions.table.next_with_word(from, FLAGS) {
-            Some(number) => number,
-            None => CODE_POINTS,
+            Some(next) => next,
+            None => (CODE_POINTS, self.word_of_number(CODE_POINTS)),
         }
     }
 
@@ -275,6 +280,26 @@ impl<'a> CharacterData<'a> {
             .unwrap_or(Members::one(character))
     }
 
+    /// Returns the list of a character, if its word spells two characters, or is that of a Hangul syllable. `None` says
+    /// nothing.
+    #[tactic(auto, using(crate::proofs::words::ShortListLemmas::short_lists))]
+    #[inline(always)]
+    pub fn short_list(&self, character: char, word: u32) -> Option<ShortList>
+        requires { word ≡ word_of self.now character }
+        ensures { (ignored : List ℕ) →
+            IfSome result (λ list. list_of self.now ignored character ≡ text_of list) }
+    {
+        if word == HANGUL_WORD && is_hangul_syllable(character as u32) {
+            return Some(decompose_hangul(character));
+        }
+        match self.reading_by(character, word) {
+            WordReading::TwoCharacters(first, second) => {
+                Some(ShortList::of_two(first as u32, second as u32))
+            }
+            _ => None,
+        }
+    }
+
     /// Returns whether the list of a character has members, from its word: all have but ignored characters that are
     /// dropped.
     #[tactic(auto, using(crate::proofs::words::WordLemmas::readings), unfolding(crate::specs::Characters::list_read, crate::specs::Characters::named_list))]
@@ -309,7 +334,7 @@ impl<'a> CharacterData<'a> {
         }
     }
 
-    #[tactic(auto, using(crate::proofs::words::WordLemmas::readings), unfolding(crate::specs::Characters::list_read, crate::specs::Characters::named_list))]
+    #[tactic(auto, using(crate::proofs::words::WordLemmas::readings, crate::proofs::syllables::SyllableJamo::jamo_are_text), unfolding(crate::specs::Characters::list_read, crate::specs::Characters::named_list))]
     #[inline(always)]
     pub(crate) fn members_of(
         &self,
@@ -328,7 +353,7 @@ impl<'a> CharacterData<'a> {
             WordReading::Itself | WordReading::ClassForm(_) => Some(Members::one(character)),
             WordReading::SpecialForm(_) => Some(fixed_list_of(character)?.members()),
             WordReading::TwoCharacters(a, b) => Members::of_numbers(a as u32, b as u32),
-            WordReading::HangulSyllable => Members::of_hangul_syllable(character),
+            WordReading::HangulSyllable => Some(Members::of_hangul_syllable(character)),
             WordReading::Fdfa => Some(Members::of_fdfa()),
             WordReading::OneCharacter(a) => Members::of_number(a as u32),
             WordReading::Listed(item, low, _) => self.listed_at(item, low),

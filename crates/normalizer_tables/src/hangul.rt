@@ -1,6 +1,7 @@
-//! Hangul syllables compose by arithmetic (The Unicode Standard, section 3.12).
-ghost use Rattle.std.specs.Prelude.{◌≡◌, ◌↔◌, ℕ, IsTrue};
-ghost use Rattle.normalizer_tables.specs.Hangul.{is_hangul_syllable};
+//! Hangul syllables, which compose by arithmetic (The Unicode Standard, section 3.12).
+ghost use Rattle.std.specs.Prelude.{◌≡◌, ◌↔◌, ℕ, IsTrue, true};
+ghost use Rattle.normalizer_tables.specs.Hangul.{hangul_decomposition, is_hangul_syllable};
+ghost use Rattle.normalizer_tables.specs.ShortLists.{text_of};
 ghost use Rattle.normalizer_tables.specs.HangulComposition.{
   compose_hangul,
   is_leading_consonant,
@@ -9,7 +10,7 @@ ghost use Rattle.normalizer_tables.specs.HangulComposition.{
   is_vowel,
 };
 
-use crate::word::is_hangul_syllable;
+use crate::short_list::ShortList;
 
 /// SBase, the first syllable.
 pub const S_BASE: u32 = 0xAC00;
@@ -24,6 +25,33 @@ pub(crate) const T_COUNT: u32 = 28;
 
 /// How many syllables have the same leading consonant.
 pub const N_COUNT: u32 = 588;
+
+/// Returns whether a number is that of a Hangul syllable.
+#[tactic(auto, unfolding(crate::specs::Hangul::is_hangul_syllable))]
+#[inline(always)]
+pub fn is_hangul_syllable(number: u32) -> bool
+    ensures { result ≡ is_hangul_syllable number }
+{
+    0xAC00 <= number && number <= 0xD7A3
+}
+
+/// Returns the jamo of a Hangul syllable: the leading consonant, the vowel, and the trailing consonant if there is one.
+#[tactic(auto, unfolding(crate::specs::Hangul::is_hangul_syllable, crate::specs::Hangul::hangul_decomposition))]
+#[inline(always)]
+pub fn decompose_hangul(syllable: char) -> ShortList
+    requires { is_hangul_syllable syllable ≡ true }
+    ensures { text_of result ≡ hangul_decomposition syllable }
+{
+    let index = syllable as u32 - S_BASE;
+    let leading = L_BASE + index / N_COUNT;
+    let vowel = V_BASE + index % N_COUNT / T_COUNT;
+    let trailing = index % T_COUNT;
+    if trailing == 0 {
+        ShortList::of_two(leading, vowel)
+    } else {
+        ShortList::of_three(leading, vowel, T_BASE + trailing)
+    }
+}
 
 /// Returns the syllable of a leading consonant and a vowel, or of such a syllable and a trailing consonant.
 #[tactic(auto, using(crate::proofs::syllables::HangulLemmas::compositions), unfolding(crate::specs::HangulComposition::compose_hangul, crate::specs::HangulComposition::is_lv_syllable))]

@@ -15,6 +15,7 @@ pub mod places;
 mod provider;
 pub mod read;
 mod scalars;
+pub mod short_list;
 pub mod special;
 pub mod step;
 mod table;

@@ -9,8 +9,9 @@ ghost use Rattle.normalizer_tables.specs.Hangul.{hangul_decomposition, is_hangul
 ghost use Rattle.normalizer_tables.specs.SpecialLists.{fdfa_list};
 ghost use Rattle.normalizer_tables.specs.inner.Members.{members_of, spells_characters};
 
-use crate::hangul::{L_BASE, N_COUNT, S_BASE, T_BASE, T_COUNT, V_BASE};
+use crate::hangul::decompose_hangul;
 use crate::scalars::spell_characters;
+use crate::short_list::ShortList;
 use std::marker::Model;
 
 /// A list of characters: a borrowed one, or a short one. It takes no memory.
@@ -102,18 +103,6 @@ impl<'a> Members<'a> {
         }
     }
 
-    /// Returns the members, if they are held as three characters, as the jamo of a Hangul syllable are. `None` says
-    /// nothing.
-    #[inline(always)]
-    pub fn as_three(&self) -> Option<[char; 3]>
-        ensures { IfSome result (λ three. three ≡ self.now) }
-    {
-        match self.shape {
-            Shape::Three(a, b, c) => Some([a, b, c]),
-            _ => None,
-        }
-    }
-
     /// Returns the list of no member.
     pub fn empty() -> Self
         ensures { result ≡ [] }
@@ -193,24 +182,23 @@ impl<'a> Members<'a> {
         }
     }
 
-    /// The jamo of a Hangul syllable (The Unicode Standard, section 3.12).
-    #[tactic(auto, unfolding(crate::specs::Characters::as_text, crate::specs::Hangul::hangul_decomposition, crate::specs::Hangul::is_hangul_syllable))]
+    /// Returns the jamo of a Hangul syllable (The Unicode Standard, section 3.12).
+    #[tactic(auto, unfolding(crate::specs::ShortLists::text_of))]
     #[inline(always)]
-    pub fn of_hangul_syllable(syllable: char) -> Option<Self>
+    pub fn of_hangul_syllable(syllable: char) -> Self
         requires { is_hangul_syllable syllable ≡ true }
-        ensures { result ≡ as_text (hangul_decomposition syllable) }
+        ensures { result ≡ hangul_decomposition syllable }
     {
-        let index = syllable as u32 - S_BASE;
-        let leading = char::from_u32(L_BASE + index / N_COUNT)?;
-        let vowel = char::from_u32(V_BASE + index % N_COUNT / T_COUNT)?;
-        let trailing = index % T_COUNT;
-        if trailing == 0 {
-            return Some(Members::two(leading, vowel));
-        }
-        let trailing = char::from_u32(T_BASE + trailing)?;
-        Some(Members {
-            shape: Shape::Three(leading, vowel, trailing),
-        })
+        let ShortList {
+            first,
+            second,
+            third,
+        } = decompose_hangul(syllable);
+        let shape = match third {
+            Some(third) => Shape::Three(first, second, third),
+            None => Shape::Two(first, second),
+        };
+        Members { shape }
     }
 
     /// The fixed list of U+FDFA.

@@ -14,11 +14,11 @@ ghost use Rattle.normalizer_tables.specs.Steps.{
 };
 
 use crate::characters::{CharacterData, items_at};
-use crate::hangul::{S_BASE, T_BASE, T_COUNT};
+use crate::hangul::{S_BASE, T_BASE, T_COUNT, is_hangul_syllable};
 use crate::members::Members;
 use crate::provider::NonRecursiveDecompositionSupplement;
 use crate::read::{ReadCharacter, read_character};
-use crate::word::{WordReading, is_hangul_syllable};
+use crate::word::WordReading;
 
 /// The result of one step of canonical decomposition.
 #[derive(Clone, Copy, PartialEq, Eq, Debug)]
@@ -32,7 +32,7 @@ pub enum Step {
 }
 
 /// Returns the canonical mapping of a character, or that it has none, if the words say which. It takes no memory.
-#[tactic(auto, unfolding(crate::specs::Steps::step_of, crate::specs::Steps::hangul_mapping, crate::specs::Steps::step_by, crate::specs::Hangul::is_hangul_syllable))]
+#[tactic(auto, using(crate::proofs::syllables::SyllableJamo::jamo_are_text), unfolding(crate::specs::Steps::step_of, crate::specs::Steps::hangul_mapping, crate::specs::Steps::step_by, crate::specs::Hangul::is_hangul_syllable))]
 pub fn step_of(
     data: &CharacterData<'_>,
     supplement: &NonRecursiveDecompositionSupplement,
@@ -44,7 +44,7 @@ pub fn step_of(
         // It maps by arithmetic (The Unicode Standard, section 3.12).
         let trailing = (character as u32 - S_BASE) % T_COUNT;
         let mapping = if trailing == 0 {
-            Members::of_hangul_syllable(character)?
+            Members::of_hangul_syllable(character)
         } else {
             Members::of_numbers(character as u32 - trailing, T_BASE + trailing)?
         };

@@ -10,7 +10,8 @@ ghost use Rattle.normalizer_tables.specs.inner.Blocks.{is_range};
 ghost use Rattle.std.specs.List.{list_all};
 ghost use Rattle.normalizer_tables.specs.Table.{word_at, code_points, IsNextWithWord};
 
-use crate::blocks::{Blocks, LAST_CODE_POINT};
+use crate::blocks::Blocks;
+use crate::characters::CODE_POINTS;
 use crate::word::FLAGS;
 use normalizer_sets::CharacterSet;
 use std::alloc::{AllocError, Global};
@@ -118,7 +119,7 @@ impl CodePointTable {
         // Stated for callers, who don't see the ranges: the list of words has all code points.
         ensures complete { IsComplete self.now }
     {
-        if number > LAST_CODE_POINT {
+        if CODE_POINTS <= number {
             return self.past;
         }
         self.words.word(number)
@@ -139,8 +140,16 @@ impl CodePointTable {
         &self.unflagged
     }
 
-    /// The least code point from `from` on whose word has bits other than those of `flags`.
-    pub(crate) fn next_with_word(&self, from: u32, flags: u32) -> Option<u32>
+    /// Does nothing: its contract is for laws, which don't see the blocks.
+    #[tactic(auto, unfolding(crate::specs::Ranges::IsComplete))]
+    pub(crate) fn has_all_words(&self)
+        ensures { IsComplete self.now }
+    {
+        let _ = &self.words;
+    }
+
+    /// The least code point from `from` on whose word has bits other than those of `flags`, and its word.
+    pub(crate) fn next_with_word(&self, from: u32, flags: u32) -> Option<(u32, u32)>
         ensures { IsNextWithWord self.now flags from result }
     {
         self.words.next_with_word(from, flags)
@@ -202,5 +211,5 @@ fn are_ranges(ranges: &[(u32, u32, u32)]) -> bool
 {
     ranges
         .iter()
-        .all(|range| range.0 <= range.1 && range.1 <= LAST_CODE_POINT)
+        .all(|range| range.0 <= range.1 && range.1 < CODE_POINTS)
 }

@@ -1,6 +1,5 @@
 //! The readings of the 32-bit words of decomposition data.
 ghost use Rattle.std.specs.Prelude.{◌≡◌};
-ghost use Rattle.normalizer_tables.specs.Hangul.{is_hangul_syllable};
 ghost use Rattle.normalizer_tables.specs.Words.{
   class_of_word,
   has_high_zeros,
@@ -15,11 +14,16 @@ ghost use Rattle.normalizer_tables.specs.Words.{
   read,
 };
 
+use crate::hangul::is_hangul_syllable;
+
 /// The word of a character that the mapper ignores (UTS #46, section 4).
 pub const IGNORED_MARKER: u32 = 0xFFFF_FFFF;
 
 /// The word of a surrogate, with its flags.
 pub const SURROGATE_WORD: u32 = 0xC000_FFFD;
+
+/// The word of a Hangul syllable.
+pub const HANGUL_WORD: u32 = 1;
 
 /// NON_ROUND_TRIP and BACKWARD_COMBINING.
 pub(crate) const FLAGS: u32 = 0xC000_0000;
@@ -133,15 +137,6 @@ pub fn is_backward_combining(word: u32) -> bool
     ensures { result ≡ is_backward_combining word }
 {
     word & 0x8000_0000 != 0
-}
-
-/// Returns whether a number is that of a Hangul syllable.
-#[tactic(auto, unfolding(crate::specs::Hangul::is_hangul_syllable))]
-#[inline(always)]
-pub fn is_hangul_syllable(number: u32) -> bool
-    ensures { result ≡ is_hangul_syllable number }
-{
-    0xAC00 <= number && number <= 0xD7A3
 }
 
 /// Returns whether a word reads as the character itself with class 0, whatever its flags.

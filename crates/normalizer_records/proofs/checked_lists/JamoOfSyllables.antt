@@ -1,48 +1,9 @@
--- The jamo of Hangul syllables.
-use Rattle.std.proofs.Common.{◌≡◌, ◌≢◌, ℕ, ◌+◌, ◌-◌, ◌/◌, ◌%◌, ◌≤◌, true, false, List, [], ◌∷◌, Some, if◌then◌else◌, ◌==◌, refl, arith}
-use Rattle.std.specs.List.{AllByRecursion}
-use Rattle.std.proofs.Math.Utf8.{low_scalar}
-use Rattle.std.proofs.lemmas.Bool.Decides.{nat_tests}
-use Rattle.normalizer_tables.specs.Characters.{as_text}
-use Rattle.normalizer_tables.specs.Hangul.{is_hangul_syllable, hangul_decomposition, l_base, v_base, t_base, s_base, n_count, t_count}
+-- What replaces a Hangul syllable.
+use Rattle.std.proofs.Common.{◌≡◌, ℕ, true, List, refl}
+use Rattle.normalizer_tables.specs.Hangul.{is_hangul_syllable, hangul_decomposition}
 use Rattle.normalizer_records.specs.declared.records.Mappings.{Mappings}
 use Rattle.normalizer_records.specs.RecordValue.{RecordValue}
 use Rattle.normalizer_records.specs.Meaning.{replacement}
-
-pub syllable-range : (c : ℕ) → is_hangul_syllable c ≡ true → c ≤ 0xD7A3
-unfolding is_hangul_syllable
-syllable-range c h = grind (arith, nat_tests)
-
--- a conjoining jamo, of the block Hangul Jamo
-abbrev pub IsJamo : ℕ → Type 0
-IsJamo c = (0x1100 ≤ c) × (c ≤ 0x11FF)
-
--- what holds of two jamo, and of three, holds of those of a syllable
-pub by_jamo : (P : List ℕ → Type 0) (c : ℕ) → is_hangul_syllable c ≡ true → ((l v : ℕ) → IsJamo l → IsJamo v → P (l ∷ v ∷ [])) →
-    ((l v t : ℕ) → IsJamo l → IsJamo v → IsJamo t → P (l ∷ v ∷ t ∷ [])) → P (hangul_decomposition c)
-unfolding hangul_decomposition
-by_jamo P c h two three =
-    let range = syllable-range c h in
-    let l : ℕ = l_base + (c - s_base) / n_count in
-    let v : ℕ = v_base + (c - s_base) % n_count / t_count in
-    let t : ℕ = t_base + (c - s_base) % t_count in
-    elim ((c - s_base) % t_count == 0) as (λ b. P (if b then l ∷ v ∷ [] else l ∷ v ∷ t ∷ [])) [
-      | true ↦ two l v (omega arith, omega arith) (omega arith, omega arith)
-      | false ↦ three l v t (omega arith, omega arith) (omega arith, omega arith) (omega arith, omega arith)
-    ]
-
-pub jamo_members : (c : ℕ) → is_hangul_syllable c ≡ true → AllByRecursion IsJamo (hangul_decomposition c)
-jamo_members c h = by_jamo (AllByRecursion IsJamo) c h (λ l v first second. (first, (second, tt))) (λ l v t first second third. (first, (second, (third, tt))))
-
-pub jamo_some : (c : ℕ) → is_hangul_syllable c ≡ true → hangul_decomposition c ≢ []
-jamo_some c h = by_jamo (λ x. x ≢ []) c h (λ l v first second e. cc) (λ l v t first second third e. cc)
-
--- the jamo of a syllable are characters
-pub as_text-jamo : (c : ℕ) → is_hangul_syllable c ≡ true → as_text (hangul_decomposition c) ≡ Some (hangul_decomposition c)
-unfolding as_text
-as_text-jamo c h = by_jamo (λ x. as_text x ≡ Some x) c h
-    (λ l v first second. rw (low_scalar l (omega arith), low_scalar v (omega arith)) refl)
-    (λ l v t first second third. rw (low_scalar l (omega arith), low_scalar v (omega arith), low_scalar t (omega arith)) refl)
 
 pub replacement-syllable : (records : List RecordValue) (mappings : Mappings) (c : ℕ) → is_hangul_syllable c ≡ true → replacement records mappings c ≡ hangul_decomposition c
 unfolding replacement

@@ -19,7 +19,8 @@ use Rattle.normalizer_records.specs.Faults.{is_fixed, has_fixed_fault, begins_wi
 use Rattle.normalizer_records.proofs.checked_lists.ChecksOfCuts.{begins-order}
 use Rattle.normalizer_records.proofs.replacing.ExpansionLemmas.{expansion-alone, expansion-replaced}
 use Rattle.normalizer_records.proofs.record_faults.LookupLemmas.{stands_or_none}
-use Rattle.normalizer_records.proofs.checked_lists.JamoOfSyllables.{by_jamo, jamo_some, replacement-syllable}
+use Rattle.normalizer_tables.proofs.syllables.SyllableJamo.{by_jamo, jamo_some}
+use Rattle.normalizer_records.proofs.checked_lists.JamoOfSyllables.{replacement-syllable}
 
 -- a character is among those of the elements, or is not found
 contains_or_none : {X : Type 0} (key : X → ℕ) → X → (xs : List X) (c : ℕ) → Contains (map key xs) c ⊎ (find (λ r. key r == c) xs ≡ None)

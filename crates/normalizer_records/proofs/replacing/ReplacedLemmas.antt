@@ -13,7 +13,8 @@ use Rattle.normalizer_records.specs.Meaning.{expand_all, entry_of, mapping_of, m
 use Rattle.normalizer_records.specs.inner.Chains.{LeadsOn}
 use Rattle.normalizer_records.specs.Faults.{IsRecorded, IsOnLongChain, has_fixed_fault}
 use Rattle.normalizer_records.proofs.replacing.ExpansionLemmas.{expansion-alone, expansion-replaced}
-use Rattle.normalizer_records.proofs.checked_lists.JamoOfSyllables.{IsJamo, by_jamo, replacement-syllable}
+use Rattle.normalizer_tables.proofs.syllables.SyllableJamo.{IsJamo, by_jamo}
+use Rattle.normalizer_records.proofs.checked_lists.JamoOfSyllables.{replacement-syllable}
 use Rattle.normalizer_records.proofs.checked_lists.UnrecordedLemmas.{jamo_stays}
 use Rattle.normalizer_records.proofs.replacing.ChainLemmas.{chain_from_on}
 

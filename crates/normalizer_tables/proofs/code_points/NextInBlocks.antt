@@ -41,7 +41,7 @@ module _ (blocks : List Block) (numbers words : List ℕ) (are : stored_words bl
   ]
 
   -- the first place of its block that has one is the next
-  pub next-found : (j : ℕ) → j < 64 → from ≤ place * 64 + j → HaveNoWord table flags from (place * 64) → ((i : ℕ) → i < j → from ≤ place * 64 + i → without_flags flags (get_or block i 0) ≡ 0)
-      → without_flags flags (get_or block j 0) ≢ 0 → IsNextWithWord table flags from (Some (place * 64 + j))
+  pub next-found : (j w : ℕ) → j < 64 → get_or block j 0 ≡ w → from ≤ place * 64 + j → HaveNoWord table flags from (place * 64) → ((i : ℕ) → i < j → from ≤ place * 64 + i → without_flags flags (get_or block i 0) ≡ 0)
+      → without_flags flags w ≢ 0 → IsNextWithWord table flags from (Some (place * 64 + j, w))
   unfolding IsNextWithWord code_points
-  next-found j below on none here some = (on, omega arith, λ zero. some (ap (without_flags flags) (sym (word_in_place j below)) ∙ zero), HaveNoWord-to j _ (omega arith) refl none here)
+  next-found j w below word on none here some = (on, omega arith, word_in_place j below ∙ word, some, HaveNoWord-to j _ (omega arith) refl none here)

@@ -1,5 +1,5 @@
 -- The next number with a word, by the table.
-use Rattle.std.proofs.Common.{◌≡◌, ℕ, ◌≤◌, true, Some, None, eq-eqb, ne_eqb, arith}
+use Rattle.std.proofs.Common.{◌≡◌, ℕ, ◌≤◌, true, Some, None, eq-eqb, ne_eqb, arith, subst, sym, false}
 use Rattle.normalizer_tables.specs.Characters.{Characters, word_of}
 use Rattle.normalizer_tables.specs.Table.{IsNextWithWord, HaveNoWord, code_points, without_flags}
 use Rattle.normalizer_tables.specs.Characters.{IsNextWord}
@@ -10,14 +10,17 @@ unfolding is_plain without_flags
 is_plain-true w h = eq-eqb _ _ h
 
 module _ (s : Characters) (from : ℕ) where
-  pub IsNextWord-some : (n : ℕ) → IsNextWithWord s.decompositions.table 0xC0000000 from (Some n) → IsNextWord s from n
+  pub IsNextWord-some : (n w : ℕ) → IsNextWithWord s.decompositions.table 0xC0000000 from (Some (n, w)) → IsNextWord s from n × (w ≡ word_of s n)
   unfolding IsNextWithWord HaveNoWord word_of is_plain without_flags
-  IsNextWord-some n next = record {
-    least = next.0;
-    within = omega (arith, next.1);
-    between = λ m low high. is_plain-true (word_of s m) (next.3 m low high);
-    found = λ below. ne_eqb _ _ next.2;
-  }
+  IsNextWord-some n w next = (
+    record {
+      least = next.0;
+      within = omega (arith, next.1);
+      between = λ m low high. is_plain-true (word_of s m) (next.4 m low high);
+      found = λ below. subst (λ v. is_plain v ≡ false) (sym next.2) (ne_eqb _ _ next.3);
+    },
+    sym next.2,
+  )
 
   pub IsNextWord-none : from ≤ code_points → IsNextWithWord s.decompositions.table 0xC0000000 from None → IsNextWord s from code_points
   unfolding IsNextWithWord HaveNoWord word_of

@@ -10,6 +10,10 @@ use Rattle.normalizer_tables.specs.Hangul.{is_hangul_syllable, hangul_decomposit
 use Rattle.normalizer_tables.specs.Pairs.{is_vowel_or_trailing_jamo}
 use Rattle.normalizer_tables.specs.HangulComposition.{is_leading_consonant, is_vowel, is_trailing_consonant, is_lv_syllable, lv_syllable, compose_hangul}
 
+-- a number below the surrogates is that of a character
+pub below_surrogates : (n : ℕ) → n < 0xD800 → IsScalar n
+below_surrogates n low = low_scalar n low
+
 -- the result of `from_u32` for a number below the surrogates
 pub low_character : (r : Option ℕ) (n : ℕ) → SomeIff r (IsScalar n) n → n < 0xD800 → r ≡ Some n
 low_character None n h low = absurd (h (low_scalar n low))

@@ -8,7 +8,7 @@ use crate::table::CodePointTable;
 pub fn equal_tables_agree(table: &CodePointTable, other: &CodePointTable) -> bool
     ensures { IsTrue result ↔ ((n : ℕ) → word_at table.now n ≡ word_at other.now n) }
 {
-    let _ = table.get32(0);
-    let _ = other.get32(0);
+    table.has_all_words();
+    other.has_all_words();
     table == other
 }

@@ -13,7 +13,7 @@ pub with_passing-requires-clause-some : goal.with_passing-requires-clause-some
 with_passing-requires-clause-some g c = omega (arith, c.len.ensures)
 
 pub with_passing-requires-clause-step : goal.with_passing-requires-clause-step
-with_passing-requires-clause-step g c = c.step_at-step.ensures
+with_passing-requires-clause-step g c = c.step_ahead-step.ensures
 
 pub with_passing-requires-clause-fits : goal.with_passing-requires-clause-fits
 with_passing-requires-clause-fits g c = omega (arith, c.len.ensures)
@@ -26,7 +26,7 @@ loop-run-preserved g c = c.with_low-run.ensures.0
 
 pub loop-run-smaller : goal.loop-run-smaller
 loop-run-smaller g c =
-    omega (arith, c.len.ensures, c.with_low-run.ensures.1, c.in-Ok.ensures.1, step-some g.U.Units.encoding (g.U.Units.units c.args.units) c.loop-run.run.end c.step_at-step.result (omega (arith, c.len.ensures)) c.step_at-step.ensures)
+    omega (arith, c.len.ensures, c.with_low-run.ensures.1, c.in-Ok.ensures.1, step-some g.U.Units.encoding (g.U.Units.units c.args.units) c.loop-run.run.end c.step_ahead-step.result (omega (arith, c.len.ensures)) c.step_ahead-step.ensures)
 
 pub returns-clause-next : goal.returns-clause-next
 returns-clause-next g c =

@@ -25,18 +25,18 @@ pub loop-from-preserved : goal.loop-from-preserved
 unfolding code_points
 loop-from-preserved c =
     let front = c.first_failing_before-failing.ensures in
-    let next = subst (λ d. IsNextWord d.characters c.loop-from.from c.next_with_word-number.result) c.data.view_is c.next_with_word-number.ensures in
+    let next = subst (λ d. IsNextWord d.characters c.loop-from.from c.next_with_word-number.result.0) c.data.view_is c.next_with_word-number.ensures.next in
     record {
       within = c.end_of_equal_words-from.ensures.within next.within;
       first =
-          FailsFirst-step c.args.data.now c.args.conditions.now c.loop-from.from c.next_with_word-number.result c.end_of_equal_words-from.result c.loop-from.failing
+          FailsFirst-step c.args.data.now c.args.conditions.now c.loop-from.from c.next_with_word-number.result.0 c.end_of_equal_words-from.result c.loop-from.failing
           (c.first_asked_of_words-asked.result + c.first_failing_at.result)
           c.loop-from.invariant.first
           (of_each-answered c.args.data.now c.asks_hangul-hangul_is_sound.result
           (λ asked. has_sound_hangul c.args.data.now c.args.conditions.now c.first_failing_before-failing.result front (c.asks_hangul-hangul_is_sound.ensures.0 asked)) c.loop-from.from
-          c.next_with_word-number.result c.end_of_equal_words-from.result next c.end_of_equal_words-from.ensures)
+          c.next_with_word-number.result.0 c.end_of_equal_words-from.result next c.end_of_equal_words-from.ensures)
           (FirstFailing-asked _ c.args.conditions.now c.first_asked_of_words-asked.result c.loop-from.failing c.first_failing_at.result (omega arith) c.loop-from.invariant.first.within
-          (λ k none is. of_each-unasked c.args.data.now k none c.next_with_word-number.result) c.first_asked_of_words-asked.ensures c.first_failing_at.ensures);
+          (λ k none is. of_each-unasked c.args.data.now k none c.next_with_word-number.result.0) c.first_asked_of_words-asked.ensures c.first_failing_at.ensures);
     }
 
 pub returns : goal.returns

@@ -1,4 +1,4 @@
-use Rattle.std.proofs.Common.{[], get_or, arith, rules}
+use Rattle.std.proofs.Common.{[], get_or, arith, refl, rules}
 use Rattle.std.proofs.lemmas.List.{get_or_read}
 use Rattle.normalizer_tables.specs.Table.{HaveNoWord, IsNextWithWord, code_points, without_flags}
 use Rattle.normalizer_tables.proofs.code_points.BlockLemmas.{block_at-number, block_at-looked_up, length-numbers, stored_number-within}
@@ -25,12 +25,12 @@ loop-place-preserved-then-eq c =
       passed = c.loop-place.invariant.passed;
     }
 
-pub returns-then-block-offset-ne0 : goal.returns-then-block-offset-ne0
+pub returns-then-word-flags-ne0 : goal.returns-then-word-flags-ne0
 unfolding without_flags
-returns-then-block-offset-ne0 c = λ above.
+returns-then-word-flags-ne0 c = λ above.
     let is = block_at-looked_up _ _ _ c.self.invariant _ _ c.loop-place-test.true c.index-number.ensures _ c.index-block.ensures in
-    next-found _ _ _ c.self.view_is _ _ _ c.loop-place-test.true _ is above _ c.loop-offset-test.true (omega arith) (c.loop-place.invariant.none above) c.loop-offset.invariant
-    c.if-block-offset-ne0.true
+    next-found _ _ _ c.self.view_is _ _ _ c.loop-place-test.true _ is above _ _ c.loop-offset-test.true refl (omega arith) (c.loop-place.invariant.none above) c.loop-offset.invariant
+    c.if-word-flags-ne0.true
 
 pub loop-place-preserved : goal.loop-place-preserved
 loop-place-preserved c =

@@ -6,5 +6,5 @@ use Rattle.normalizer_tables.proofs.laws.tables.equal_tables_agree.Goals as goal
 pub returns : goal.returns
 returns c = (
   λ equal n. ap (λ t. word_at t n) ((same_table-decides c.args.table.now c.args.other.now).0 (sym c.eq.ensures ∙ equal)),
-  λ agree. c.eq.ensures ∙ (same_table-decides c.args.table.now c.args.other.now).1 (same_from_word_at _ _ c.get32.ensures.complete c.get32-2.ensures.complete agree),
+  λ agree. c.eq.ensures ∙ (same_table-decides c.args.table.now c.args.other.now).1 (same_from_word_at _ _ c.has_all_words.ensures c.has_all_words-2.ensures agree),
 )
