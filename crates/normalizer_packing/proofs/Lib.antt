@@ -4,3 +4,4 @@ pub mod lists
 pub mod constant_words
 pub mod reading_back
 pub mod beside
+pub mod spellings

@@ -2,5 +2,6 @@
 pub mod Beside
 pub mod Kinds
 pub mod PackedWords
+pub mod Spelled
 pub mod Stores
 pub mod Breakpoints

@@ -28,8 +28,9 @@ fn may_pass(words: &PackedWords<'_, '_>, number: u16) -> bool
     ensures { IsTrue result ↔
         MayPass words.now.replaced.now words.now.kind words.now.entries.now words.now.compositions.now number }
 {
+    let entries = words.entries.by_character();
     !is_in(words.replaced, number as u32)
-        && is_below_cap(words.entries, words.compositions, words.kind, number)
+        && is_below_cap(entries, words.compositions, words.kind, number)
 }
 
 /// Whether a composing loop may pass a number so, by the entries.

@@ -10,6 +10,7 @@ pub mod laws;
 mod packed_words;
 mod packing;
 mod pointing;
+mod spelled;
 mod spelling;
 mod step_words;
 mod store;

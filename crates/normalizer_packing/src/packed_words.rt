@@ -9,10 +9,11 @@ ghost use Rattle.normalizer_packing.specs.Packing.{IsPackedWord};
 ghost use Rattle.normalizer_packing.specs.Stored.{is_among, item_of, listed_in};
 
 use crate::disallowed::is_in;
-use crate::entries::{Entries, have_one_list, list_of};
+use crate::entries::{have_one_list, list_of};
 use crate::flags::flagged;
 use crate::pointing::pointing_word;
-use crate::spelling::{Spelling, final_word, spell};
+use crate::spelled::SpelledEntries;
+use crate::spelling::{Spelling, final_word};
 use crate::stores::Stores;
 use crate::table_words::Words;
 use normalizer_tables::entry::Kind;
@@ -23,7 +24,7 @@ use normalizer_tables::{CanonicalCompositions, CodePointTable};
 #[derive(Clone, Copy)]
 pub struct PackedWords<'a, 'e> {
     /// The entries of all characters.
-    pub entries: &'a Entries<'e>,
+    pub entries: &'a SpelledEntries<'e>,
     /// The pairs.
     pub compositions: &'a CanonicalCompositions,
     /// The lists in tables.
@@ -63,7 +64,7 @@ impl Words for PackedWords<'_, '_> {
 impl<'a, 'e> PackedWords<'a, 'e> {
     /// What the words of canonical data are made of.
     pub fn new(
-        entries: &'a Entries<'e>,
+        entries: &'a SpelledEntries<'e>,
         compositions: &'a CanonicalCompositions,
         stores: &'a Stores<'e>,
     ) -> Self
@@ -109,7 +110,7 @@ impl PackedWords<'_, '_> {
         match final_word(character as u32) {
             Some(word) => word,
             None => flagged(
-                self.entries,
+                self.entries.by_character(),
                 self.compositions,
                 character,
                 &['\u{FFFD}'],
@@ -123,8 +124,9 @@ impl PackedWords<'_, '_> {
         requires other { ArePacked self.now.entries.now self.now.compositions.now self.now.other }
         ensures { IsPackedWord self.now.kind self.now.entries.now self.now.compositions.now character result }
     {
+        let entries = self.entries.by_character();
         match self.other {
-            Some(other) if have_one_list(self.entries, self.kind, other.kind, character) => {
+            Some(other) if have_one_list(entries, self.kind, other.kind, character) => {
                 other.table.get(character)
             }
             _ => self.word_by_list(character),
@@ -136,17 +138,15 @@ impl PackedWords<'_, '_> {
         requires { CanPoint self.now.entries.now self.now.stores.now }
         ensures { IsPackedWord self.now.kind self.now.entries.now self.now.compositions.now character result }
     {
+        let entries = self.entries.by_character();
         let alone = [character];
-        let list = list_of(self.entries, self.kind, character, &alone);
-        let kept = list.unwrap_or(&[]);
-        match spell(self.entries, character, list) {
+        let list = list_of(entries, self.kind, character, &alone).unwrap_or(&[]);
+        match self.entries.spelling(self.kind, character) {
             Spelling::Final(word) => word,
-            Spelling::Short(word) => {
-                flagged(self.entries, self.compositions, character, kept, word)
-            }
+            Spelling::Short(word) => flagged(entries, self.compositions, character, list, word),
             Spelling::Listed => {
-                let word = pointing_word(self.entries, kept, self.item_of(kept));
-                flagged(self.entries, self.compositions, character, kept, word)
+                let word = pointing_word(entries, list, self.item_of(list));
+                flagged(entries, self.compositions, character, list, word)
             }
         }
     }

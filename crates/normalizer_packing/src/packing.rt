@@ -6,22 +6,19 @@ ghost use Rattle.normalizer_packing.specs.inner.Beside.{HasEnds, PacksKindBeside
 ghost use Rattle.normalizer_packing.specs.inner.Kinds.{PackKinds};
 ghost use Rattle.normalizer_packing.specs.inner.PackedWords.{ArePacked, CanPoint};
 ghost use Rattle.normalizer_packing.specs.Packing.{ArePackable};
-ghost use Rattle.normalizer_packing.specs.StepWords.{PacksSteps};
 ghost use Rattle.normalizer_packing.specs.Stored.{needed_items};
 ghost use Rattle.normalizer_packing.specs.inner.Breakpoints.{AreBreakpoints};
 
 use crate::Packed;
 use crate::breakpoints::breakpoints_of;
 use crate::cap::cap_of;
-use crate::entries::Entries;
 use crate::packed_words::PackedWords;
+use crate::spelled::SpelledEntries;
 use crate::step_words::supplement_of;
 use crate::stores::{PackError, Stores, stores_of};
 use crate::table_words::table_of;
 use normalizer_tables::entry::{Entry, Kind};
-use normalizer_tables::{
-    CanonicalCompositions, DecompositionData, NonRecursiveDecompositionSupplement, TableError,
-};
+use normalizer_tables::{CanonicalCompositions, DecompositionData, TableError};
 use std::alloc::{AllocError, Global};
 
 /// Packs the entries of characters, and pairs of characters that compose (second, first and result), into data. Beside
@@ -42,7 +39,7 @@ pub fn pack(
     ensures packed { IfOk result (PacksBeside disallowed.now entries.now pairs.items) }
     ensures full { IsErrOf result PackError.TableFull → item_limit < needed_items entries.now }
 {
-    match Entries::new(alloc, entries) {
+    match SpelledEntries::new(alloc, entries) {
         Ok(entries) => pack_entries(alloc, entries, disallowed, pairs),
         Err(_) => Err(PackError::Memory),
     }
@@ -50,7 +47,7 @@ pub fn pack(
 
 fn pack_entries(
     alloc: Global,
-    entries: Entries<'_>,
+    entries: SpelledEntries<'_>,
     disallowed: &[(char, char)],
     pairs: Vec<(char, char, char)>,
 ) -> Result<Packed, PackError>
@@ -65,7 +62,7 @@ fn pack_entries(
 /// The data whose lists are in these stores.
 fn packed_with<'e>(
     alloc: Global,
-    entries: Entries<'e>,
+    entries: SpelledEntries<'e>,
     disallowed: &[(char, char)],
     pairs: Vec<(char, char, char)>,
     stores: Stores<'e>,
@@ -73,50 +70,55 @@ fn packed_with<'e>(
     requires { CanPoint entries stores }
     ensures packed { IfOk result (PacksReplaced disallowed.now entries.entry pairs.items) }
 {
-    let (kinds, compositions, supplement) = parts_of(alloc, &entries, disallowed, pairs, &stores)?;
+    let breakpoints = breakpoints_of(alloc, entries.by_character().as_slice(), &pairs, disallowed)?;
+    let (kinds, compositions) = parts_of(
+        alloc,
+        &entries,
+        disallowed,
+        pairs,
+        &stores,
+        &breakpoints,
+    )?;
+    // (the places of the lists are freed before the supplement is made)
+    let tables = stores.canonical.into_tables();
+    let supplementary_tables = stores.supplementary.into_tables();
+    let supplement = supplement_of(alloc, &entries, &breakpoints)?;
     Ok(Packed {
         canonical: kinds.canonical,
         compatibility: kinds.compatibility,
         mapper: kinds.mapper,
-        tables: stores.canonical.into_tables(),
-        supplementary_tables: stores.supplementary.into_tables(),
+        tables,
+        supplementary_tables,
         compositions,
         supplement,
     })
 }
 
-/// All of these data but the tables of lists: those of each kind, the pairs, and the supplement.
+/// The data of each kind, and the pairs.
 fn parts_of<'e>(
     alloc: Global,
-    entries: &Entries<'e>,
+    entries: &SpelledEntries<'e>,
     disallowed: &[(char, char)],
     pairs: Vec<(char, char, char)>,
     stores: &Stores<'e>,
-) -> Result<
-    (
-        Kinds,
-        CanonicalCompositions,
-        NonRecursiveDecompositionSupplement,
-    ),
-    AllocError,
->
-    requires { CanPoint entries.now stores.now }
+    breakpoints: &[char],
+) -> Result<(Kinds, CanonicalCompositions), AllocError>
+    requires stored { CanPoint entries.now stores.now }
+    requires breakpoints { AreBreakpoints entries.now pairs.items breakpoints.now }
+    requires ends { HasEnds disallowed.now breakpoints.now }
     ensures kinds { IfOk result (λ parts. PackKinds disallowed.now entries.now pairs.items parts.0) }
     ensures pairs { IfOk result (λ parts. parts.1 ≡ pairs.items) }
-    ensures steps { IfOk result (λ parts. PacksSteps entries.now parts.2) }
 {
-    let breakpoints = breakpoints_of(alloc, entries.as_slice(), &pairs, disallowed)?;
     let compositions = compositions_of(pairs)?;
     let kinds = kinds_of(
         alloc,
-        &*entries,
-        &*disallowed,
+        entries,
+        disallowed,
         &compositions,
-        &*stores,
-        &breakpoints,
+        stores,
+        breakpoints,
     )?;
-    let supplement = supplement_of(alloc, entries, &breakpoints)?;
-    Ok((kinds, compositions, supplement))
+    Ok((kinds, compositions))
 }
 
 /// The data of each kind.
@@ -129,7 +131,7 @@ struct Kinds {
 
 fn kinds_of<'a, 'e>(
     alloc: Global,
-    entries: &'a Entries<'e>,
+    entries: &'a SpelledEntries<'e>,
     disallowed: &'a [(char, char)],
     compositions: &'a CanonicalCompositions,
     stores: &'a Stores<'e>,

@@ -2,8 +2,9 @@
 #![tactic(auto, using(crate::proofs::words_of_lists::StoredSteps::no_step, crate::proofs::words_of_lists::StoredSteps::step_among), unfolding(crate::specs::StepWords::asked_step, crate::specs::StepWords::asks_supplement, crate::specs::StepWords::are_narrow, crate::specs::StepWords::stored_step, crate::specs::StepWords::stored_steps, crate::specs::Stored::first_come, crate::specs::StepWords::step_in, crate::specs::StepWords::word_of_step, crate::specs::StepWords::step_lists))]
 
 ghost use Rattle.std.specs.Prelude.{◌≡◌, true, false, [], ◌∷◌, List, Some, IfOk};
-ghost use Rattle.normalizer_tables.specs.Entries.{class_in, entry_of};
+ghost use Rattle.normalizer_tables.specs.Entries.{EntryValue, class_in};
 ghost use Rattle.normalizer_tables.specs.Pairs.{Pair};
+ghost use Rattle.normalizer_packing.specs.Spelling.{spelling};
 ghost use Rattle.normalizer_packing.specs.Stored.{first_come, is_among, place_of};
 ghost use Rattle.normalizer_packing.specs.inner.Stores.{Holds};
 ghost use Rattle.normalizer_packing.specs.StepWords.{are_narrow, asked_step, asks_supplement, step_in, step_lists};
@@ -11,31 +12,27 @@ ghost use Rattle.normalizer_packing.specs.StepWords.{stored_step, stored_steps, 
 ghost use Rattle.normalizer_packing.specs.StepWords.{PacksSteps};
 ghost use Rattle.normalizer_packing.specs.inner.Breakpoints.{AreBreakpoints};
 
-use crate::entries::Entries;
-use crate::spelling::{Spelling, spell};
+use crate::spelled::SpelledEntries;
+use crate::spelling::Spelling;
 use crate::store::Store;
 use crate::table_words::{Words, table_of};
 use normalizer_tables::NonRecursiveDecompositionSupplement;
-use normalizer_tables::entry::Entry;
+use normalizer_tables::entry::{Entry, Kind};
 use normalizer_tables::step::Step;
 use normalizer_tables::word::is_class_form;
 use std::alloc::{AllocError, Global};
 
-/// The step of a character that needs the supplement.
-fn asked_step(entries: &Entries<'_>, entry: &Entry) -> Step
-    ensures { result ≡ asked_step entries.now entry.now }
+/// The step of a character that needs the supplement, if its canonical list is so spelled.
+fn asked_step(entry: &Entry, spelled: Spelling) -> Step
+    ensures { (entries : List EntryValue) →
+        spelled ≡ spelling (class_in entries) entry.now.character (Some entry.now.canonical) →
+        result ≡ asked_step entries entry.now }
 {
-    let list = entry.canonical();
-    let is_greek = list.len() == 2
-        && '\u{1F71}' <= entry.character
-        && entry.character <= '\u{1FFB}';
-    let is_long = 2 < list.len() && entry.character != '\u{212B}';
-    if !is_greek && !is_long {
-        return Step::Default;
-    }
-    match spell(entries, entry.character, Some(list)) {
-        Spelling::Short(word) if is_greek && !is_class_form(word) => entry.mapping,
-        Spelling::Listed if is_long => entry.mapping,
+    let length = entry.canonical().len();
+    let is_greek = '\u{1F71}' <= entry.character && entry.character <= '\u{1FFB}';
+    match spelled {
+        Spelling::Short(word) if length == 2 && is_greek && !is_class_form(word) => entry.mapping,
+        Spelling::Listed if 2 < length && entry.character != '\u{212B}' => entry.mapping,
         _ => Step::Default,
     }
 }
@@ -58,12 +55,14 @@ fn stored_step(step: Step) -> Option<[char; 2]>
 }
 
 /// The steps that only the table can hold.
-fn stored_steps(alloc: Global, entries: &Entries<'_>) -> Result<Vec<[char; 2]>, AllocError>
+fn stored_steps(alloc: Global, entries: &SpelledEntries<'_>) -> Result<Vec<[char; 2]>, AllocError>
     ensures { IfOk result (λ v. v.items ≡ stored_steps entries.now) }
 {
     let mut steps = Vec::new(alloc);
-    for entry in entries.as_slice() {
-        if let Some(step) = stored_step(asked_step(entries, entry)) {
+    for place in 0..entries.len() {
+        let (entry, spellings) = entries.at(place);
+        let step = asked_step(entry, spellings.of(Kind::Canonical));
+        if let Some(step) = stored_step(step) {
             steps.push(step)?;
         }
     }
@@ -90,7 +89,7 @@ const LAST_PLACE: usize = STEP_LIMIT - 2;
 /// What the words of the supplement are made of.
 #[derive(Drop)]
 struct StepWords<'a, 'e, 's> {
-    entries: &'a Entries<'e>,
+    entries: &'a SpelledEntries<'e>,
     store: Store<'s>,
 }
 
@@ -113,8 +112,8 @@ impl StepWords<'_, '_, '_> {
     fn step_of(&self, character: char) -> Step
         ensures { result ≡ step_in self.now.entries.now character }
     {
-        match self.entries.get(character) {
-            Some(entry) => asked_step(self.entries, entry),
+        match self.entries.by_character().get(character) {
+            Some(entry) => asked_step(entry, self.entries.spelling(Kind::Canonical, character)),
             None => Step::Default,
         }
     }
@@ -152,7 +151,7 @@ impl StepWords<'_, '_, '_> {
 /// [`AllocError`] if an allocation failed.
 pub fn supplement_of(
     alloc: Global,
-    entries: &Entries<'_>,
+    entries: &SpelledEntries<'_>,
     breakpoints: &[char],
 ) -> Result<NonRecursiveDecompositionSupplement, AllocError>
     requires { (pairs : List Pair) × AreBreakpoints entries.now pairs breakpoints.now }

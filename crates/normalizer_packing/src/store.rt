@@ -1,16 +1,16 @@
 //! Tables of the lists that no word spells.
 #![tactic(auto, using(crate::proofs::lists::ListPlaces::place_within, crate::proofs::lists::StoreLemmas::narrow_member), unfolding(crate::specs::inner::Stores::stored_place, crate::specs::Stored::items_of, crate::specs::Stored::is_among, crate::specs::Stored::item_at, crate::specs::Stored::is_narrow, crate::specs::Stored::listed_of))]
 
-ghost use Rattle.std.specs.Prelude.{◌≡◌, ◌++◌, nat_le, [], ◌∷◌, true, OnOk, IfOk, length, option_copied};
+ghost use Rattle.std.specs.Prelude.{◌≡◌, ℕ, ◌++◌, nat_le, [], ◌∷◌, true, OnOk, IfOk, length, option_copied};
 ghost use Rattle.std.specs.List.{list_all};
 ghost use Rattle.normalizer_tables.specs.conditions.Conditions.{item_count};
-ghost use Rattle.normalizer_tables.specs.Entries.{class_in};
 ghost use Rattle.normalizer_packing.specs.Stored.{is_narrow, item_at, listed_in, listed_of};
+ghost use Rattle.normalizer_packing.specs.inner.Spelled.{spellings_of};
 ghost use Rattle.normalizer_packing.specs.inner.Stores.{stored_place, tables_in, Holds, HoldsLists, HoldsMore};
 ghost use Rattle.normalizer_packing.specs.inner.Stores.{StandsAt};
 
-use crate::entries::Entries;
-use crate::spelling::{Spelling, spell};
+use crate::spelled::{SpelledEntries, Spellings};
+use crate::spelling::Spelling;
 use normalizer_tables::DecompositionTables;
 use normalizer_tables::entry::{Entry, Kind};
 use std::alloc::{AllocError, Global};
@@ -139,12 +139,12 @@ fn append_wide(scalars: &mut Vec<char>, list: &[char]) -> Result<usize, AllocErr
 }
 
 /// The list of an entry, if its word doesn't spell it.
-pub fn listed_of<'a>(entries: &Entries<'_>, kind: Kind, entry: &'a Entry) -> Option<&'a [char]>
-    ensures { option_copied result ≡ listed_of (class_in entries.now) kind entry.now }
+fn listed_of<'a>(kind: Kind, entry: &'a Entry, spellings: Spellings) -> Option<&'a [char]>
+    ensures { (class : ℕ → ℕ) → spellings ≡ spellings_of class entry.now →
+        option_copied result ≡ listed_of class kind entry.now }
 {
-    let list = entry.list(kind);
-    match spell(entries, entry.character, list) {
-        Spelling::Listed => list,
+    match spellings.of(kind) {
+        Spelling::Listed => entry.list(kind),
         _ => None,
     }
 }
@@ -154,15 +154,16 @@ pub fn listed_of<'a>(entries: &Entries<'_>, kind: Kind, entry: &'a Entry) -> Opt
 /// # Errors
 /// [`AllocError`] if an allocation failed.
 pub fn put_lists<'a>(
-    entries: &Entries<'a>,
+    entries: &SpelledEntries<'a>,
     kind: Kind,
     before: &Store<'_>,
     store: &mut Store<'a>,
 ) -> Result<(), AllocError>
     ensures { OnOk result (HoldsLists before.now store.old (listed_in entries.now kind) store.new) }
 {
-    for entry in entries.as_slice() {
-        if let Some(list) = listed_of(entries, kind, entry) {
+    for place in 0..entries.len() {
+        let (entry, spellings) = entries.at(place);
+        if let Some(list) = listed_of(kind, entry, spellings) {
             if before.place_of(list).is_none() {
                 store.put(list)?;
             }

@@ -4,7 +4,7 @@ ghost use Rattle.normalizer_tables.specs.conditions.Conditions.{item_count, item
 ghost use Rattle.normalizer_packing.specs.Stored.{needed_items};
 ghost use Rattle.normalizer_packing.specs.inner.Stores.{tables_in, AreStored};
 
-use crate::entries::Entries;
+use crate::spelled::SpelledEntries;
 use crate::store::{Store, put_lists};
 use normalizer_tables::condition::ITEM_LIMIT;
 use normalizer_tables::entry::Kind;
@@ -36,7 +36,7 @@ pub struct Stores<'a> {
 /// # Errors
 /// `TableFull` if the lists have more items than the limit, `Memory` if an allocation failed.
 #[tactic(auto, using(crate::proofs::lists::StoreLemmas::needed_items_stored))]
-pub fn stores_of<'a>(alloc: Global, entries: &Entries<'a>) -> Result<Stores<'a>, PackError>
+pub fn stores_of<'a>(alloc: Global, entries: &SpelledEntries<'a>) -> Result<Stores<'a>, PackError>
     ensures stored { IfOk result (λ s. AreStored entries.now s.canonical s.supplementary) }
     ensures within { OnOk result (needed_items entries.now ≤ item_limit) }
     ensures full { IsErrOf result PackError.TableFull → item_limit < needed_items entries.now }
@@ -48,7 +48,7 @@ pub fn stores_of<'a>(alloc: Global, entries: &Entries<'a>) -> Result<Stores<'a>,
     }
 }
 
-fn filled<'a>(alloc: Global, entries: &Entries<'a>) -> Result<Stores<'a>, AllocError>
+fn filled<'a>(alloc: Global, entries: &SpelledEntries<'a>) -> Result<Stores<'a>, AllocError>
     ensures { IfOk result (λ s. AreStored entries.now s.canonical s.supplementary) }
 {
     let nothing = Store::new(alloc);

@@ -6,6 +6,7 @@ pub mod HangulComposition
 pub mod Held
 pub mod Ignored
 pub mod MapperLists
+pub mod MapperSources
 pub mod Owned
 pub mod Pairs
 pub mod Passthrough

@@ -1,5 +1,5 @@
 //! Items that are sorted by character, looked up by the place of each.
-ghost use Rattle.std.specs.Prelude.{◌≡◌, ◌==◌, IfOk, find, map, option_copied};
+ghost use Rattle.std.specs.Prelude.{◌≡◌, ◌==◌, IfOk, find, map, option_copied, position};
 ghost use Rattle.normalizer_tables.specs.Places.{AreRisingBy, ArePlaces, place_in};
 
 use crate::blocks::Blocks;
@@ -56,22 +56,19 @@ impl<'a, T: HasCharacter> ByCharacter<'a, T> {
         self.items
     }
 
+    /// Returns the place of the item of a character, if it has one.
+    pub fn position(&self, c: char) -> Option<usize>
+        ensures { result ≡ position (λ x. T.character x == c) self.now }
+    {
+        place_in(&self.places, c)
+    }
+
     /// Returns the item of a character, if it has one.
     pub fn get(&self, c: char) -> Option<&'a T>
         ensures { option_copied result ≡ find (λ x. T.character x == c) self.now }
     {
-        item_by_place(self.items, &self.places, c)
-    }
-}
-
-/// The item of a character, if it has one, by the places of all.
-fn item_by_place<'a, T: HasCharacter>(items: &'a [T], places: &Blocks, c: char) -> Option<&'a T>
-    requires { ArePlaces (map T.character items.now) places.now }
-    ensures { option_copied result ≡ find (λ x. T.character x == c) items.now }
-{
-    match place_in(places, c) {
-        Some(place) => Some(&items[place]),
-        None => None,
+        let place = self.position(c)?;
+        self.items.get(place)
     }
 }
 

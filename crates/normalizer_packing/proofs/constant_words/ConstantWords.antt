@@ -20,7 +20,8 @@ use Rattle.normalizer_packing.specs.Packing.{HasFlags, IsPackedWord, IsSpelled}
 use Rattle.normalizer_packing.specs.Spelling.{final_word, spelling, spelling_by_list, spelling_or_ignored}
 use Rattle.normalizer_tables.specs.declared.step.Step.TheVariants.{Default}
 use Rattle.normalizer_packing.specs.StepWords.{step_in, step_lists, word_of_step}
-use Rattle.normalizer_packing.specs.inner.Breakpoints.{IsConstantBetween, AreBreakpoints, edges}
+use Rattle.normalizer_packing.specs.inner.Breakpoints.{IsConstantBetween, AreBreakpoints}
+use Rattle.normalizer_packing.specs.declared.breakpoints.TheConstants.{EDGES}
 use Rattle.normalizer_packing.proofs.entry_data.EntryLemmas.{Contains-map, find-missing, find-tells}
 use Rattle.normalizer_packing.proofs.reading_back.WordsReadBack.{no_fixed-alone}
 use Rattle.normalizer_packing.proofs.lists.TableLemmas.{eq_list}
@@ -47,15 +48,15 @@ plain None = Short 0
 pub record IsUnlisted (entries : List EntryValue) (pairs : List Pair) (n : ℕ) : Type 0 where
   pub entry : entry_of entries n ≡ None
   pub listed : (first : ℕ) → listed_result pairs first n ≡ None
-  pub apart : AllByRecursion (λ e. e ≢ n) edges
+  pub apart : AllByRecursion (λ e. e ≢ n) EDGES
 
 module _ (entries : List EntryValue) (pairs : List Pair) (breakpoints : List ℕ) (lists : AreBreakpoints entries pairs breakpoints) where
   pub IsUnlisted-missing : (n : ℕ) → (Contains breakpoints n → ⊥) → IsUnlisted entries pairs n
   unfolding entry_of
   IsUnlisted-missing n unlisted = record {
-    entry = find-missing {X = EntryValue} (λ e. e.character) entries n (λ k. unlisted (lists.all n (Contains-append_left _ edges n (Contains-append_left _ _ n k))));
-    listed = λ first. listed-missing pairs first n (λ k. unlisted (lists.all n (Contains-append_left _ edges n (Contains-append_right _ _ n k))));
-    apart = recursion_from_All (λ e. e ≢ n) edges (λ k d within same. unlisted (lists.all n (Contains-append_right _ edges n (k, within, get_or_default edges k n d within ∙ same))));
+    entry = find-missing {X = EntryValue} (λ e. e.character) entries n (λ k. unlisted (lists.all n (Contains-append_left _ EDGES n (Contains-append_left _ _ n k))));
+    listed = λ first. listed-missing pairs first n (λ k. unlisted (lists.all n (Contains-append_left _ EDGES n (Contains-append_right _ _ n k))));
+    apart = recursion_from_All (λ e. e ≢ n) EDGES (λ k d within same. unlisted (lists.all n (Contains-append_right _ EDGES n (k, within, get_or_default EDGES k n d within ∙ same))));
   }
 
 -- what composition of Hangul requires of a second

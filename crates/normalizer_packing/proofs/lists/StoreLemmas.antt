@@ -1,6 +1,6 @@
 -- What a store holds, list by list.
 use Rattle.std.proofs.Common.{◌≡◌, ℕ, ◌+◌, ◌<◌, ◌≤◌, Bool, true, false, List, [], ◌∷◌, ◌++◌, length, take, get_or, Some, None, cond, if◌then◌else◌, nat_le, refl, arith, ap}
-use Rattle.std.proofs.Common.{sym, subst, ◌∙◌}
+use Rattle.std.proofs.Common.{sym, ◌∙◌}
 use Rattle.std.specs.List.{filter_map}
 use Rattle.std.proofs.lemmas.Bool.{and_parts, leb-true}
 use Rattle.std.proofs.lemmas.List.{take_all}
@@ -9,7 +9,6 @@ use Rattle.normalizer_tables.specs.conditions.Conditions.{item_count}
 use Rattle.normalizer_tables.specs.Data.{Lists}
 use Rattle.normalizer_tables.specs.declared.entry.Kind.{Kind}
 use Rattle.normalizer_tables.specs.Entries.{EntryValue, class_in}
-use Rattle.normalizer_tables.proofs.lists.MadeLists.{filter_map-take_more}
 use Rattle.normalizer_packing.specs.Spelling.{list_eq}
 use Rattle.normalizer_packing.specs.Stored.{apart_from, canonical_lists, first_come, listed_in, listed_of, is_among, is_narrow, items_of, needed_items, place_of, supplementary_lists, tables_of}
 use Rattle.normalizer_packing.specs.inner.Stores.{AreStored, Holds, HoldsMore, stored_place, tables_in, with_list}
@@ -79,18 +78,9 @@ unfolding listed_so_far
 listed_so_far-none kind [] = refl
 listed_so_far-none kind (e ∷ entries) = refl
 
-module _ (kind : Kind) (entries items : List EntryValue) (i : ℕ) (same : items ≡ entries) where
-  pub listed_so_far-more : (e : EntryValue) → i < length items → e ≡ get_or items i e →
-      listed_so_far kind entries (i + 1) ≡ listed_so_far kind entries i ++ filter_map (listed_of (class_in entries) kind) (e ∷ [])
-  unfolding listed_so_far
-  listed_so_far-more e within is =
-      let f = listed_of (class_in entries) kind in
-      let inside : i < length entries = subst (λ (l : List EntryValue). i < length l) same within in
-      filter_map-take_more entries i e inside (is ∙ ap (λ l. get_or l i e) same) f
-
-  pub listed_so_far-all : length items ≤ i → listed_so_far kind entries i ≡ listed_in entries kind
-  unfolding listed_so_far listed_in
-  listed_so_far-all past = ap (filter_map (listed_of (class_in entries) kind)) (take_all i entries (subst (λ (l : List EntryValue). length l ≤ i) same past))
+pub listed_so_far-all : (kind : Kind) (entries : List EntryValue) (n : ℕ) → length entries ≤ n → listed_so_far kind entries n ≡ listed_in entries kind
+unfolding listed_so_far listed_in
+listed_so_far-all kind entries n past = ap (filter_map (listed_of (class_in entries) kind)) (take_all n entries past)
 
 -- the places of lists after one is put into the map of places
 pub place_updated : (old mid new : Store) (x : List ℕ) (n : ℕ) → mid.places ≡ old.places →

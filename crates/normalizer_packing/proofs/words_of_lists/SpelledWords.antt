@@ -105,8 +105,8 @@ surrogate_packs kind entries pairs n within out = final_packs kind entries pairs
 
 -- the same of a list that a look-up has lent
 pub listed_lent : (kind : Kind) (entries : List EntryValue) (n : ℕ) (o : Option (Bor (List ℕ))) (k d : Bor (List ℕ)) → k ≡ unwrap_or o d → d.now ≡ [] → option_copied o ≡ list_in kind entries n →
-    Listed ≡ spelling (class_in entries) n (option_copied o) → is_among k.now (listed_in entries kind) ≡ true
+    Listed ≡ spelling (class_in entries) n (list_in kind entries n) → is_among k.now (listed_in entries kind) ≡ true
 unfolding kept_list
 listed_lent kind entries n o k d is empty same spelled =
     let kept : k.now ≡ kept_list kind entries n = grind arith in
-    let among = listed_among kind entries n (rw same at (sym spelled)) in rw kept among
+    let among = listed_among kind entries n (sym spelled) in rw kept among

@@ -1,9 +1,10 @@
 -- Tables made of stretches of numbers that have one word. What private contracts say of them.
-use Rattle.std.specs.Prelude.{ℕ, ◌+◌, ◌<◌, ◌≤◌, List, [], ◌∷◌, ◌++◌, map, All, Contains}
+use Rattle.std.specs.Prelude.{ℕ, ◌+◌, ◌<◌, ◌≤◌, List, ◌++◌, map, All, Contains}
 use Rattle.std.specs.List.Sorted.{IsStrictlyIncreasing}
 use Rattle.normalizer_tables.specs.Pairs.{Pair}
 use Rattle.normalizer_tables.specs.Ranges.{IsRangeList, WordRange, word_in}
 use Rattle.normalizer_tables.specs.Entries.{EntryValue}
+use Rattle.normalizer_packing.specs.declared.breakpoints.TheConstants.{EDGES}
 
 -- ranges before `end`, one after another, with the word of each number there
 pub record CoverUpTo (is_word : ℕ → ℕ → Type 0) (rs : List WordRange) (end : ℕ) : Type 0 where
@@ -20,15 +21,9 @@ unfoldable pub IsConstantBetween : (ℕ → ℕ → Type 0) → List ℕ → Typ
 IsConstantBetween is_word breakpoints =
     (n w : ℕ) → ¬ Contains breakpoints n → ¬ Contains breakpoints (n + 1) → is_word n w → is_word (n + 1) w
 
--- the numbers at which the words of packed data may change whatever the entries say: the first composing vowel and
--- trailing consonant of Hangul, and the first characters after them and after their block; the first syllable and the
--- first character after the syllables; the last character before surrogates and the first after them; U+FFFD
-abbrev pub edges : List ℕ
-edges = 0x1161 ∷ 0x1176 ∷ 0x11A8 ∷ 0x11C3 ∷ 0x1200 ∷ 0xAC00 ∷ 0xD7A4 ∷ 0xD7FF ∷ 0xE000 ∷ 0xFFFD ∷ []
-
 -- the numbers of which entries, pairs, or the packing of numbers that no entry changes say something
 abbrev pub breakpoint_numbers : List EntryValue → List Pair → List ℕ
-breakpoint_numbers entries pairs = map (λ e. e.character) entries ++ map (λ p. p.0) pairs ++ edges
+breakpoint_numbers entries pairs = map (λ e. e.character) entries ++ map (λ p. p.0) pairs ++ EDGES
 
 -- they all, in their order
 pub record AreBreakpoints (entries : List EntryValue) (pairs : List Pair) (breakpoints : List ℕ) : Type 0 where

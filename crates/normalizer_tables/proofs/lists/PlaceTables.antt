@@ -1,13 +1,13 @@
 -- The places of characters in a list, by a word for each code point.
-use Rattle.std.proofs.Common.{◌≡◌, ◌≢◌, ℕ, ◌<◌, ◌≤◌, ◌+◌, ◌-◌, ◌==◌, true, false, List, [], ◌∷◌, AllPairs, length, get_or, map, find, cond, not, Some, None, refl, arith, ap, sym, ◌∙◌, inl, inr, zero, suc, zero-add, slice_index}
+use Rattle.std.proofs.Common.{◌≡◌, ◌≢◌, Bool, ℕ, ◌<◌, ◌≤◌, ◌+◌, ◌-◌, ◌==◌, true, false, List, [], ◌∷◌, AllPairs, length, get_or, map, find, cond, not, Some, None, Option, Bor, IsSome, IfSome, option_copied, refl, arith, ap, sym, ◌∙◌, inl, inr, zero, suc, zero-add, slice_index}
 use Rattle.std.proofs.lemmas.Bool.{cases_lt, eqb-true, lt-ltb, le-ltb}
 use Rattle.std.proofs.lemmas.Bool.Decides.{nat_tests}
 use Rattle.std.proofs.lemmas.List.{get_or-map, length-map}
 use Rattle.std.proofs.lemmas.List.Folds.{find_at}
 use Rattle.std.proofs.lemmas.List.FromFn.{get_or-map-range_with_len, length-map-range_with_len}
 use Rattle.std.proofs.lemmas.List.Sums.{fails_before_first, passes_at_first}
-use Rattle.std.proofs.lemmas.Option.{same_Some, slice_get_past}
-use Rattle.std.specs.List.{position_or_len, range_with_len, slice_get}
+use Rattle.std.proofs.lemmas.Option.{same_Some, slice_get_past, slice_get_read}
+use Rattle.std.specs.List.{position, position_or_len, range_with_len, slice_get}
 use Rattle.normalizer_tables.specs.Places.{place_word, place_in, ArePlaces}
 use Rattle.normalizer_tables.specs.Ranges.{WordRange, IsRangeList, word_in, words_of}
 use Rattle.normalizer_tables.specs.Table.{code_points}
@@ -111,30 +111,39 @@ position-map : {X : Type 0} (key : X → ℕ) (n : ℕ) (xs : List X) → positi
 position-map key n [] = refl
 position-map key n (x ∷ xs) = ap (λ m. cond (not (key x == n)) (1 + m) 0) (position-map key n xs)
 
--- what is found by a key is at the place that the words have
-module _ {X : Type 0} (key : X → ℕ) (xs : List X) (words : List ℕ) (s : ArePlaces (map key xs) words) (n : ℕ) (low : n < code_points) where
-  pub found_at_place : (k : ℕ) → place_in words n ≡ Some k → (k < length xs) × (find (λ x. key x == n) xs ≡ slice_get xs k)
-  unfolding ArePlaces
-  found_at_place k found =
-      let cs = map key xs in
-      let place = position_or_len (λ c. c == n) cs in
-      elim (cases_lt place (length cs)) [
-        | inl here ↦
-            let is = place_in-some words n place (s n low ∙ place_word-here cs n here) in
-            let same : place ≡ k = same_Some place k (sym is ∙ found) in
-            (omega (arith, length-map xs key), find_at (λ x. key x == n) xs ∙ ap (slice_get xs) (sym (position-map key n xs) ∙ same))
-        | inr past ↦ absurd (let none = place_in-none words n (s n low ∙ place_word-past cs n past) in cc)
-      ]
+-- the place of an item by its key is the one that the words have
+pub place_in-position : {X : Type 0} (key : X → ℕ) (xs : List X) (words : List ℕ) → ArePlaces (map key xs) words → (n : ℕ) → n < code_points →
+    place_in words n ≡ position (λ x. key x == n) xs
+unfolding ArePlaces
+place_in-position key xs words s n low =
+    let cs = map key xs in
+    let place = position_or_len (λ c. c == n) cs in
+    let same = position-map key n xs in
+    let long = length-map xs key in
+    elim (cases_lt place (length cs)) [
+      | inl here ↦ rw (sym same, sym long, lt-ltb place (length cs) here) (place_in-some words n place (s n low ∙ place_word-here cs n here))
+      | inr past ↦ rw (sym same, sym long, le-ltb place (length cs) past) (place_in-none words n (s n low ∙ place_word-past cs n past))
+    ]
 
-  pub missing_in_places : place_in words n ≡ None → find (λ x. key x == n) xs ≡ None
-  unfolding ArePlaces
-  missing_in_places none =
-      let cs = map key xs in
-      let place = position_or_len (λ c. c == n) cs in
-      elim (cases_lt place (length cs)) [
-        | inl here ↦ absurd (let is = place_in-some words n place (s n low ∙ place_word-here cs n here) in cc)
-        | inr past ↦ find_at (λ x. key x == n) xs ∙ slice_get_past xs (position_or_len (λ x. key x == n) xs) (omega (arith, length-map xs key, position-map key n xs))
-      ]
+-- the item at the place is the one that is found
+module _ {X : Type 0} (p : X → Bool) (xs : List X) where
+  pub find_at_position : (k : ℕ) → position p xs ≡ Some k → (k < length xs) × (find p xs ≡ slice_get xs k)
+  find_at_position k at = elim (cases_lt (position_or_len p xs) (length xs)) [
+    | inl here ↦
+        let same : position_or_len p xs ≡ k = same_Some _ k (rw (lt-ltb (position_or_len p xs) (length xs) here) at at) in
+        (omega (arith, same, here), find_at p xs ∙ ap (slice_get xs) same)
+    | inr past ↦ absurd (let none = rw (le-ltb (position_or_len p xs) (length xs) past) at at in cc)
+  ]
+
+  pub find_lent : (k : ℕ) → position p xs ≡ Some k → (o : Option (Bor X)) → (k < length xs → IsSome o) → IfSome o (λ x. x.now ≡ get_or xs k x.now) → option_copied o ≡ find p xs
+  find_lent k at None some read = let there = some (find_at_position k at).0 in cc
+  find_lent k at (Some x) some read = let there = find_at_position k at in sym (there.1 ∙ slice_get_read xs (length xs) k x.now refl there.0 read)
+
+  pub find_without_position : position p xs ≡ None → find p xs ≡ None
+  find_without_position none = elim (cases_lt (position_or_len p xs) (length xs)) [
+    | inl here ↦ absurd (let some = rw (lt-ltb (position_or_len p xs) (length xs) here) at none in cc)
+    | inr past ↦ find_at p xs ∙ slice_get_past xs (position_or_len p xs) past
+  ]
 
 -- the key of an item that was read
 pub key_read : {X : Type 0} (key : X → ℕ) (xs : List X) (i : ℕ) (x : X) → i < length xs → x ≡ get_or xs i x → get_or (map key xs) i 0 ≡ key x

@@ -1,18 +1,21 @@
-use Rattle.std.proofs.Common.{sym}
+use Rattle.std.proofs.Common.{ap, sym, ◌∙◌}
 use Rattle.std.proofs.lemmas.List.{append-nil}
+use Rattle.normalizer_tables.specs.Entries.{class_in}
+use Rattle.normalizer_tables.specs.declared.entry.Kind.TheVariants.{Canonical}
 use Rattle.normalizer_packing.specs.StepWords.{asked_step, stored_step}
-use Rattle.normalizer_tables.proofs.lists.MadeLists.{filter_map-take_more}
+use Rattle.normalizer_packing.specs.inner.Spelled.{spelled_in}
+use Rattle.normalizer_packing.proofs.spellings.KeptSpellings.{made_more, spelled_kind}
 use Rattle.normalizer_packing.proofs.step_words.stored_steps.Goals as goal
 use Rattle.normalizer_packing.proofs.step_words.stored_steps.Goals.{in-Some+in_ok-push, in_default}
 
-pub loop-entry-preserved : goal.loop-entry-preserved
-loop-entry-preserved c =
-    let same = c.as_slice-entry-items.ensures in
-    let within = rw same at c.loop-entry-test.true in
-    let is = rw same at c.entry-item.is in
-    let more = filter_map-take_more c.args.entries.now c.loop-entry.entry-index c.entry-item.result within is (λ e. stored_step (asked_step c.args.entries.now e)) in
-    let so_far = c.loop-entry.invariant in
+pub loop-place-preserved : goal.loop-place-preserved
+loop-place-preserved c =
+    let entries = c.args.entries.now in
+    let e = c.at.result.0.now in
+    let more = made_more entries c.loop-place.place e c.at.ensures.entry (λ f. stored_step (asked_step entries f)) in
+    let asked = c.asked_step-step.ensures entries (c.of.ensures ∙ ap (spelled_in Canonical) c.at.ensures.spellings ∙ spelled_kind (class_in entries) Canonical e) in
+    let so_far = c.loop-place.invariant in
     elim c.match-stored_step.branch [
-      | in-Some+in_ok-push w ↦ let pushed = w.in_ok-push.ensures.items in rw (w.steps-is, more, sym c.asked_step.ensures, sym w.in-Some.ensures) cc
-      | in_default w ↦ rw (w.steps-is, more, sym c.asked_step.ensures, sym w.in_default.ensures, append-nil) so_far
+      | in-Some+in_ok-push w ↦ let pushed = w.in_ok-push.ensures.items in rw (w.steps-is, more, sym asked, sym w.in-Some.ensures) cc
+      | in_default w ↦ rw (w.steps-is, more, sym asked, sym w.in_default.ensures, append-nil) so_far
     ]

@@ -1,0 +1,2 @@
+-- Spellings that are kept beside entries.
+pub mod KeptSpellings
