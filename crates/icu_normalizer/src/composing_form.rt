@@ -101,6 +101,9 @@ impl<'a> NormalizerBorrowed<ComposingForm<'a>> {
         ensures results { IfOk result (λ it.
             All (HasOrderedLists (data_of_composition it) (ignored_list Dropped)) (pairs_of_composition it)) }
     {
-        self.form.items(iter)
+        let form = &self.form;
+        let characters = form.characters.copied();
+        let dropped = IgnoredCharacters::Dropped;
+        composed(characters, dropped, form.pairs, form.bounds, iter)
     }
 }

@@ -62,6 +62,7 @@ impl<'a> NormalizerBorrowed<DecomposingForm<'a>> {
             (data_of_borrowed self.now) Dropped [] nfd iter result }
         ensures ready { IfOk result ⟦<Decomposition<'a, I> as Iterator>⟧.can_next }
     {
-        self.form.items(iter)
+        let characters = self.form.characters.copied();
+        decomposed(characters, IgnoredCharacters::Dropped, iter)
     }
 }

@@ -140,7 +140,7 @@ fn change_of<U: Expected, N: Forming>(
     ensures room { HasShortUnits (N.made_form normalizer.now) U.encoding (U.units units) → IsOk result }
     ensures refused { IsOkUnless result NormalizeError.Memory }
 {
-    let kept = kept_end(normalizer, units);
+    let kept = kept_end(normalizer, units, false);
     if kept.end == units.len() {
         return Ok(None);
     }

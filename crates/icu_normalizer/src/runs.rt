@@ -5,7 +5,7 @@ ghost use Rattle.normalizer_text.specs.Encodings.{first_in};
 ghost use Rattle.normalizer_text.specs.InputCut.{IsInputNormalized};
 ghost use Rattle.normalizer_text.specs.DecodingSteps.{IsBoundary};
 ghost use Rattle.icu_normalizer.specs.inner.PassthroughRuns.{next_class, IsBeforeLast, IsComposite, IsKeptTo, IsPart};
-ghost use Rattle.icu_normalizer.specs.inner.PassthroughRuns.{GoesOn, IsRunEnd, IsRunSoFar, IsSegmentEnd};
+ghost use Rattle.icu_normalizer.specs.inner.PassthroughRuns.{GoesOn, IsRun, IsRunEnd, IsRunSoFar, IsSegmentEnd};
 
 use crate::forming::Forming;
 use crate::kept::Unseen;
@@ -153,7 +153,8 @@ fn with_seen<U: Units, N: Forming>(
     requires some { run.end < length (U.units units) }
     requires step { step ≡ first_in U.encoding (drop run.end (U.units units)) }
     requires fits { length (U.units units) < 2 ^ 64 }
-    ensures { IfSome result (GoesOn (N.passthrough_class normalizer.now) U.encoding (U.units units) run) }
+    ensures passes { IfSome result (GoesOn (N.passthrough_class normalizer.now) U.encoding (U.units units) run) }
+    ensures end { IfSome result (λ longer. longer.end ≡ run.end + step.width) }
 {
     let Some(class) = seen_class(normalizer, run.last, step) else {
         return None;
@@ -286,6 +287,23 @@ fn first_run<U: Units, N: Forming>(normalizer: &N, units: U) -> RunSoFar
     }
 }
 
+/// The sum of a run in which letters and marks are expected to alternate.
+const ALTERNATING: u8 = 0;
+
+/// Returns the characters that the units begin with, looked up one by one.
+#[inline(always)]
+fn first_several<U: Units, N: Forming>(normalizer: &N, units: U) -> RunSoFar
+    ensures { IsRunSoFar (N.passthrough_class normalizer.now) U.encoding (U.units units) result }
+{
+    let none = RunSoFar {
+        marks: 0,
+        end: 0,
+        last: 0,
+        gaps: ALTERNATING,
+    };
+    with_several(normalizer, units, none)
+}
+
 /// Returns the run, which a step ends that doesn't pass.
 #[inline(always)]
 fn stopped(run: RunSoFar, step: Step, unseen: Unseen) -> Run
@@ -314,14 +332,22 @@ fn whole(run: RunSoFar) -> Run
     }
 }
 
-/// Returns the run of characters that are passed on as they are: marks as long as their classes don't fall.
+/// Returns the run of characters that are passed on as they are, of which a part is known: marks as long as their classes
+/// don't fall.
 #[inline(always)]
-fn run_end<U: Units, N: Forming>(normalizer: &N, units: U) -> Run
+fn run_end<U: Units, N: Forming>(normalizer: &N, units: U, known: RunSoFar) -> Run
+    requires { IsRunSoFar (N.passthrough_class normalizer.now) U.encoding (U.units units) known }
     ensures run { IsRunEnd (N.passthrough_class normalizer.now) U.encoding (U.units units) result.marks result.end }
     ensures next { MatchOption result.next (result.end ≡ length (U.units units))
         (λ next. next ≡ first_in U.encoding (drop result.end (U.units units))) }
 {
-    let mut run = first_run(normalizer, units);
+    // The parts are copied one by one, so that the loop keeps them in registers.
+    let mut run = RunSoFar {
+        marks: known.marks,
+        end: known.end,
+        last: known.last,
+        gaps: known.gaps,
+    };
     while run.end < units.len() {
         let step = units.step_at(run.end);
         match next_class(normalizer, run.last, step) {
@@ -332,27 +358,25 @@ fn run_end<U: Units, N: Forming>(normalizer: &N, units: U) -> Run
     whole(run)
 }
 
-/// Returns the run with the step after it, if that passes, or why it doesn't. A member of the set isn't looked up.
+/// Returns the run with the step after it, if that is a member of the set or seen to pass. A member isn't looked up.
 #[inline(always)]
-fn with_passing<U: Units, N: Forming>(
+fn with_member_or_seen<U: Units, N: Forming>(
     normalizer: &N,
     units: U,
     run: RunSoFar,
     step: Step,
-) -> Result<RunSoFar, Unseen>
+) -> Option<RunSoFar>
     requires run { IsRunSoFar (N.passthrough_class normalizer.now) U.encoding (U.units units) run }
     requires some { run.end < length (U.units units) }
     requires step { step ≡ first_in U.encoding (drop run.end (U.units units)) }
     requires fits { length (U.units units) < 2 ^ 64 }
-    ensures { MatchResult result (λ longer. IsRunSoFar (N.passthrough_class normalizer.now) U.encoding (U.units units)
-        longer × (longer.end ≡ run.end + step.width))
-        (λ _. next_class (N.passthrough_class normalizer.now) run.last step ≡ None) }
+    ensures passes { IfSome result (GoesOn (N.passthrough_class normalizer.now) U.encoding (U.units units) run) }
+    ensures end { IfSome result (λ longer. longer.end ≡ run.end + step.width) }
 {
     if normalizer.passing().contains(step.character) {
-        return Ok(with_step(run, step, 0));
+        return Some(with_step(run, step, 0));
     }
-    let class = next_class(normalizer, run.last, step)?;
-    Ok(with_step(run, step, class))
+    with_seen(normalizer, units, run, step)
 }
 
 /// Returns the step at a place. Sequences of two bytes are decoded apart, which takes fewer instructions.
@@ -367,18 +391,51 @@ fn step_ahead<U: Units>(units: U, place: usize) -> Step
     }
 }
 
-/// Returns the same run of a short text, after members of the set.
+/// Returns the run with characters after it that are looked at one by one. The parts of a run are copied one by one, so
+/// that the loop keeps them in registers.
 #[inline(always)]
-fn short_run_end<U: Units, N: Forming>(normalizer: &N, units: U) -> Run
+fn with_few<U: Units, N: Forming>(normalizer: &N, units: U, run: RunSoFar) -> RunSoFar
+    requires { IsRunSoFar (N.passthrough_class normalizer.now) U.encoding (U.units units) run }
+    ensures { GoesOn (N.passthrough_class normalizer.now) U.encoding (U.units units) run result }
+{
+    let (mut marks, mut end, mut last, gaps) = (run.marks, run.end, run.last, UNKNOWN);
+    while end < units.len() {
+        let step = step_ahead(units, end);
+        let known = RunSoFar {
+            marks,
+            end,
+            last,
+            gaps,
+        };
+        let Some(more) = with_member_or_seen(normalizer, units, known, step) else {
+            return known;
+        };
+        let longer = with_low(normalizer, units, more);
+        marks = longer.marks;
+        end = longer.end;
+        last = longer.last;
+    }
+    RunSoFar {
+        marks,
+        end,
+        last,
+        gaps,
+    }
+}
+
+/// Returns the same run, of which a part is known.
+#[inline(always)]
+fn run_end_after<U: Units, N: Forming>(normalizer: &N, units: U, known: RunSoFar) -> Run
+    requires { IsRunSoFar (N.passthrough_class normalizer.now) U.encoding (U.units units) known }
     ensures run { IsRunEnd (N.passthrough_class normalizer.now) U.encoding (U.units units) result.marks result.end }
     ensures next { MatchOption result.next (result.end ≡ length (U.units units))
         (λ next. next ≡ first_in U.encoding (drop result.end (U.units units))) }
 {
-    let mut run = first_run(normalizer, units);
+    let mut run = known;
     while run.end < units.len() {
-        let step = step_ahead(units, run.end);
-        match with_passing(normalizer, units, run, step) {
-            Ok(longer) => run = with_low(normalizer, units, longer),
+        let step = units.step_at(run.end);
+        match next_class(normalizer, run.last, step) {
+            Ok(class) => run = with_few(normalizer, units, with_step(run, step, class)),
             Err(unseen) => return stopped(run, step, unseen),
         }
     }
@@ -438,14 +495,21 @@ fn before_last<U: Units>(units: U, end: usize) -> usize
 }
 
 /// Returns the end of the front of the units that is passed on as it is: of a run, unless what follows begins a new part,
-/// without the last starter and the marks after it if it may compose with what follows, and else without these marks.
+/// without the last starter and the marks after it if it may compose with what follows, and else without these marks. In a
+/// text that isn't short, letters and marks may be expected to alternate.
 #[inline(always)]
-pub(crate) fn passthrough_end<U: Units, N: Forming>(normalizer: &N, units: U) -> Passed
+pub(crate) fn passthrough_end<U: Units, N: Forming>(
+    normalizer: &N,
+    units: U,
+    alternates: bool,
+) -> Passed
     ensures { let m = N.made_form normalizer.now in 0 < result.end → IsPart U.encoding m.reading m.form (U.units units)
         result.end × IsInputNormalized U.encoding m.reading m.form (take result.end (U.units units)) }
 {
     if units.len() <= SHORT {
         short_passthrough_end(normalizer, units)
+    } else if alternates {
+        alternating_passthrough_end(normalizer, units)
     } else {
         long_passthrough_end(normalizer, units)
     }
@@ -457,11 +521,18 @@ fn long_passthrough_end<U: Units, N: Forming>(normalizer: &N, units: U) -> Passe
     ensures { let m = N.made_form normalizer.now in 0 < result.end → IsPart U.encoding m.reading m.form (U.units units)
         result.end × IsInputNormalized U.encoding m.reading m.form (take result.end (U.units units)) }
 {
-    let run = run_end(normalizer, units);
-    Passed {
-        end: end_before(normalizer, units, run),
-        is_unordered: run.is_unordered,
-    }
+    let first = first_run(normalizer, units);
+    passed_by(normalizer, units, run_end(normalizer, units, first))
+}
+
+/// Returns the same end of a text in which letters and marks are expected to alternate.
+#[inline(never)]
+fn alternating_passthrough_end<U: Units, N: Forming>(normalizer: &N, units: U) -> Passed
+    ensures { let m = N.made_form normalizer.now in 0 < result.end → IsPart U.encoding m.reading m.form (U.units units)
+        result.end × IsInputNormalized U.encoding m.reading m.form (take result.end (U.units units)) }
+{
+    let first = first_several(normalizer, units);
+    passed_by(normalizer, units, run_end(normalizer, units, first))
 }
 
 /// Returns the same end of a short text.
@@ -470,7 +541,45 @@ fn short_passthrough_end<U: Units, N: Forming>(normalizer: &N, units: U) -> Pass
     ensures { let m = N.made_form normalizer.now in 0 < result.end → IsPart U.encoding m.reading m.form (U.units units)
         result.end × IsInputNormalized U.encoding m.reading m.form (take result.end (U.units units)) }
 {
-    let run = short_run_end(normalizer, units);
+    let run = with_few(normalizer, units, first_run(normalizer, units));
+    if run.end < units.len() {
+        return passthrough_end_after(normalizer, units, run.marks, run.end, run.last);
+    }
+    passed_by(normalizer, units, whole(run))
+}
+
+/// Returns the same end, if a part of the run is known. It isn't inlined, so that the loop over what is seen to pass has
+/// the registers for itself. The parts are passed one by one: as a run they would go through memory.
+#[inline(never)]
+fn passthrough_end_after<U: Units, N: Forming>(
+    normalizer: &N,
+    units: U,
+    marks: usize,
+    end: usize,
+    last: u8,
+) -> Passed
+    requires { IsRun (N.passthrough_class normalizer.now) U.encoding (U.units units) marks end last }
+    ensures { let m = N.made_form normalizer.now in 0 < result.end → IsPart U.encoding m.reading m.form (U.units units)
+        result.end × IsInputNormalized U.encoding m.reading m.form (take result.end (U.units units)) }
+{
+    let known = RunSoFar {
+        marks,
+        end,
+        last,
+        gaps: UNKNOWN,
+    };
+    passed_by(normalizer, units, run_end_after(normalizer, units, known))
+}
+
+/// Returns the same end, by the run.
+#[inline(always)]
+fn passed_by<U: Units, N: Forming>(normalizer: &N, units: U, run: Run) -> Passed
+    requires run { IsRunEnd (N.passthrough_class normalizer.now) U.encoding (U.units units) run.marks run.end }
+    requires next { MatchOption run.next (run.end ≡ length (U.units units))
+        (λ next. next ≡ first_in U.encoding (drop run.end (U.units units))) }
+    ensures { let m = N.made_form normalizer.now in 0 < result.end → IsPart U.encoding m.reading m.form (U.units units)
+        result.end × IsInputNormalized U.encoding m.reading m.form (take result.end (U.units units)) }
+{
     Passed {
         end: end_before(normalizer, units, run),
         is_unordered: run.is_unordered,
@@ -518,23 +627,23 @@ impl Kept {
 }
 
 /// Returns the end of the front of the units that is kept as it is: runs, and segments between them that are seen to
-/// stay. A segment whose marks are out of order doesn't.
+/// stay. A segment whose marks are out of order doesn't. Letters and marks may be expected to alternate.
 #[inline(always)]
-pub(crate) fn kept_end<U: Units, N: Forming>(normalizer: &N, units: U) -> Kept
+pub(crate) fn kept_end<U: Units, N: Forming>(normalizer: &N, units: U, alternates: bool) -> Kept
     ensures kept { let m = N.made_form normalizer.now in
         IsKeptTo U.encoding m.reading m.form (U.units units) result.end }
     ensures composite { let m = N.made_form normalizer.now in IfSome result.composite (IsComposite
         (N.beginning normalizer.now) U.encoding m.reading m.form (drop result.end (U.units units))) }
 {
-    let passed = passthrough_end(normalizer, units);
+    let passed = passthrough_end(normalizer, units, alternates);
     if passed.end < units.len() && normalizer.holds_back() && !passed.is_unordered {
-        return kept_after(normalizer, units, passed.end);
+        return kept_after(normalizer, units, passed.end, alternates);
     }
     Kept::to(passed.end, passed.is_unordered)
 }
 
 /// Returns the same end, which comes after a run.
-fn kept_after<U: Units, N: Forming>(normalizer: &N, units: U, run: usize) -> Kept
+fn kept_after<U: Units, N: Forming>(normalizer: &N, units: U, run: usize, alternates: bool) -> Kept
     requires { let m = N.made_form normalizer.now in IsKeptTo U.encoding m.reading m.form (U.units units) run }
     ensures kept { let m = N.made_form normalizer.now in
         IsKeptTo U.encoding m.reading m.form (U.units units) result.end }
@@ -562,7 +671,7 @@ fn kept_after<U: Units, N: Forming>(normalizer: &N, units: U, run: usize) -> Kep
         }
         end += seen.end;
         if seen.is_before_run {
-            let passed = passthrough_end(normalizer, units.after(end));
+            let passed = passthrough_end(normalizer, units.after(end), alternates);
             end += passed.end;
             if passed.is_unordered {
                 return Kept::to(end, true);

@@ -82,14 +82,12 @@ fn write_short<U: Units, O: Output<U>>(
     ensures text { WritesText U.encoding O.Output NothingOffered (text_of list) output.old result output.new }
     ensures room { ¬ IsErrOf result NormalizeError.Memory }
 {
-    let ShortList {
-        first,
-        second,
-        third,
-    } = list;
-    match third {
-        Some(third) => write_text::<U, O>(&[first, second, third], output),
-        None => write_text::<U, O>(&[first, second], output),
+    match list {
+        ShortList::One(first) => write_text::<U, O>(&[first], output),
+        ShortList::Two(first, second) => write_text::<U, O>(&[first, second], output),
+        ShortList::Three(first, second, third) => {
+            write_text::<U, O>(&[first, second, third], output)
+        }
     }
 }
 
@@ -182,11 +180,12 @@ fn write_segment<U: Units, N: Forming, O: Output<U>>(
 }
 
 /// Writes the front of the units that is kept as it is, in one piece, and returns its end, 0 if there is none, and the
-/// segment after it, if that is seen to become one character.
+/// segment after it, if that is seen to become one character. Letters and marks may be expected to alternate.
 #[inline(always)]
 fn write_run<U: Units, N: Forming, O: Output<U>>(
     normalizer: &N,
     units: U,
+    alternates: bool,
     output: &mut O,
 ) -> Result<Kept, NormalizeError>
     ensures none { IfOk result (λ kept. kept.end ≡ 0 → output.new ≡ output.old) }
@@ -198,7 +197,7 @@ fn write_run<U: Units, N: Forming, O: Output<U>>(
         (U.units units) output.old (Err fault) output.new) }
     ensures room { ¬ IsErrOf result NormalizeError.Memory }
 {
-    let kept = kept_end(normalizer, units);
+    let kept = kept_end(normalizer, units, alternates);
     if kept.end > 0 {
         output.write_piece(units.before(kept.end))?;
     }
@@ -289,6 +288,7 @@ fn write_segments<U: Units, N: Forming, O: Output<U>>(
     let mut position = 0;
     let mut first = None;
     let mut seen = composite;
+    let mut unordered = false;
     while position < units.len() {
         let rest = units.after(position);
         let segment = write_front_segment(normalizer, rest, first, seen, buffers, output)?;
@@ -296,11 +296,13 @@ fn write_segments<U: Units, N: Forming, O: Output<U>>(
         first = segment.next;
         seen = None;
         if segment.is_before_run {
-            let kept = write_run(normalizer, units.after(position), output)?;
+            // After marks out of order, letters and marks are expected to alternate.
+            let kept = write_run(normalizer, units.after(position), unordered, output)?;
             position += kept.end;
             first = None;
             seen = kept.composite;
-            buffers.expect_unordered(kept.is_unordered);
+            unordered = kept.is_unordered;
+            buffers.expect_unordered(unordered);
         }
     }
     Ok(())
@@ -335,7 +337,7 @@ fn write_parts<U: Units, N: Forming, O: Output<U>>(
     ensures room { HasShortUnits (N.made_form normalizer.now) U.encoding (U.units units) →
         ¬ IsErrOf result NormalizeError.Memory }
 {
-    let kept = write_run(normalizer, units, output)?;
+    let kept = write_run(normalizer, units, false, output)?;
     if kept.end == units.len() {
         return Ok(());
     }

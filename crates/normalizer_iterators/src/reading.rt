@@ -138,7 +138,7 @@ fn hold_others(
 }
 
 /// Buffers the characters of a list after the first, in place of what is buffered.
-#[tactic(auto, unfolding(normalizer_tables::specs::ShortLists::text_of))]
+#[tactic(auto, unfolding(normalizer_tables::specs::ShortLists::text_of, crate::specs::WaitingList::reordered_text))]
 #[inline(always)]
 fn hold_short(
     characters: &CharacterData<'_>,
@@ -151,10 +151,15 @@ fn hold_short(
     ensures held { OnOk result (item_count waiting.new + 1 ≡ length (text_of list)) }
     ensures succeeds { IsOk result }
 {
-    let second = classed(characters, list.second);
-    match list.third {
-        Some(third) => waiting.hold_two(second, classed(characters, third)),
-        None => waiting.hold(second),
+    match list {
+        ShortList::One(_) => {
+            waiting.clear();
+            Ok(())
+        }
+        ShortList::Two(_, second) => waiting.hold(classed(characters, second)),
+        ShortList::Three(_, second, third) => {
+            waiting.hold_two(classed(characters, second), classed(characters, third))
+        }
     }
 }
 
@@ -182,7 +187,7 @@ pub(crate) fn first_of_list(
 {
     if let Some(list) = read.short_list(characters) {
         hold_short(characters, list, waiting)?;
-        return Ok(list.first);
+        return Ok(list.first());
     }
     let members = read.members(characters, ignored);
     hold_others(characters, &members, waiting)?;

@@ -280,9 +280,9 @@ impl<'a> CharacterData<'a> {
             .unwrap_or(Members::one(character))
     }
 
-    /// Returns the list of a character, if its word spells two characters, or is that of a Hangul syllable. `None` says
+    /// Returns the list of a character, if its word says that it is one, two or three characters, and which. `None` says
     /// nothing.
-    #[tactic(auto, using(crate::proofs::words::ShortListLemmas::short_lists))]
+    #[tactic(auto, using(crate::proofs::words::ShortListLemmas::short_lists), unfolding(crate::specs::ShortLists::text_of))]
     #[inline(always)]
     pub fn short_list(&self, character: char, word: u32) -> Option<ShortList>
         requires { word ≡ word_of self.now character }
@@ -296,6 +296,9 @@ impl<'a> CharacterData<'a> {
             WordReading::TwoCharacters(first, second) => {
                 Some(ShortList::of_two(first as u32, second as u32))
             }
+            WordReading::OneCharacter(member) => ShortList::of_one(member as u32),
+            WordReading::Itself => Some(ShortList::One(character)),
+            WordReading::ClassForm(_) => Some(ShortList::One(character)),
             _ => None,
         }
     }

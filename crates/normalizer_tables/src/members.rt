@@ -1,5 +1,5 @@
 //! The list of a character, walked without taking memory.
-ghost use Rattle.std.specs.Prelude.{◌≡◌, ◌↔◌, ◌<◌, ℕ, List, [], ◌∷◌, Some, IfSome, IsTrue, All};
+ghost use Rattle.std.specs.Prelude.{◌≡◌, ◌↔◌, ◌<◌, ℕ, List, [], ◌∷◌, Some, IsTrue, All};
 ghost use Rattle.std.specs.Prelude.{length, slice_get, true};
 ghost use lib.Utf8.{scalar};
 ghost use Rattle.std.specs.Char.{IsScalar};
@@ -92,17 +92,6 @@ impl<'a> Members<'a> {
         self.get(place).unwrap()
     }
 
-    /// Returns the members, if they are held as two characters. `None` says nothing: a table may hold two as well.
-    #[inline(always)]
-    pub fn as_two(&self) -> Option<[char; 2]>
-        ensures { IfSome result (λ two. two ≡ self.now) }
-    {
-        match self.shape {
-            Shape::Two(a, b) => Some([a, b]),
-            _ => None,
-        }
-    }
-
     /// Returns the list of no member.
     pub fn empty() -> Self
         ensures { result ≡ [] }
@@ -189,14 +178,10 @@ impl<'a> Members<'a> {
         requires { is_hangul_syllable syllable ≡ true }
         ensures { result ≡ hangul_decomposition syllable }
     {
-        let ShortList {
-            first,
-            second,
-            third,
-        } = decompose_hangul(syllable);
-        let shape = match third {
-            Some(third) => Shape::Three(first, second, third),
-            None => Shape::Two(first, second),
+        let shape = match decompose_hangul(syllable) {
+            ShortList::One(a) => Shape::One(a),
+            ShortList::Two(a, b) => Shape::Two(a, b),
+            ShortList::Three(a, b, c) => Shape::Three(a, b, c),
         };
         Members { shape }
     }

@@ -4,7 +4,7 @@ use Rattle.icu_normalizer.proofs.passthrough.RunSteps.{IsRun-le, IsRun-longer}
 use Rattle.icu_normalizer.proofs.runs.run_end.Goals as goal
 
 pub loop-run-init : goal.loop-run-init
-loop-run-init g c = c.first_run-run.ensures
+loop-run-init g c = c.requires
 
 pub with_step-requires : goal.with_step-requires
 with_step-requires g c =

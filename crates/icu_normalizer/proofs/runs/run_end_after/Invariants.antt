@@ -1,6 +1,6 @@
 use Rattle.std.proofs.Common.{◌-◌, length}
 use Rattle.icu_normalizer.specs.inner.PassthroughRuns.{IsRunSoFar}
-use Rattle.icu_normalizer.proofs.runs.short_run_end.Given as goal
+use Rattle.icu_normalizer.proofs.runs.run_end_after.Given as goal
 
 abbrev pub invariant-loop-run : goal.invariant-loop-run
 invariant-loop-run g l = IsRunSoFar (g.N.Forming.passthrough_class l.normalizer) g.U.Units.encoding (g.U.Units.units l.units) l.run
