@@ -13,13 +13,16 @@ pub(crate) trait Piece<T>: AsSlice<T> + Copy {
 }
 
 impl<T: Copy> Piece<T> for &[T] {
-    /// Stores the first and the last of them, which may overlap: two stores are faster than a call.
+    /// Stores the first and the last of them, which may overlap: two or four stores are faster than a call. From 8 to 32
+    /// units there is no branch, since words of a text differ in length.
     #[inline(always)]
     fn store(self, to: &mut [T]) {
-        match self.len() {
-            32.. => copy_ends::<T, 32>(self, to),
-            16.. => copy_ends::<T, 16>(self, to),
-            8.. => copy_ends::<T, 8>(self, to),
+        let len = self.len();
+        if 8 <= len && len <= 32 {
+            return copy_halves::<T, 8>(self, to);
+        }
+        match len {
+            33.. => copy_ends::<T, 32>(self, to),
             4.. => copy_ends::<T, 4>(self, to),
             2.. => copy_ends::<T, 2>(self, to),
             1 => copy_first::<T, 1>(self, to),
@@ -60,4 +63,18 @@ fn copy_ends<T: Copy, const N: usize>(units: &[T], to: &mut [T])
     let last = units.len() - N;
     copy_first::<T, N>(units, to);
     copy_first::<T, N>(&units[last..], &mut to[last..]);
+}
+
+/// Copies units over as many others: the ends of the first half and those of the last, which may overlap.
+#[inline(always)]
+fn copy_halves<T: Copy, const N: usize>(units: &[T], to: &mut [T])
+    requires same { length to.old ≡ length units.now }
+    requires least { N ≤ length units.now }
+    requires most { length units.now ≤ N + N + N + N }
+    ensures { to.new ≡ units.now }
+{
+    let half = N.max(units.len() - units.len() / 2);
+    let last = units.len() - half;
+    copy_ends::<T, N>(&units[..half], &mut to[..half]);
+    copy_ends::<T, N>(&units[last..], &mut to[last..]);
 }

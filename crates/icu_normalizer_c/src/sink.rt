@@ -69,10 +69,23 @@ impl<'a> Buffer<'a, u8> {
         ensures room { length self.new.units.now ≡ length self.old.units.now }
         ensures history { self.new.history.units ≡ self.old.history.units ++ encode_utf8 c }
     {
+        if (c as u32) < 0x80 {
+            self.take([c as u8]);
+        } else {
+            self.take_sequence(c);
+        }
+    }
+
+    /// Takes a character that has several bytes in UTF-8. It isn't inlined, so that callers inline the test for one byte.
+    #[inline(never)]
+    fn take_sequence(&mut self, c: char)
+        requires { 0x80 ≤ c }
+        ensures same_reference { self.new.units.ghost_name ≡ self.old.units.ghost_name }
+        ensures room { length self.new.units.now ≡ length self.old.units.now }
+        ensures history { self.new.history.units ≡ self.old.history.units ++ encode_utf8 c }
+    {
         let number = c as u32;
-        if number < 0x80 {
-            self.take([number as u8]);
-        } else if number < 0x800 {
+        if number < 0x800 {
             self.take([(0xC0 + number / 64) as u8, (0x80 + number % 64) as u8]);
         } else if number < 0x10000 {
             self.take([
@@ -121,6 +134,7 @@ impl<'a> Write for Buffer<'a, u8> {
         Ok(())
     }
 
+    #[inline(always)]
     fn write_char(&mut self, c: char) -> Result<(), SinkError> {
         self.take_in_utf8(c);
         Ok(())
