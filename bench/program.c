@@ -71,10 +71,18 @@ static void stop(const char *why, const char *of) {
     exit(2);
 }
 
-static void *room_of(size_t size) {
+static void *room_for(size_t size) {
     void *at = malloc(size + 1);
     if (!at) stop("out of memory", "malloc");
-    return memset(at, 0, size + 1);
+    return at;
+}
+
+static void *room_of(size_t size) {
+    return memset(room_for(size), 0, size + 1);
+}
+
+static void *copy_of(const void *at, size_t size) {
+    return memcpy(room_for(size), at, size);
 }
 
 static uint64_t now(void) {
@@ -114,14 +122,10 @@ static int repeated(uint32_t form, uint32_t call, const struct text *text, size_
     return 1;
 }
 
+/* Like `repeated`, it writes to memory that it gets each time. */
 static int exported(uint32_t form, uint32_t call, const struct text *text, size_t times, struct output *output) {
-    static void *written;
-    static size_t room;
-    if (room < 16 * (text->length + 1)) {
-        free(written);
-        room = 16 * (text->length + 1);
-        written = room_of(room);
-    }
+    size_t room = 16 * (text->length + 1);
+    void *written = room_for(room);
     size_t length = 0, width = 0;
     icu_normalizer_status status = ICU_NORMALIZER_OK;
     bool is_normalized = false;
@@ -149,6 +153,7 @@ static int exported(uint32_t form, uint32_t call, const struct text *text, size_
     if (status) stop(icu_normalizer_status_text(status), "icu_normalizer");
     memcpy(output->at, written, width * length < output->room ? width * length : output->room);
     output->length = width ? length : is_normalized;
+    free(written);
     return 1;
 }
 
@@ -211,11 +216,25 @@ struct cell {
 
 #define NO_CALL UINT64_MAX
 
+/* Where text and output are in a page changes a time, too. So each sample reads a copy of the text, and what it
+   allocates is moved by a few lines of the cache: the least time counts. */
 static uint64_t spent(const struct cell *cell, size_t times) {
+    static size_t moved;
+    const struct text *text = cell->text;
+    void *before = room_for((1 << 20) + moved);
+    uint8_t *bytes = copy_of(text->bytes, text->length);
+    uint16_t *units = copy_of(text->units, 2 * text->units_length);
+    struct text copy = {bytes, text->length, units, text->units_length};
     char nothing;
     struct output output = {&nothing, 0, 0};
     uint64_t begin = now();
-    return cell->library->repeat(cell->form, cell->call, cell->text, times, &output) ? now() - begin : NO_CALL;
+    int has_call = cell->library->repeat(cell->form, cell->call, &copy, times, &output);
+    uint64_t end = now();
+    free(units);
+    free(bytes);
+    free(before);
+    moved = (moved + 656) % 4096;
+    return has_call ? end - begin : NO_CALL;
 }
 
 /* How much more time the calls took than the first ones alone. */
