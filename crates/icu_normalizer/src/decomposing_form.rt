@@ -7,7 +7,6 @@ ghost use Rattle.normalizer_iterators.specs.Iterating.{YieldsFormBy};
 ghost use Rattle.icu_normalizer.specs.Serving.{ServesDecomposing};
 
 use crate::borrowed::NormalizerBorrowed;
-use normalizer_iterators::decomposition::decomposed;
 use normalizer_iterators::{Decomposition, NormalizeError};
 use normalizer_tables::characters::{CharacterData, IgnoredCharacters};
 use normalizer_tables::condition::Bounds;
@@ -32,7 +31,7 @@ impl<'a> DecomposingForm<'a> {
             self.now.characters Dropped [] nfd iter result }
         ensures ready { IfOk result ⟦<Decomposition<'a, I> as Iterator>⟧.can_next }
     {
-        decomposed(self.characters.copied(), IgnoredCharacters::Dropped, iter)
+        Decomposition::over(self.characters.copied(), IgnoredCharacters::Dropped, iter)
     }
 }
 
@@ -63,6 +62,6 @@ impl<'a> NormalizerBorrowed<DecomposingForm<'a>> {
         ensures ready { IfOk result ⟦<Decomposition<'a, I> as Iterator>⟧.can_next }
     {
         let characters = self.form.characters.copied();
-        decomposed(characters, IgnoredCharacters::Dropped, iter)
+        Decomposition::over(characters, IgnoredCharacters::Dropped, iter)
     }
 }

@@ -1,10 +1,9 @@
 //! The ends of runs of characters that are passed on as they are, and of the segments between them.
-ghost use Rattle.std.specs.Prelude.{◌≡◌, ◌≢◌, ◌+◌, ◌^◌, ◌<◌, drop, length, take};
+ghost use Rattle.std.specs.Prelude.{◌≡◌, ◌≢◌, ◌+◌, ◌^◌, ◌<◌, drop, length};
 ghost use Rattle.std.specs.Prelude.{IfSome, MatchOption, MatchResult, None, Some};
 ghost use Rattle.normalizer_text.specs.Encodings.{first_in};
-ghost use Rattle.normalizer_text.specs.InputCut.{IsInputNormalized};
 ghost use Rattle.normalizer_text.specs.DecodingSteps.{IsBoundary};
-ghost use Rattle.icu_normalizer.specs.inner.PassthroughRuns.{next_class, IsBeforeLast, IsComposite, IsKeptTo, IsPart};
+ghost use Rattle.icu_normalizer.specs.inner.PassthroughRuns.{next_class, IsBeforeLast, IsComposite, IsKeptTo, IsPassedFront};
 ghost use Rattle.icu_normalizer.specs.inner.PassthroughRuns.{GoesOn, IsRun, IsRunEnd, IsRunSoFar, IsSegmentEnd};
 
 use crate::forming::Forming;
@@ -287,6 +286,20 @@ fn first_run<U: Units, N: Forming>(normalizer: &N, units: U) -> RunSoFar
     }
 }
 
+/// Returns the members of the set that a short text begins with.
+#[inline(always)]
+fn first_few<U: Units, N: Forming>(normalizer: &N, units: U) -> RunSoFar
+    ensures { IsRunSoFar (N.passthrough_class normalizer.now) U.encoding (U.units units) result }
+{
+    let end = units.end_of_few_members(0, normalizer.passing());
+    RunSoFar {
+        marks: end,
+        end,
+        last: 0,
+        gaps: UNKNOWN,
+    }
+}
+
 /// The sum of a run in which letters and marks are expected to alternate.
 const ALTERNATING: u8 = 0;
 
@@ -503,8 +516,7 @@ pub(crate) fn passthrough_end<U: Units, N: Forming>(
     units: U,
     alternates: bool,
 ) -> Passed
-    ensures { let m = N.made_form normalizer.now in 0 < result.end → IsPart U.encoding m.reading m.form (U.units units)
-        result.end × IsInputNormalized U.encoding m.reading m.form (take result.end (U.units units)) }
+    ensures { IsPassedFront U.encoding (N.made_form normalizer.now) (U.units units) result.end }
 {
     if units.len() <= SHORT {
         short_passthrough_end(normalizer, units)
@@ -518,8 +530,7 @@ pub(crate) fn passthrough_end<U: Units, N: Forming>(
 /// Returns the same end of a text that isn't short.
 #[inline(never)]
 fn long_passthrough_end<U: Units, N: Forming>(normalizer: &N, units: U) -> Passed
-    ensures { let m = N.made_form normalizer.now in 0 < result.end → IsPart U.encoding m.reading m.form (U.units units)
-        result.end × IsInputNormalized U.encoding m.reading m.form (take result.end (U.units units)) }
+    ensures { IsPassedFront U.encoding (N.made_form normalizer.now) (U.units units) result.end }
 {
     let first = first_run(normalizer, units);
     passed_by(normalizer, units, run_end(normalizer, units, first))
@@ -528,8 +539,7 @@ fn long_passthrough_end<U: Units, N: Forming>(normalizer: &N, units: U) -> Passe
 /// Returns the same end of a text in which letters and marks are expected to alternate.
 #[inline(never)]
 fn alternating_passthrough_end<U: Units, N: Forming>(normalizer: &N, units: U) -> Passed
-    ensures { let m = N.made_form normalizer.now in 0 < result.end → IsPart U.encoding m.reading m.form (U.units units)
-        result.end × IsInputNormalized U.encoding m.reading m.form (take result.end (U.units units)) }
+    ensures { IsPassedFront U.encoding (N.made_form normalizer.now) (U.units units) result.end }
 {
     let first = first_several(normalizer, units);
     passed_by(normalizer, units, run_end(normalizer, units, first))
@@ -538,10 +548,9 @@ fn alternating_passthrough_end<U: Units, N: Forming>(normalizer: &N, units: U) -
 /// Returns the same end of a short text.
 #[inline(never)]
 fn short_passthrough_end<U: Units, N: Forming>(normalizer: &N, units: U) -> Passed
-    ensures { let m = N.made_form normalizer.now in 0 < result.end → IsPart U.encoding m.reading m.form (U.units units)
-        result.end × IsInputNormalized U.encoding m.reading m.form (take result.end (U.units units)) }
+    ensures { IsPassedFront U.encoding (N.made_form normalizer.now) (U.units units) result.end }
 {
-    let run = with_few(normalizer, units, first_run(normalizer, units));
+    let run = with_few(normalizer, units, first_few(normalizer, units));
     if run.end < units.len() {
         return passthrough_end_after(normalizer, units, run.marks, run.end, run.last);
     }
@@ -559,8 +568,7 @@ fn passthrough_end_after<U: Units, N: Forming>(
     last: u8,
 ) -> Passed
     requires { IsRun (N.passthrough_class normalizer.now) U.encoding (U.units units) marks end last }
-    ensures { let m = N.made_form normalizer.now in 0 < result.end → IsPart U.encoding m.reading m.form (U.units units)
-        result.end × IsInputNormalized U.encoding m.reading m.form (take result.end (U.units units)) }
+    ensures { IsPassedFront U.encoding (N.made_form normalizer.now) (U.units units) result.end }
 {
     let known = RunSoFar {
         marks,
@@ -577,8 +585,7 @@ fn passed_by<U: Units, N: Forming>(normalizer: &N, units: U, run: Run) -> Passed
     requires run { IsRunEnd (N.passthrough_class normalizer.now) U.encoding (U.units units) run.marks run.end }
     requires next { MatchOption run.next (run.end ≡ length (U.units units))
         (λ next. next ≡ first_in U.encoding (drop run.end (U.units units))) }
-    ensures { let m = N.made_form normalizer.now in 0 < result.end → IsPart U.encoding m.reading m.form (U.units units)
-        result.end × IsInputNormalized U.encoding m.reading m.form (take result.end (U.units units)) }
+    ensures { IsPassedFront U.encoding (N.made_form normalizer.now) (U.units units) result.end }
 {
     Passed {
         end: end_before(normalizer, units, run),
@@ -592,8 +599,7 @@ fn end_before<U: Units, N: Forming>(normalizer: &N, units: U, run: Run) -> usize
     requires run { IsRunEnd (N.passthrough_class normalizer.now) U.encoding (U.units units) run.marks run.end }
     requires next { MatchOption run.next (run.end ≡ length (U.units units))
         (λ next. next ≡ first_in U.encoding (drop run.end (U.units units))) }
-    ensures { let m = N.made_form normalizer.now in 0 < result → IsPart U.encoding m.reading m.form (U.units units)
-        result × IsInputNormalized U.encoding m.reading m.form (take result (U.units units)) }
+    ensures { IsPassedFront U.encoding (N.made_form normalizer.now) (U.units units) result }
 {
     normalizer.passthrough_is_normalized_apart();
     let Some(next) = run.next else {

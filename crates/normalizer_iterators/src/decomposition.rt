@@ -83,12 +83,16 @@ impl<'data, I: Iterator<Item = char> + Drop> Decomposition<'data, I> {
     {
         let characters = CharacterData::new(decompositions, tables, None, Purpose::Forms);
         let characters = characters.with_passthrough_bound(GREATEST_BOUNDS.decomposition);
-        decomposed(characters, IgnoredCharacters::Dropped, delegate)
+        Decomposition::over(characters, IgnoredCharacters::Dropped, delegate)
     }
 
-    /// Reads the delegate up to the first boundary.
+    /// Returns an iterator over the decomposed form of what a delegate yields, using data that may be read lazily. It
+    /// reads the delegate up to the first boundary.
+    ///
+    /// # Errors
+    /// `Memory` if an allocation failed.
     #[inline(always)]
-    pub(crate) fn over(
+    pub fn over(
         characters: CharacterData<'data>,
         ignored: IgnoredCharacters,
         mut delegate: I,
@@ -96,6 +100,8 @@ impl<'data, I: Iterator<Item = char> + Drop> Decomposition<'data, I> {
         requires can { I.can_next delegate }
         requires ends { IsFinite (I.remaining delegate) }
         requires suits { SuitsLazyReading (has_class_form characters) (reading_by characters ignored []) }
+        ensures form { YieldsFormBy I.next_gives ⟦<Decomposition<'data, I> as Iterator>⟧.next_gives
+            characters.entry ignored [] nfd delegate result }
         ensures text { IfOk result (λ it. (x : List ℕ) → Spells I.next_gives delegate x →
             WillYield (Spells I.next_gives) it (nfd (reading_by characters.entry ignored []) x)) }
         ensures came { IfOk result (IsFormOfSource I.next_gives (λ e. WillYield (MayYield I.next_gives e))
@@ -131,7 +137,6 @@ impl<'data, I: Iterator<Item = char> + Drop> Decomposition<'data, I> {
         read: PendingChar,
         following: Option<PendingChar>,
     ) -> Result<char, NormalizeError>
-        requires taken { self.old.pending ≡ None }
         requires empty { ordered_text self.old.waiting ≡ [] }
         requires at_boundary { continues (has_class_form self.old.characters)
             (reading_by self.old.characters self.old.ignored []) read.character ≡ false }
@@ -155,14 +160,13 @@ impl<'data, I: Iterator<Item = char> + Drop> Decomposition<'data, I> {
             self.ignored,
             read,
             following,
+            &mut self.pending,
             &mut self.delegate,
             &mut self.waiting,
         ) {
-            Ok((first, pending)) => {
-                self.pending = pending;
-                Ok(first)
-            }
+            Ok(first) => Ok(first),
             Err(_) => {
+                self.pending = None;
                 self.waiting.clear();
                 Err(NormalizeError::Memory)
             }
@@ -194,7 +198,7 @@ impl<'data, I: Iterator<Item = char> + Drop> Decomposition<'data, I> {
         if let Some(given) = self.waiting.pop_front() {
             return Some(Ok(given));
         }
-        let read = self.pending.take()?;
+        let read = self.pending?;
         let following = read_from(&self.characters, 0, self.delegate.next());
         match self.next_chunk(read, following) {
             Ok(character) => Some(Ok(ClassedChar {
@@ -204,26 +208,6 @@ impl<'data, I: Iterator<Item = char> + Drop> Decomposition<'data, I> {
             Err(error) => Some(Err(error)),
         }
     }
-}
-
-/// Returns an iterator over the decomposed form of what a delegate yields, using data that may be read lazily.
-///
-/// # Errors
-/// `Memory` if an allocation failed.
-#[inline(always)]
-pub fn decomposed<'data, I: Iterator<Item = char> + Drop>(
-    characters: CharacterData<'data>,
-    ignored: IgnoredCharacters,
-    delegate: I,
-) -> Result<Decomposition<'data, I>, NormalizeError>
-    requires can { I.can_next delegate }
-    requires ends { IsFinite (I.remaining delegate) }
-    requires suits { SuitsLazyReading (has_class_form characters) (reading_by characters ignored []) }
-    ensures form { YieldsFormBy I.next_gives ⟦<Decomposition<'data, I> as Iterator>⟧.next_gives
-        characters.entry ignored [] nfd delegate result }
-    ensures ready { IfOk result ⟦<Decomposition<'data, I> as Iterator>⟧.can_next }
-{
-    Decomposition::over(characters, ignored, delegate)
 }
 
 /// Whether a character is known to be its own list, and a boundary follows it.
@@ -243,30 +227,32 @@ fn is_whole_chunk(
 }
 
 /// The first member of the list of a character after a boundary; the others are buffered, with the lists of the
-/// characters that continue it, up to the next boundary. The character after it was read before.
+/// characters that continue it, up to the next boundary. The character after it was read before. What is read last is
+/// then pending.
 fn read_chunk<I: Iterator<Item = char> + Drop>(
     characters: &CharacterData<'_>,
     ignored: IgnoredCharacters,
     read: PendingChar,
     following: Option<PendingChar>,
+    pending: &mut Option<PendingChar>,
     delegate: &mut I,
     waiting: &mut WaitingList,
-) -> Result<(char, Option<PendingChar>), AllocError>
+) -> Result<char, AllocError>
     requires ready { IsReadyAfter I.can_next I.remaining (character_of following) delegate.old }
     requires word { HasOwnWord characters.now read }
     requires words { HasOwnWords characters.now following }
     requires at_boundary { continues (has_class_form characters.now)
         (reading_by characters.now ignored []) read.character ≡ false }
-    ensures ok { IfOk result (λ r. ReadsChunkAfter I.Iterator characters.now ignored
-        read.character (character_of following) delegate.old r.0 (character_of r.1) delegate.new waiting.new) }
-    ensures words { IfOk result (λ r. HasOwnWords characters.now r.1) }
+    ensures ok { IfOk result (λ first. ReadsChunkAfter I.Iterator characters.now ignored read.character
+        (character_of following) delegate.old first (character_of pending.new) delegate.new waiting.new) }
+    ensures words { OnOk result (HasOwnWords characters.now pending.new) }
     ensures classes { OnOk result (AgreesWith (reading_by characters.now ignored []) waiting.new) }
     ensures err { OnErr result (ChunkDidNotFitAfter I.next_gives I.remaining characters.now ignored read.character
         (character_of following) delegate.old) }
 {
     let first = first_of_list(characters, ignored, read, waiting)?;
-    let pending = read_on(characters, ignored, following, delegate, waiting)?;
-    Ok((first, pending))
+    *pending = read_on(characters, ignored, following, delegate, waiting)?;
+    Ok(first)
 }
 
 impl<'data, I: Iterator<Item = char> + Drop> Iterator for Decomposition<'data, I> {

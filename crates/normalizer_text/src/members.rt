@@ -49,6 +49,11 @@ pub(crate) trait Members: Copy {
         requires { position ≤ length (units self) }
         ensures { result ≡ position + leading_below limit (drop position (units self)) };
 
+    /// The same end, found unit by unit.
+    fn end_by_units(self, position: usize, limit: u32) -> usize
+        requires { position ≤ length (units self) }
+        ensures { result ≡ position + leading_below limit (drop position (units self)) };
+
     /// Whether a unit is below a limit.
     fn is_below_at(self, position: usize, limit: u32) -> bool
         requires { position < length (units self) }
@@ -113,7 +118,44 @@ fn passed_members<M: Members>(
         if end < units.len() && begins_low_run(units, end, limit) {
             end = units.end_of_below(end, limit);
         } else {
-            end = passed_others(units, end, set)?;
+            end = passed_kinds(units, end, set, (Lead::OfOne, Lead::OfFour))?;
+        }
+    }
+    ControlFlow::Continue(end)
+}
+
+/// Returns the same end of a short text. After the low units that it begins with, characters are looked up one by one.
+#[inline(always)]
+pub(crate) fn end_of_few_members<M: Members>(units: M, position: usize, set: &CharacterSet) -> usize
+    requires { IsBoundary (first_in M.encoding) (M.units units) position }
+    ensures { result ≡ position
+        + width_within (has set.now) (steps (first_in M.encoding) (drop position (M.units units))) }
+{
+    match passed_few(units, position, set) {
+        ControlFlow::Continue(end) => end,
+        ControlFlow::Break(end) => end,
+    }
+}
+
+/// Passes over members of a short text, and breaks off at a step that is none.
+#[inline(always)]
+fn passed_few<M: Members>(
+    units: M,
+    position: usize,
+    set: &CharacterSet,
+) -> ControlFlow<usize, usize>
+    requires { IsBoundary (first_in M.encoding) (M.units units) position }
+    ensures { let end = end_within (has set.now) M.encoding (M.units units) position in
+        MatchControlFlow result (λ r. r ≡ end) (λ r. r ≡ end) }
+{
+    units.low_units_are_of_low_characters();
+    let limit = units.low_unit(set.first_missing());
+    let mut end = units.end_of_below(position, limit);
+    while end < units.len() {
+        if units.is_below_at(end, limit) {
+            end = units.end_by_units(end, limit);
+        } else {
+            end = passed_kinds(units, end, set, (Lead::OfTwo, Lead::OfThree))?;
         }
     }
     ControlFlow::Continue(end)
@@ -142,20 +184,21 @@ fn passed_members_led_by<M: Members>(
     ControlFlow::Continue(end)
 }
 
-/// Passes over members of one unit, then of four, or else over one step of any width. It breaks off at the end, and at
-/// a step that is no member.
+/// Passes over members that begin with leads of a kind, then of another, or else over one step of any width. It breaks
+/// off at the end, and at a step that is no member.
 #[inline(always)]
-fn passed_others<M: Members>(
+fn passed_kinds<M: Members>(
     units: M,
     position: usize,
     set: &CharacterSet,
+    kinds: (Lead, Lead),
 ) -> ControlFlow<usize, usize>
     requires { IsBoundary (first_in M.encoding) (M.units units) position }
     ensures passed { IsPassed (has set.now) M.encoding (M.units units) position result }
     ensures further { ForContinue result (λ end. position < end) }
 {
-    let singles = passed_members_led_by(units, position, set, Lead::OfOne)?;
-    let end = passed_members_led_by(units, singles, set, Lead::OfFour)?;
+    let next = passed_members_led_by(units, position, set, kinds.0)?;
+    let end = passed_members_led_by(units, next, set, kinds.1)?;
     if end == position {
         return passed_step(units, position, set);
     }
@@ -216,6 +259,11 @@ impl<'a> Members for &'a str {
     }
 
     #[inline(always)]
+    fn end_by_units(self, position: usize, limit: u32) -> usize {
+        scan::end_by_units(self.as_bytes(), position, limit)
+    }
+
+    #[inline(always)]
     fn is_below_at(self, position: usize, limit: u32) -> bool {
         u32::from(self.as_bytes()[position]) < limit
     }
@@ -256,6 +304,11 @@ impl<'a> Members for &'a [u8] {
     #[inline(always)]
     fn end_of_below(self, position: usize, limit: u32) -> usize {
         scan::end_of_below(self, position, limit)
+    }
+
+    #[inline(always)]
+    fn end_by_units(self, position: usize, limit: u32) -> usize {
+        scan::end_by_units(self, position, limit)
     }
 
     #[inline(always)]

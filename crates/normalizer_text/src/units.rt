@@ -61,6 +61,12 @@ pub trait Units: Copy {
         ensures { result ≡ position
             + width_within (has set.now) (steps (first_in encoding) (drop position (units self))) };
 
+    /// Returns the same end, found in fewer instructions if there are few units.
+    fn end_of_few_members(self, position: usize, set: &CharacterSet) -> usize
+        requires { IsBoundary (first_in encoding) (units self) position }
+        ensures { result ≡ position
+            + width_within (has set.now) (steps (first_in encoding) (drop position (units self))) };
+
     /// Returns an end of characters from a position on that are below a bound. They are passed over unit by unit, up to
     /// the first unit that isn't seen at once to be of such a character.
     fn end_of_low(self, position: usize, bound: u32) -> usize
@@ -160,6 +166,11 @@ impl<'a> Units for &'a str {
         members::end_of_members(self, position, set)
     }
 
+    #[inline(always)]
+    fn end_of_few_members(self, position: usize, set: &CharacterSet) -> usize {
+        members::end_of_few_members(self, position, set)
+    }
+
     fn before(self, position: usize) -> Self {
         &self[..position]
     }
@@ -202,6 +213,11 @@ impl<'a> Units for &'a [u8] {
         members::end_of_members(self, position, set)
     }
 
+    #[inline(always)]
+    fn end_of_few_members(self, position: usize, set: &CharacterSet) -> usize {
+        members::end_of_few_members(self, position, set)
+    }
+
     fn before(self, position: usize) -> Self {
         &self[..position]
     }
@@ -241,6 +257,11 @@ impl<'a> Units for &'a [u16] {
 
     #[inline(always)]
     fn end_of_members(self, position: usize, set: &CharacterSet) -> usize {
+        members::end_of_unit_members(self, position, set)
+    }
+
+    #[inline(always)]
+    fn end_of_few_members(self, position: usize, set: &CharacterSet) -> usize {
         members::end_of_unit_members(self, position, set)
     }
 

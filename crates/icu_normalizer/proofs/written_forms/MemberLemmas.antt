@@ -1,7 +1,6 @@
 -- Writing the members of a list, as if from an iterator.
 use Rattle.std.proofs.Common.{◌≡◌, ℕ, zero, suc, ◌+◌, ◌<◌, ◌≤◌, List, [], ◌∷◌, ◌++◌, length, length-take, drop, take, Option, Some, None, Result, Ok, arith, refl, ap, sym, subst, ◌∙◌}
-use Rattle.std.specs.Prelude.{All, IfSome, false, slice_get}
-use Rattle.std.specs.Option.{is_some}
+use Rattle.std.specs.Prelude.{All, IfSome, slice_get}
 use Rattle.std.proofs.lemmas.List.{drop_all, drop-drop}
 use Rattle.std.proofs.lemmas.List.Elements.{All-nil, All-cons}
 use Rattle.normalizer_text.specs.declared.decoding_step.Step.{Step}
@@ -75,8 +74,3 @@ pub first-drop : (e : Encoding) (units rest : List ℕ) (position end : ℕ) (ne
 first-drop e units rest position end None is next = tt
 first-drop e units rest position end (Some s) is next =
     next ∙ ap (λ l. first_in e (drop end l)) is ∙ ap (first_in e) (drop-drop end position units ∙ ap (λ n. drop n units) (omega arith))
-
--- of no step everything holds
-pub holds_of_none : (P : Step → Type 0) (s : Option Step) → is_some s ≡ false → IfSome s P
-holds_of_none P None is = tt
-holds_of_none P (Some s) is = absurd (cc)

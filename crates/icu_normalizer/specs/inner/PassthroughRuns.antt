@@ -18,6 +18,7 @@ use Rattle.normalizer_text.specs.Encodings.{Encoding, first_in, encoded_in, deco
 use Rattle.normalizer_text.specs.DecodingSteps.{IsBoundary, IsLastStep}
 use Rattle.normalizer_text.specs.InputCut.{IsInputNormalized}
 use Rattle.icu_normalizer.specs.BoundaryBefore.{HasBoundaryBefore}
+use Rattle.icu_normalizer.specs.Forms.{MadeForm}
 use Rattle.icu_normalizer.specs.declared.runs.Composite.{Composite}
 use Rattle.icu_normalizer.specs.declared.runs.RunSoFar.{RunSoFar}
 
@@ -121,6 +122,11 @@ pub record IsPart (e : Encoding) (d : Reading) (form : Form) (units : List ℕ) 
   pub boundary : IsBoundary (first_in e) units end
   pub divides : (front : List ℕ)
       → Divides d form (front ++ decoded_in e (take end units)) (decoded_in e (drop end units))
+
+-- the units up to the place, if there are some, are a part, well-formed and normalized
+abbrev pub IsPassedFront : Encoding → MadeForm → List ℕ → ℕ → Type 0
+IsPassedFront e m units end =
+    0 < end → IsPart e m.reading m.form units end × IsInputNormalized e m.reading m.form (take end units)
 
 -- a character ends at the place, and the units up to it, if there are some, are a part, well-formed and normalized
 pub record IsKeptTo (e : Encoding) (d : Reading) (form : Form) (units : List ℕ) (end : ℕ) : Type 0 where

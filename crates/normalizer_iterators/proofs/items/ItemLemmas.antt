@@ -203,10 +203,6 @@ module _ {I : Type 0} (from : Source I) where
 
 -- ---- the result of a constructor
 
-pub IfOk-both : {A E : Type 0} (r : Result A E) (P Q : A → Type 0) → IfOk r P → IfOk r Q → IfOk r (λ x. P x × Q x)
-IfOk-both (Ok x) P Q p q = (p, q)
-IfOk-both (Err e) P Q p q = tt
-
 module _ {I S : Type 0} (source_gives : I → Option ℕ → I → Type 0) (WillYield : S → List ℕ → Type 0) (StaysShort : S → Type 0) (steps : S → Option (Result ℕ NormalizeError) → S → Type 0)
     (unless : (s : S) (x : List ℕ) → WillYield s x → SpellsUnless steps Memory s x) (always : (s : S) (x : List ℕ) → WillYield s x → StaysShort s → SpellsOk steps s x) (f : ℕ
     → Bool) (d : Reading) (form : Reading → List ℕ → List ℕ) (source : I) where

@@ -1,5 +1,5 @@
 -- Characters that a composing loop passes, in a text that is decomposed.
-use Rattle.std.proofs.Common.{◌≡◌, ℕ, ◌+◌, ◌*◌, ◌<◌, Bool, false, List, [], ◌∷◌, ◌++◌, length, refl, sym, ap, ◌∙◌, subst, arith, Option, Some, None, OnSome, MatchOption, option_to_list, Result, Ok, Err}
+use Rattle.std.proofs.Common.{◌≡◌, ℕ, ◌+◌, ◌*◌, ◌<◌, Bool, List, [], ◌∷◌, ◌++◌, length, refl, sym, ap, ◌∙◌, subst, arith, Option, Some, None, OnSome, MatchOption, option_to_list, Result, Ok, Err}
 use Rattle.std.proofs.Common.{append-nil}
 use Rattle.std.specs.Option.{ForSome}
 use Rattle.std.specs.Iterator.{size, IsFinite}
@@ -9,7 +9,6 @@ use Rattle.normal_forms.specs.Order.{order, insert, is_reorderable}
 use Rattle.normal_forms.specs.Forms.{nfd, normal_form}
 use Rattle.normal_forms.specs.Boundary.{BeginsAtBoundary}
 use Rattle.normal_forms.specs.CompositionByStarters.{is_above, join, compose_after, compose_by_starters}
-use Rattle.normal_forms.specs.ShortRuns.{continues}
 use Rattle.normal_forms.proofs.boundaries.BoundaryLemmas.{nfd-boundary, BeginsWithStarter-from_safely, BeginsAtBoundary-order, BeginsAtBoundary-expand, composed_form-boundary}
 use Rattle.normal_forms.proofs.boundaries.ChunkLemmas.{HasShortRuns-rest}
 use Rattle.normal_forms.proofs.composing.ComposeLemmas.{composed_form, join-none, compose_after-nil, compose_after-starter, compose_by_starters-nil, compose_by_starters-starter}
@@ -44,10 +43,6 @@ pub has_boundary_before : (s : Characters) (b : Bounds) (pairs : List Pair) → 
 has_boundary_before s b pairs suits ignored = record {
   at_boundary = λ c passed. let apart = suits.apart ignored c passed in continues-at_boundary (has_class_form s) (reading_by s ignored []) c apart.at_boundary apart.are_nonempty;
 }
-
-pub all_anew : (s : Characters) (b : Bounds) (ignored : IgnoredCharacters) → PassthroughHasBoundaries s b ignored → (following : Option ℕ) → IfComposingPassthrough s b following
-    → ForSome following (λ c. continues (has_class_form s) (reading_by s ignored []) c ≡ false)
-all_anew s b ignored at_boundary following passed = λ c is. at_boundary.at_boundary c (at_some following (IsComposingPassthrough s b) passed c is)
 
 pub all_apart : (s : Characters) (b : Bounds) (pairs : List Pair) → SuitsLazyComposing s b pairs → (ignored : IgnoredCharacters) (following : Option ℕ) → IfComposingPassthrough s b following
     → ForSome following (IsNormalizedApartIn s pairs ignored)

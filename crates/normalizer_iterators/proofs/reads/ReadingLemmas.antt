@@ -19,7 +19,6 @@ use Rattle.normal_forms.proofs.ordering.OrderLemmas.{insert-starter, order-cons}
 use Rattle.normalizer_tables.specs.Characters.{Characters}
 use Rattle.normalizer_iterators.specs.declared.waiting.WaitingList.{WaitingList}
 use Rattle.normalizer_iterators.specs.LazyReading.{HasClassesFrom}
-use Rattle.normalizer_iterators.specs.ToCome.{reads_left}
 use Rattle.normalizer_iterators.specs.WaitingList.{ordered_text, unordered_text, item_count, reordered_text, AgreesWith}
 
 pub reordered-nothing : (d : Reading) (b : WaitingList) (rest : List ℕ) → ordered_text b ≡ [] → unordered_text b ≡ [] → reordered_text d b rest ≡ order d rest
@@ -153,10 +152,6 @@ module _ {I : Type 0} (from : Source I) (f : ℕ → Bool) (d : Reading) where
       }
 
 -- ---- one character is read ahead
-
-pub reads_left-nearer : (given : Option ℕ) (after before : ℕ) → OnSome given (after < before) → reads_left given after < before + 1
-reads_left-nearer None after before h = omega arith
-reads_left-nearer (Some c) after before h = omega arith
 
 -- `next` was read from the delegate, after those that are buffered
 pub record ReadsAhead {I : Type 0} (from : Source I) (has_class_form : ℕ → Bool) (d : Reading) (first : Option ℕ) (delegate : I)

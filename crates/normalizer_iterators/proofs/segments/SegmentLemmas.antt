@@ -111,19 +111,6 @@ pub ComposedTo-none : (pairs : List Pair) (first : WaitingList) (text : ShortTex
 ComposedTo-none pairs first text composed blocking none =
     record { agrees = λ d agrees. agrees; blocking = λ d agrees. blocking d; composed = λ d agrees by. composed d (ordered_text first); room = omega arith }
 
-pub ComposedTo-more : (pairs : List Pair) (first old new : WaitingList) (text next : ShortText) (c : ℕ) → ComposedTo pairs first old text → ordered_text old ≡ c ∷ ordered_text new
-    → ((d : Reading) → AgreesWith d old → AgreesWith d new)
-    → ((d : Reading) → AgreesWith d old → BlocksBelow d text → BlocksBelow d next)
-    → ((d : Reading) → AgreesWith d old → HasPairsOf pairs d → BlocksBelow d text → (rest : List ℕ) → composition_with d text (c ∷ rest) ≡ composition_with d next rest)
-    → next.len ≤ text.len + 1 → ComposedTo pairs first new next
-ComposedTo-more pairs first old new text next c before is agrees blocking composed room = record {
-  agrees = λ d known. agrees d (before.agrees d known);
-  blocking = λ d known. blocking d (before.agrees d known) (before.blocking d known);
-  composed = λ d known by.
-      sym (composed d (before.agrees d known) by (before.blocking d known) (ordered_text new)) ∙ ap (composition_with d text) (sym is) ∙ before.composed d known by;
-  room = omega (arith, before.room, ap length is);
-}
-
 -- neither ignored characters nor pairs change a class
 pub AgreesWith-reading_by : (s : Characters) (ignored : IgnoredCharacters) (pairs : List Pair) (b : WaitingList) → AgreesWith (reading_by s ignored []) b → AgreesWith (reading_by s Dropped pairs) b
 unfolding AgreesWith

@@ -51,7 +51,7 @@ pub(crate) fn next_passthrough<I: Iterator<Item = char> + Drop>(
     requires empty { ordered_text decomposed.old.waiting ≡ [] }
     ensures { YieldsPassthroughBy I.Iterator bounds decomposed.old result decomposed.new }
 {
-    let read = decomposed.pending.take()?;
+    let read = decomposed.pending?;
     let following = read_from(
         &decomposed.characters,
         bounds.composition,

@@ -136,31 +136,11 @@ row_trail : (o : Option Row) (rs : List ByteRange) → Some rs ≡ option_map (�
 row_trail None rs e = cc
 row_trail (Some r) rs e = (r, refl, cc)
 
-row_none : (o : Option Row) → None ≡ option_map (λ r. r.trail) o → o ≡ None
-row_none None e = refl
-row_none (Some r) e = cc
-
-pub first-none : (bytes : List ℕ) → 0 < length bytes → None ≡ option_map (λ r. r.trail) (row_of (get_or bytes 0 0)) → replacement_step 1 ≡ first_of_utf8 bytes
-first-none [] h e = absurd (omega arith)
-first-none (b ∷ bs) h e = rw (row_none (row_of b) e) refl
-
 pub by_row-short : (r : Row) (b : ℕ) (bs : List ℕ) → matched_count r.trail bs < length r.trail → first_by_row (Some r) b bs ≡ replacement_step (suc (matched_count r.trail bs))
 by_row-short r b bs m = rw (ne_eqb (matched_count r.trail bs) (length r.trail) (λ q. absurd (omega arith))) refl
 
 pub by_row-whole : (r : Row) (b : ℕ) (bs : List ℕ) → matched_count r.trail bs ≡ length r.trail → first_by_row (Some r) b bs ≡ read (scalar_value (b ∷ take (length r.trail) bs)) (suc (length r.trail))
 by_row-whole r b bs m = rw (eq-eqb (matched_count r.trail bs) (length r.trail) m) refl
-
--- a sequence that is cut short, of a first byte that `t` may follow, m of whose places are matched
-pub first-short : (bytes : List ℕ) (t : Trail) (m : ℕ) → 0 < length bytes → Some (trail_ranges t) ≡ option_map (λ r. r.trail) (row_of (get_or bytes 0 0))
-    → m ≡ matched_count (trail_ranges t) (drop 1 bytes) → 1 + m ≤ t.length → replacement_step (1 + m) ≡ first_of_utf8 bytes
-first-short [] t m h e q l = absurd (omega arith)
-first-short (b ∷ bs) t m h e q l =
-    let k = row_trail (row_of b) (trail_ranges t) e in
-    let short : matched_count (trail_ranges t) bs < length (trail_ranges t) = omega (arith, length-trail_ranges t) in
-    sym (ap (λ o. first_by_row o b bs) k.1
-    ∙ by_row-short k.0 b bs (subst (λ x. matched_count x bs < length x) k.2 short)
-    ∙ ap (λ x. replacement_step (suc (matched_count x bs))) (sym k.2)
-    ∙ ap replacement_step (omega arith))
 
 -- the same if all of them are
 pub record IsWhole (bytes : List ℕ) (m : ℕ) : Type 0 where

@@ -1,28 +1,27 @@
-use Rattle.std.proofs.Common.{refl, sym, ap, subst, Err}
+use Rattle.std.proofs.Common.{refl, ap, subst, Err}
 use Rattle.std.specs.Option.{ForSome}
 use Rattle.normalizer_iterators.specs.LazyComposing.{IsNormalizedApartIn}
 use Rattle.normalizer_iterators.specs.Reads.{character_of}
 use Rattle.normalizer_iterators.proofs.items.DecompositionLemmas.{Steps-ended, Steps-read, ready_behind}
 use Rattle.normalizer_iterators.proofs.reads.ReadingLemmas.{HasRead-as, IsReadyAfter-next}
-use Rattle.normalizer_iterators.proofs.passthrough.PassthroughItemLemmas.{all_anew, all_apart, YieldsItself-next, YieldsStarter-next}
+use Rattle.normalizer_iterators.proofs.passthrough.PassthroughItemLemmas.{all_apart, YieldsItself-next, YieldsStarter-next}
 use Rattle.normalizer_iterators.proofs.composition.passing.next_passthrough.Goals as goal
 
 pub next-requires : goal.next-requires
 next-requires g c =
-    let ready = ready_behind g.I.Iterator.can_next g.I.Iterator.remaining c.args.decomposed.now c.in_ok-read.read.character (ap character_of (sym c.in_ok-read.ensures.value)) c.requires.can in
+    let ready = ready_behind g.I.Iterator.can_next g.I.Iterator.remaining c.args.decomposed.now c.in_ok-read.read.character (ap character_of c.in_ok-read.was) c.requires.can in
     ready.0
 
 pub next_chunk-requires : goal.next_chunk-requires
 next_chunk-requires g c =
     let s = c.args.decomposed.now in
-    let pending = ap character_of (sym c.in_ok-read.ensures.value) in
+    let pending = ap character_of c.in_ok-read.was in
     let ready = ready_behind g.I.Iterator.can_next g.I.Iterator.remaining s c.in_ok-read.read.character pending c.requires.can in
     let near = c.next.ensures.goes.on ready.1 in
     record {
-      taken = c.take.ensures.after;
       empty = c.requires.empty;
       at_boundary = s.at_boundary c.in_ok-read.read.character pending;
-      word = s.word c.in_ok-read.read (sym c.in_ok-read.ensures.value);
+      word = s.word c.in_ok-read.read c.in_ok-read.was;
       words = c.read_from-following.ensures.word;
       ready = rw c.read_from-following.ensures.character (IsReadyAfter-next g.I.Iterator _ _ _ near);
       read = (s.delegate, HasRead-as g.I.Iterator _ _ _ _ c.read_from-following.ensures.character c.next.ensures.steps near);
@@ -31,13 +30,13 @@ next_chunk-requires g c =
 pub returns-in_err-read : goal.returns-in_err-read
 returns-in_err-read g c = λ pairs suits here.
     rw c.from_residual.ensures
-    (Steps-ended g.I.Iterator c.args.decomposed.now _ refl refl (ap character_of (sym c.in_err-read.ensures.value))
-    (ap character_of c.take.ensures.after) here.waiting here.waiting)
+    (Steps-ended g.I.Iterator c.args.decomposed.now _ refl refl (ap character_of c.in_err-read.was)
+    (ap character_of c.in_err-read.was) here.waiting here.waiting)
 
 pub returns-then-are_passthrough : goal.returns-then-are_passthrough
 returns-then-are_passthrough g c = λ pairs suits here.
     let s = c.args.decomposed.now in
-    let pending = ap character_of (sym c.in_ok-read.ensures.value) in
+    let pending = ap character_of c.in_ok-read.was in
     let ready = ready_behind g.I.Iterator.can_next g.I.Iterator.remaining s c.in_ok-read.read.character pending c.requires.can in
     let near = c.next.ensures.goes.on ready.1 in
     YieldsItself-next g.I.Iterator pairs s here c.args.bounds suits c.in_ok-read.read.character pending _ _ c.next.ensures.steps near
@@ -45,21 +44,10 @@ returns-then-are_passthrough g c = λ pairs suits here.
     (all_apart s.characters c.args.bounds pairs suits s.ignored _ (c.are_passthrough.ensures.0 c.if-are_passthrough.true)))
     c.read_from-following.ensures.character here.waiting refl refl
 
-pub invariant_of-decomposed-then-are_passthrough : goal.invariant_of-decomposed-then-are_passthrough
-invariant_of-decomposed-then-are_passthrough g c =
-    let s = c.args.decomposed.now in
-    record {
-      suits = s.suits;
-      at_boundary = all_anew s.characters c.args.bounds s.ignored c.requires.at_boundary _ (c.are_passthrough.ensures.0 c.if-are_passthrough.true);
-      word = c.read_from-following.ensures.word;
-      settled = s.settled;
-      classes = s.classes;
-    }
-
 pub returns-in-Ok : goal.returns-in-Ok
 returns-in-Ok g c = λ pairs suits here.
     let s = c.args.decomposed.now in
-    let pending = ap character_of (sym c.in_ok-read.ensures.value) in
+    let pending = ap character_of c.in_ok-read.was in
     let ready = ready_behind g.I.Iterator.can_next g.I.Iterator.remaining s c.in_ok-read.read.character pending c.requires.can in
     let near = c.next.ensures.goes.on ready.1 in
     let read = HasRead-as g.I.Iterator _ _ _ _ c.read_from-following.ensures.character c.next.ensures.steps near in
@@ -69,7 +57,7 @@ returns-in-Ok g c = λ pairs suits here.
 pub returns-in-Err : goal.returns-in-Err
 returns-in-Err g c = λ pairs suits here.
     let s = c.args.decomposed.now in
-    let pending = ap character_of (sym c.in_ok-read.ensures.value) in
+    let pending = ap character_of c.in_ok-read.was in
     let ready = ready_behind g.I.Iterator.can_next g.I.Iterator.remaining s c.in_ok-read.read.character pending c.requires.can in
     let near = c.next.ensures.goes.on ready.1 in
     let read = HasRead-as g.I.Iterator _ _ _ _ c.read_from-following.ensures.character c.next.ensures.steps near in

@@ -6,5 +6,5 @@ use Rattle.normalizer_iterators.proofs.decomposition.Decomposition.new.Goals as 
 pub with_passthrough_bound-characters-requires : goal.with_passthrough_bound-characters-requires
 with_passthrough_bound-characters-requires g c = rw c.new-characters.ensures (IsPassthroughBelow-handed_in c.args.decompositions.now c.args.tables.now c.requires.sound)
 
-pub decomposed-requires-clause-suits : goal.decomposed-requires-clause-suits
-decomposed-requires-clause-suits g c = rw (c.with_passthrough_bound-characters.ensures ∙ c.new-characters.ensures) (SuitsLazyReading-nfd c.args.decompositions.now c.args.tables.now c.requires.sound)
+pub over-requires-clause-suits : goal.over-requires-clause-suits
+over-requires-clause-suits g c = rw (c.with_passthrough_bound-characters.ensures ∙ c.new-characters.ensures) (SuitsLazyReading-nfd c.args.decompositions.now c.args.tables.now c.requires.sound)

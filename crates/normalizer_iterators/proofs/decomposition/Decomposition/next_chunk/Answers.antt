@@ -4,7 +4,7 @@ use Rattle.normalizer_tables.specs.Characters.{has_class_form}
 use Rattle.normalizer_tables.specs.Readings.{reading_by}
 use Rattle.normalizer_iterators.specs.Reads.{character_of}
 use Rattle.normalizer_iterators.specs.WaitingList.{AgreesWith}
-use Rattle.normalizer_iterators.proofs.items.DecompositionLemmas.{at_some}
+use Rattle.normalizer_iterators.proofs.items.DecompositionLemmas.{at_some, nothing_read}
 use Rattle.normalizer_iterators.proofs.reads.ReadingLemmas.{ReadsChunk-alone}
 use Rattle.normalizer_iterators.proofs.decomposition.Decomposition.next_chunk.Goals as goal
 
@@ -27,16 +27,16 @@ invariant_of-self g c =
     }
 
 pub returns-in-Err-clause-err : goal.returns-in-Err-clause-err
-returns-in-Err-clause-err g c = (refl, (rw c.requires.taken refl, c.clear.ensures.ordered), c.in-Err.ensures.err)
+returns-in-Err-clause-err g c = (refl, (refl, c.clear.ensures.ordered), c.in-Err.ensures.err)
 
-pub invariant_of-self-in-Ok : goal.invariant_of-self-in-Ok
+pub invariant_of-self-in-Ok-1 : goal.invariant_of-self-in-Ok-1
 unfolding AgreesWith
-invariant_of-self-in-Ok g c =
+invariant_of-self-in-Ok-1 g c =
     let s = c.args.self.now in
     let chunk = c.in-Ok.ensures.ok c.requires.read.0 c.requires.read.1 in
     record {
       suits = s.suits;
-      at_boundary = at_some (character_of c.in-Ok.pending) (λ b. continues (has_class_form s.characters) (reading_by s.characters s.ignored []) b ≡ false) chunk.at_boundary;
+      at_boundary = at_some (character_of c.read_chunk.new.pending) (λ b. continues (has_class_form s.characters) (reading_by s.characters s.ignored []) b ≡ false) chunk.at_boundary;
       word = c.in-Ok.ensures.words;
       settled = chunk.settled;
       classes = c.in-Ok.ensures.classes;
@@ -48,8 +48,8 @@ invariant_of-self-in-Err g c =
     let s = c.args.self.now in
     record {
       suits = s.suits;
-      at_boundary = s.at_boundary;
-      word = s.word;
+      at_boundary = λ x e. nothing_read _ refl x e;
+      word = λ r e. absurd (cc (e));
       settled = c.clear.ensures.unordered;
       classes = c.clear.ensures.classes (reading_by s.characters s.ignored []);
     }

@@ -1,7 +1,7 @@
-use Rattle.std.proofs.Common.{refl, sym, ap, ◌∙◌, Ok, Err, []}
+use Rattle.std.proofs.Common.{refl, ap, ◌∙◌, Ok, Err, []}
 use Rattle.normalizer_iterators.specs.Reads.{character_of}
 use Rattle.normalizer_iterators.specs.WaitingList.{AgreesWith}
-use Rattle.normalizer_iterators.proofs.items.DecompositionLemmas.{Steps-ended, Steps-front, Steps-read, class-first, nothing_read, ready_behind}
+use Rattle.normalizer_iterators.proofs.items.DecompositionLemmas.{Steps-ended, Steps-front, Steps-read, class-first, ready_behind}
 use Rattle.normalizer_iterators.proofs.reads.ReadingLemmas.{HasRead-as}
 use Rattle.normalizer_tables.specs.Readings.{reading_by}
 use Rattle.normalizer_iterators.proofs.decomposition.Decomposition.next_with_class.Goals as goal
@@ -35,8 +35,8 @@ invariant_of-self-in-Break-1 g c =
     let s = c.args.self.now in
     record {
       suits = s.suits;
-      at_boundary = λ x e. nothing_read _ c.take.ensures.after x e;
-      word = λ r e. cc (e, c.take.ensures.after);
+      at_boundary = s.at_boundary;
+      word = s.word;
       settled = c.pop_front.ensures.unordered ∙ s.settled;
       classes = c.pop_front.ensures.classes (reading_by s.characters s.ignored []) s.classes;
     }
@@ -47,8 +47,8 @@ invariant_of-self-2 g c =
     let s = c.args.self.now in
     record {
       suits = s.suits;
-      at_boundary = λ x e. nothing_read _ c.take.ensures.after x e;
-      word = λ r e. cc (e, c.take.ensures.after);
+      at_boundary = s.at_boundary;
+      word = s.word;
       settled = c.pop_front.ensures.unordered ∙ s.settled;
       classes = c.pop_front.ensures.classes (reading_by s.characters s.ignored []) s.classes;
     }
@@ -58,13 +58,13 @@ returns-in_err-read-clause-steps g c =
     let nothing = c.in_default.ensures.none in
     rw c.from_residual.ensures
     (Steps-ended g.I.Iterator c.args.self.now _ refl refl
-    (ap character_of (sym c.in_err-read.ensures.value)) (ap character_of c.take.ensures.after)
+    (ap character_of c.in_err-read.was) (ap character_of c.in_err-read.was)
     nothing.0 nothing.1)
 
 pub returns-in-Ok-clause-class : goal.returns-in-Ok-clause-class
 returns-in-Ok-clause-class g c =
     let s = c.args.self.now in
-    let pending = ap character_of (sym c.in_ok-read.ensures.value) in
+    let pending = ap character_of c.in_ok-read.was in
     let ready = ready_behind g.I.Iterator.can_next g.I.Iterator.remaining s c.in_ok-read.read.character pending c.requires in
     let near = c.next.ensures.goes.on ready.1 in
     let read = HasRead-as g.I.Iterator _ _ _ _ c.read_from-following.ensures.character c.next.ensures.steps near in
@@ -73,7 +73,7 @@ returns-in-Ok-clause-class g c =
 pub returns-in-Ok-clause-steps : goal.returns-in-Ok-clause-steps
 returns-in-Ok-clause-steps g c =
     let s = c.args.self.now in
-    let pending = ap character_of (sym c.in_ok-read.ensures.value) in
+    let pending = ap character_of c.in_ok-read.was in
     let ready = ready_behind g.I.Iterator.can_next g.I.Iterator.remaining s c.in_ok-read.read.character pending c.requires in
     let near = c.next.ensures.goes.on ready.1 in
     let read = HasRead-as g.I.Iterator _ _ _ _ c.read_from-following.ensures.character c.next.ensures.steps near in
@@ -83,7 +83,7 @@ returns-in-Ok-clause-steps g c =
 pub returns-in-Err-clause-steps : goal.returns-in-Err-clause-steps
 returns-in-Err-clause-steps g c =
     let s = c.args.self.now in
-    let pending = ap character_of (sym c.in_ok-read.ensures.value) in
+    let pending = ap character_of c.in_ok-read.was in
     let ready = ready_behind g.I.Iterator.can_next g.I.Iterator.remaining s c.in_ok-read.read.character pending c.requires in
     let near = c.next.ensures.goes.on ready.1 in
     let read = HasRead-as g.I.Iterator _ _ _ _ c.read_from-following.ensures.character c.next.ensures.steps near in

@@ -1,12 +1,19 @@
-use Rattle.std.proofs.Common.{◌≡◌, false, [], refl}
-use Rattle.normal_forms.specs.ShortRuns.{continues}
+use Rattle.std.proofs.Common.{◌≡◌, false, [], refl, Ok, Err}
+use Rattle.normal_forms.specs.Forms.{nfd}
+use Rattle.normal_forms.specs.ShortRuns.{continues, HasShortRuns}
 use Rattle.normalizer_tables.specs.Characters.{has_class_form}
 use Rattle.normalizer_tables.specs.Readings.{reading_by}
+use Rattle.normalizer_text.specs.DecodingSteps.{Spells}
+use Rattle.normalizer_iterators.specs.Delegate.{HasYieldedLong, MayYield}
+use Rattle.normalizer_iterators.specs.declared.decomposition.Decomposition.{Decomposition}
+use Rattle.normalizer_iterators.specs.NextItem.{IsFormOfSource}
+use Rattle.normalizer_iterators.specs.DecompositionItems.{WillYield, StaysShort, IsLong, DecompositionSteps}
 use Rattle.normalizer_iterators.specs.Reads.{character_of}
 use Rattle.normalizer_iterators.specs.WaitingList.{AgreesWith}
 use Rattle.normalizer_iterators.proofs.items.DecompositionLemmas.{at_some}
 use Rattle.normalizer_iterators.proofs.reads.ReadingLemmas.{HasRead-as, IsReadyAfter-next}
 use Rattle.normalizer_iterators.proofs.items.ToComeLemmas.{HasYieldedLong-start, IsToCome-start, came_start, AreShortToCome-start, short_start_fits, long_start}
+use Rattle.normalizer_iterators.proofs.items.ItemLemmas.{YieldsForm-made, YieldsFormOfRun-decomposition, SpellsOk-decomposition, SpellsUnless-decomposition}
 use Rattle.normalizer_iterators.proofs.decomposition.Decomposition.over.Goals as goal
 
 pub read_on-requires-clause-ready : goal.read_on-requires-clause-ready
@@ -82,3 +89,30 @@ invariant_of-result g c =
       settled = on.settled;
       classes = c.in-Ok.ensures.classes;
     }
+
+pub returns-in-Ok-clause-form : goal.returns-in-Ok-clause-form
+returns-in-Ok-clause-form g c =
+    let gives = g.I.Iterator.next_gives in
+    let s = c.args.characters in
+    let d = reading_by s c.args.ignored [] in
+    let came : Decomposition g.row.I.Denot → Type 0 = IsFormOfSource gives (λ e. WillYield (MayYield gives e)) (nfd d) c.args.delegate in
+    let long : Decomposition g.row.I.Denot → Type 0 = λ it. IsLong gives it → HasYieldedLong gives (has_class_form s) d c.args.delegate in
+    YieldsForm-made gives (WillYield (Spells gives)) (StaysShort gives) (DecompositionSteps g.I.Iterator) (SpellsUnless-decomposition g.I.Iterator) (SpellsOk-decomposition g.I.Iterator)
+    (has_class_form s) d nfd c.args.delegate
+    (λ it. came it × long it) (λ it known. YieldsFormOfRun-decomposition g.I.Iterator (has_class_form s) d (nfd d) c.args.delegate it known.0 known.1)
+    (HasShortRuns (has_class_form s) d) (λ x runs. runs)
+    (Ok _) (returns-in-Ok-clause-text g c) (returns-in-Ok-clause-short g c) (λ x spells short. refl)
+    (returns-in-Ok-clause-came g c, returns-in-Ok-clause-long g c) tt
+
+pub returns-clause-form : goal.returns-clause-form
+returns-clause-form g c =
+    let gives = g.I.Iterator.next_gives in
+    let s = c.args.characters in
+    let d = reading_by s c.args.ignored [] in
+    let came : Decomposition g.row.I.Denot → Type 0 = IsFormOfSource gives (λ e. WillYield (MayYield gives e)) (nfd d) c.args.delegate in
+    let long : Decomposition g.row.I.Denot → Type 0 = λ it. IsLong gives it → HasYieldedLong gives (has_class_form s) d c.args.delegate in
+    YieldsForm-made gives (WillYield (Spells gives)) (StaysShort gives) (DecompositionSteps g.I.Iterator) (SpellsUnless-decomposition g.I.Iterator) (SpellsOk-decomposition g.I.Iterator)
+    (has_class_form s) d nfd c.args.delegate
+    (λ it. came it × long it) (λ it known. YieldsFormOfRun-decomposition g.I.Iterator (has_class_form s) d (nfd d) c.args.delegate it known.0 known.1)
+    (HasShortRuns (has_class_form s) d) (λ x runs. runs)
+    (Err _) tt tt (returns-clause-succeeds g c) tt (returns-clause-refused g c)
