@@ -1,6 +1,5 @@
 -- The bits of sets of characters.
 use Rattle.std.proofs.Common.{◌≡◌, ◌≢◌, ℕ, ◌+◌, ◌*◌, ◌/◌, ◌%◌, ◌<◌, ◌≤◌, ◌⊎◌, ◌&&◌, ◌==◌, Bool, ◌-◌, true, false, inl, inr, length, length-drop, length-take-le, List, [], ◌∷◌, ◌++◌, take, drop, get_or, arith, refl, ap, sym, ◌∙◌, zero-add}
-use Rattle.std.proofs.lemmas.List.Elements.{All-drop, All-take}
 use Rattle.std.specs.Int.{bit_at}
 use Rattle.std.proofs.Math.ListN.{get_or-eq_default}
 use Rattle.std.proofs.lemmas.Nat.Bits.{bit_at-zero}
@@ -8,8 +7,8 @@ use Rattle.std.proofs.lemmas.List.{length-map, get_or-map, get_or-take, get_or-d
 use Rattle.std.proofs.lemmas.List.FromFn.{get_or-map-range_with_len, length-map-range_with_len}
 use Rattle.std.proofs.lemmas.Bool.{cond-false, le-ltb, cases_Bool, cases_lt, and_left, and_right, true≢false}
 use Rattle.std.proofs.lemmas.Bool.Decides.{nat_tests}
-use Rattle.normalizer_sets.specs.CharacterSets.{has, has_bit, may_have, words_at, AreNumbers}
-use Rattle.normalizer_sets.specs.inner.Bits.{all_words, place_of, ArePageNumbers, CharactersOnly, IsKept, IsPlane, IsSet}
+use Rattle.normalizer_sets.specs.CharacterSets.{has, has_bit, may_have, words_at}
+use Rattle.normalizer_sets.specs.inner.Bits.{all_words, place_of, CharactersOnly, IsKept, IsPlane, IsSet}
 
 -- which numbers a set may have
 pub may_have-character : (n : ℕ) → n < 0x110000 → (n < 0xD800) ⊎ (0xDFFF < n) → n ≢ 0xFFFD → may_have n ≡ true
@@ -122,17 +121,6 @@ pub record IsPlaneTo (words left : List ℕ) (n : ℕ) : Type 0 where
   pub long : length left ≡ n
   pub only : (b : ℕ) → b < n → CharactersOnly b (get_or words b 0) (get_or left b 0)
 
-pub IsPlaneTo-more : (words left : List ℕ) (n word : ℕ) → IsPlaneTo words left n → CharactersOnly n (get_or words n 0) word → IsPlaneTo words (left ++ word ∷ []) (n + 1)
-IsPlaneTo-more words left n word so_far here = record {
-  long = (let l = so_far.long in omega (arith, length_push left word));
-  only = λ b below. elim (cases_lt b n) [
-    | inl earlier ↦ rw (get_or_append_left left (word ∷ []) 0 b (let l = so_far.long in omega arith)) (so_far.only b earlier)
-    | inr last ↦
-        let same : b ≡ n = omega arith in
-        rw (same, get_or_push left word 0 n so_far.long) here
-  ];
-}
-
 -- the word of a block
 pub get_or-words_at : (kept numbers : List ℕ) (b number word : ℕ) → b < length numbers → get_or numbers b 0 ≡ number → get_or kept number 0 ≡ word → get_or (words_at kept numbers) b 0 ≡ word
 get_or-words_at kept numbers b number word within at is = get_or-map (λ number. get_or kept number 0) numbers b 0 0 within ∙ ap (λ k. get_or kept k 0) at ∙ is
@@ -149,12 +137,6 @@ surrogate_unset words first is = is.only 0x360 (omega arith) 0 (omega arith) ∙
 
 pub get_or-range : (words : List ℕ) (start end k : ℕ) → k < end - start → get_or (take (end - start) (drop start words)) k 0 ≡ get_or words (start + k) 0
 get_or-range words start end k low = get_or-take (end - start) (drop start words) k 0 low ∙ get_or-drop start words k 0
-
-pub ArePageNumbers-page : (kept numbers : List ℕ) (start end : ℕ) → AreNumbers kept numbers → end - start ≡ 64 → end ≤ 17408 → ArePageNumbers kept (take (end - start) (drop start numbers))
-ArePageNumbers-page kept numbers start end are long within = record {
-  long = length-take-le (end - start) (drop start numbers) (let l = length-drop start numbers in let n = are.long in omega arith) ∙ long;
-  within = All-take (λ n. n < length kept) (end - start) (drop start numbers) (All-drop (λ n. n < length kept) start numbers are.within);
-}
 
 pub get_or-page : (kept numbers : List ℕ) (start end k : ℕ) → end - start ≡ 64 → k < 64 → start + 64 ≤ length numbers
     → get_or (words_at kept (take (end - start) (drop start numbers))) k 0 ≡ get_or (words_at kept numbers) (start + k) 0

@@ -4,7 +4,7 @@ use Rattle.std.specs.Prelude.{All, count_by, Option, Some, None, IfSome}
 use Rattle.std.proofs.lemmas.Bool.{cases_Bool}
 use Rattle.std.proofs.lemmas.List.{drop-drop, drop_all, take_all}
 use Rattle.std.proofs.lemmas.List.Elements.{All-append, All-nil, All-cons, All-head, All-same, All-tail}
-use Rattle.std.proofs.lemmas.List.Sums.{sum_by-append, sum_by-cons}
+use Rattle.std.proofs.lemmas.List.Sums.{sum_by-cons}
 use Rattle.icu_normalizer.specs.DecodingSteps.{steps, IsWellFormed}
 use Rattle.icu_normalizer.specs.Encodings.{Encoding, first_in}
 use Rattle.icu_normalizer.specs.InputCut.{IsErrorAt}
@@ -27,9 +27,6 @@ no_errors [] all = refl
 no_errors (s ∷ ss) all =
     sum_by-cons (λ (x : Step). cond x.is_error 1 0) s ss
     ∙ ap (λ b. cond b 1 0 + count_errors ss) (All-head IsRight s ss all) ∙ omega (arith, no_errors ss (All-tail IsRight s ss all))
-
-pub count_errors-append : (a b : List Step) → count_errors (a ++ b) ≡ count_errors a + count_errors b
-count_errors-append a b = sum_by-append (λ (x : Step). cond x.is_error 1 0) a b
 
 pub one-most : (b : Bool) → cond b 1 0 ≤ 1
 one-most true = omega arith

@@ -57,10 +57,6 @@ leading_length-append f d (c ∷ l) rest h =
     let behind = leading_length-append f d l rest (All-tail (λ m. continues f d m ≡ true) c l h) in
     omega (arith, length-append (d.list c) (expand d l))
 
--- the leading characters that continue have the lists that are counted
-pub length-expand-leading : (f : ℕ → Bool) (d : Reading) (l rest : List ℕ) → AllPass (continues f d) l → DoesNotContinue f d rest → length (expand d l) ≡ leading_length f d (l ++ rest)
-length-expand-leading f d l rest h at_boundary = omega (arith, leading_length-append f d l rest h, leading_length-at_boundary f d rest at_boundary)
-
 -- of a chunk at most this many characters are buffered
 pub chunk_bound : (f : ℕ → Bool) (d : Reading) (c : ℕ) (x : List ℕ) → HasShortRuns f d (c ∷ x) → continues f d c ≡ false → length (d.list c) - 1 + leading_length f d x ≤ buffer_limit
 unfolding HasShortChunks

@@ -1,7 +1,7 @@
 -- The cut and the first mismatch of a text, and of the text with a continuation.
-use Rattle.std.proofs.Common.{◌≡◌, ◌≢◌, ℕ, zero, suc, ◌≤◌, ◌↔◌, List, [], ◌∷◌, ◌++◌, length, take, drop, inl, inr, refl, sym, ap, subst, ◌∙◌, arith}
+use Rattle.std.proofs.Common.{◌≡◌, ◌≢◌, ℕ, ◌≤◌, ◌↔◌, List, [], ◌∷◌, ◌++◌, length, take, drop, inl, inr, refl, sym, ap, subst, ◌∙◌, arith}
 use Rattle.std.proofs.Common.{append_assoc, append-nil, length-append, take-append-drop, length-take-le, take-take, take_at}
-use Rattle.std.proofs.lemmas.Bool.{cases_eq, cases_lt}
+use Rattle.std.proofs.lemmas.Bool.{cases_lt}
 use Rattle.std.proofs.lemmas.List.{take-append-le}
 use Rattle.normal_forms.specs.Reading.{Reading}
 use Rattle.normal_forms.specs.Forms.{Form, normal_form, IsNormalized}
@@ -34,47 +34,6 @@ shorter_common_front x y m n le front = record {
   within_second = (let k = front.within_second in omega arith);
   same = sym (take-take m n x le) ∙ ap (take m) front.same ∙ take-take m n y le;
 }
-
-common_front-cons : (a : ℕ) (x y : List ℕ) (n : ℕ) → IsCommonFront x y n → IsCommonFront (a ∷ x) (a ∷ y) (suc n)
-common_front-cons a x y n front = record {
-  within_first = (let k = front.within_first in omega arith);
-  within_second = (let k = front.within_second in omega arith);
-  same = ap (λ l. a ∷ l) front.same;
-}
-
-common_front-tail : (a b : ℕ) (x y : List ℕ) (n : ℕ) → IsCommonFront (a ∷ x) (b ∷ y) (suc n) → (a ≡ b) × IsCommonFront x y n
-common_front-tail a b x y n front =
-    let same : (a ∷ take n x) ≡ b ∷ take n y = front.same in (
-      cc,
-      record {
-        within_first = (let k : suc n ≤ suc (length x) = front.within_first in omega arith);
-        within_second = (let k : suc n ≤ suc (length y) = front.within_second in omega arith);
-        same = cc;
-      },
-    )
-
-empty_common_front : (x y : List ℕ) → IsCommonFront x y 0
-empty_common_front x y = record { within_first = omega arith; within_second = omega arith; same = refl }
-
--- the longest common front of two lists
-longest_common_front : (x y : List ℕ) → (n : ℕ) × IsCommonFront x y n × ((m : ℕ) → IsCommonFront x y m → m ≤ n)
-longest_common_front [] y = (0, empty_common_front [] y, λ m front. front.within_first)
-longest_common_front (a ∷ x) [] = (0, empty_common_front (a ∷ x) [], λ m front. front.within_second)
-longest_common_front (a ∷ x) (b ∷ y) =
-    elim (cases_eq a b) [
-      | inl e ↦
-          let rest = longest_common_front x y in
-          (suc rest.0, subst (λ c. IsCommonFront (a ∷ x) (c ∷ y) (suc rest.0)) e (common_front-cons a x y rest.0 rest.1), λ m. bound m rest.0 rest.2)
-      | inr ne ↦ (0, empty_common_front (a ∷ x) (b ∷ y), λ m. none ne m)
-    ]
-  where
-    bound : (m n : ℕ) → ((k : ℕ) → IsCommonFront x y k → k ≤ n) → IsCommonFront (a ∷ x) (b ∷ y) m → m ≤ suc n
-    bound zero n longest front = omega arith
-    bound (suc k) n longest front = let le = longest k (common_front-tail a b x y k front).1 in omega arith
-
-    none : a ≢ b → (m : ℕ) → IsCommonFront (a ∷ x) (b ∷ y) m → m ≤ 0
-    none ne zero front = omega arith
-    none ne (suc k) front = absurd (ne (common_front-tail a b x y k front).0)
 
 -- ---- fronts and suffixes of forms
 

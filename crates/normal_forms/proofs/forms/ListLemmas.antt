@@ -1,5 +1,5 @@
 -- Lists: what a list that was split in two ways has in common; facts of each member, by recursion.
-use Rattle.std.proofs.Common.{◌≡◌, ℕ, ◌⊎◌, List, [], ◌∷◌, ◌++◌, refl, sym, ◌∙◌, inl, inr, append-nil}
+use Rattle.std.proofs.Common.{◌≡◌, ℕ, ◌⊎◌, List, [], ◌∷◌, ◌++◌, refl, sym, inl, inr}
 use Rattle.std.proofs.lemmas.List.{append_cancel_left}
 use Rattle.std.specs.List.{AllByRecursion}
 
@@ -17,10 +17,6 @@ split_append (c ∷ u) v (f ∷ q) s e =
 
 pub append_cancel : (u v w : List ℕ) → u ++ v ≡ u ++ w → v ≡ w
 append_cancel u v w e = append_cancel_left u v w e
-
--- a front that leaves everything leaves nothing after it
-pub append_self : (u v : List ℕ) → u ≡ u ++ v → v ≡ []
-append_self u v e = sym (append_cancel u [] v (append-nil u ∙ e))
 
 pub AllByRecursion-append : (P : ℕ → Type 0) (u v : List ℕ) → AllByRecursion P u → AllByRecursion P v → AllByRecursion P (u ++ v)
 AllByRecursion-append P [] v a b = b

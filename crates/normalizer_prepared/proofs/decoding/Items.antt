@@ -209,9 +209,6 @@ run_again r rest fits =
     (λ n. n < 2 ^ 32) four run r.count r.word
     rest fits.0 fits.1
 
-run_field : IsField run_at run_bytes IsRun
-run_field = record { takes = run_takes; again = run_again }
-
 abbrev AreRuns : List Run → Type 0
 AreRuns rs = (are_runs rs ≡ true) × FitsList IsRun rs
 

@@ -152,15 +152,6 @@ unfolding runs
 runs-more words n w below same =
     at_drop_more runs words n 0 below ∙ ap (λ (v : ℕ). joined v (runs (drop (n + 1) words))) same
 
--- a run that is last in a list of runs from the last one to the first
-pub joined-longer : (count w : ℕ) (before after : List Run) → run count w ∷ before ≡ after
-    → run (count + 1) w ∷ before ≡ joined w after
-joined-longer count w before after is = sym (ap (joined w) (sym is) ∙ joined-same count w before)
-
-pub joined-new : (r : Run) (w : ℕ) (before after : List Run) → r.word ≢ w → r ∷ before ≡ after
-    → run 1 w ∷ r ∷ before ≡ joined w after
-joined-new r w before after other is = sym (ap (joined w) (sym is) ∙ joined-other w (r ∷ before) other)
-
 pub runs-last : (words : List ℕ) (n w : ℕ) → n + 1 ≡ length words → get_or words n 0 ≡ w
     → runs (drop n words) ≡ run 1 w ∷ []
 unfolding runs joined

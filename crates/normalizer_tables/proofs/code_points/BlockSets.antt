@@ -1,11 +1,11 @@
 -- The sets of characters that are made of blocks.
-use Rattle.std.proofs.Common.{◌≡◌, ℕ, ◌+◌, ◌*◌, ◌/◌, ◌%◌, ◌^◌, ◌<◌, ◌≤◌, ◌&&◌, ◌==◌, false, inl, inr, List, [], ◌∷◌, ◌++◌, length, get_or, bit_and, bit_or, arith, refl, ap, ◌∙◌}
+use Rattle.std.proofs.Common.{◌≡◌, ℕ, ◌+◌, ◌*◌, ◌/◌, ◌%◌, ◌^◌, ◌<◌, ◌≤◌, ◌&&◌, ◌==◌, false, inl, inr, List, [], length, get_or, bit_and, bit_or, arith, refl, ap, ◌∙◌}
 use Rattle.std.specs.Int.{bit_at}
-use Rattle.std.proofs.lemmas.Bool.{cases_Bool, cases_lt}
+use Rattle.std.proofs.lemmas.Bool.{cases_Bool}
 use Rattle.std.proofs.lemmas.Bool.Decides.{eqb_tells, nat_tests}
 use Rattle.std.proofs.lemmas.Nat.Bits.{and_high, bit_at_set_same, bit_at_set_other}
 use Rattle.std.proofs.lemmas.List.Elements.{All-from_get_or}
-use Rattle.std.proofs.lemmas.List.{get_or-map, get_or_push, get_or_append_left, length_push}
+use Rattle.std.proofs.lemmas.List.{get_or-map}
 use mir.Syntax.{w64}
 use Rattle.normalizer_sets.specs.CharacterSets.{has, has_bit, may_have, words_at, AreNumbers}
 use Rattle.normalizer_sets.proofs.SetLemmas.{IsCandidate-may_have}
@@ -53,18 +53,6 @@ module _ (bits : ℕ) (block : Block) (place places : ℕ) (within : place < 64)
 pub record AreOfBlocks (bits : ℕ) (blocks : List Block) (n : ℕ) (kept : List ℕ) : Type 0 where
   pub long : length kept ≡ n
   pub places : (i : ℕ) → i < n → HasPlacesWithout bits (get_or blocks i []) (get_or kept i 0)
-
-pub AreOfBlocks-more : (bits : ℕ) (blocks : List Block) (n : ℕ) (kept : List ℕ) (places : ℕ) → AreOfBlocks bits blocks n kept → HasPlacesWithout bits (get_or blocks n []) places
-    → AreOfBlocks bits blocks (n + 1) (kept ++ places ∷ [])
-AreOfBlocks-more bits blocks n kept places so_far here = record {
-  long = (let k = so_far.long in omega (arith, length_push kept places));
-  places = λ i below. elim (cases_lt i n) [
-    | inl earlier ↦ rw (get_or_append_left kept (places ∷ []) 0 i (let l = so_far.long in omega arith)) (so_far.places i earlier)
-    | inr last ↦
-        let same : i ≡ n = omega arith in
-        rw (same, get_or_push kept places 0 n (so_far.long)) here
-  ];
-}
 
 -- so the numbers of blocks are those of words
 pub AreNumbers-blocks : (bits : ℕ) (blocks : List Block) (numbers kept : List ℕ) → IsStored blocks numbers (stored_words blocks numbers) → AreOfBlocks bits blocks (length blocks) kept → AreNumbers kept numbers

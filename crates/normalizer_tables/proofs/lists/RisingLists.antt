@@ -1,10 +1,9 @@
 -- Lists in which each element is before the next, and so before all later ones.
-use Rattle.std.proofs.Common.{◌≡◌, ℕ, ◌+◌, ◌<◌, ap, Bool, true, false, List, AllPairs, All, length, get_or, IsTrue, ◌↔◌, refl, inl, inr, arith, add-one, subst, sym, ◌∙◌, zero, suc}
+use Rattle.std.proofs.Common.{◌≡◌, ℕ, ◌+◌, ◌<◌, Bool, true, false, List, AllPairs, All, length, get_or, IsTrue, ◌↔◌, refl, inl, inr, arith, add-one, subst, sym, ◌∙◌, zero, suc}
 use Rattle.std.proofs.Common.{nat_lt, [], ◌∷◌}
 use Rattle.std.proofs.lemmas.Bool.{cases_lt}
 use Rattle.std.proofs.lemmas.Bool.Decides.{nat_tests}
 use Rattle.std.proofs.lemmas.List.Sorted.{IsNonDecreasingBy-from_all_adjacent}
-use Rattle.std.specs.List.Sorted.{IsNonDecreasingBy}
 use Rattle.std.specs.List.{AllAdjacentBelow, IsAllAdjacentAnswer}
 
 module _ {X : Type 0} (P : X → Type 0) (before : X → X → Bool) (trans : (x y z : X) → P y → before x y ≡ true → before y z ≡ true → before x z ≡ true) (xs : List X) (all : All P xs) where
@@ -21,13 +20,6 @@ module _ {X : Type 0} (P : X → Type 0) (before : X → X → Bool) (trans : (x
   pub all_before-decides : (any : X) (r : Bool) → IsAllAdjacentAnswer (λ x y b. b ≡ before x y) xs r → IsTrue r ↔ AllPairs (λ x y. before x y ≡ true) xs
   all_before-decides any true h = (λ _. all_before h, λ _. refl)
   all_before-decides any false h = (λ no. cc, λ rising. h.2 any ∙ rising h.0 (h.0 + 1) any (omega arith) h.1)
-
--- numbers that rise don't fall
-pub non_decreasing : {X : Type 0} (n : X → ℕ) (xs : List X) → AllPairs (λ x y. n x < n y) xs → IsNonDecreasingBy n xs
-non_decreasing n xs rising i j d le within = elim (cases_lt i j) [
-  | inl below ↦ omega (arith, rising i j d below within)
-  | inr above ↦ (let same : i ≡ j = omega arith in omega (arith, ap (λ k. n (get_or xs k d)) same))
-]
 
 -- keys that rise from each element to the next
 rising_from_adjacent : {X : Type 0} (key : X → ℕ) (xs : List X) → AllAdjacentBelow (λ p q. true ≡ nat_lt (key p) (key q)) xs (length xs) → AllPairs (λ r s. key r < key s) xs

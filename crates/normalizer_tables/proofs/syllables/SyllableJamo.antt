@@ -1,6 +1,5 @@
 -- The jamo of Hangul syllables.
 use Rattle.std.proofs.Common.{◌≡◌, ◌≢◌, ℕ, ◌+◌, ◌-◌, ◌/◌, ◌%◌, ◌≤◌, true, false, List, [], ◌∷◌, Some, if◌then◌else◌, ◌==◌, refl, arith, Bool}
-use Rattle.std.specs.List.{AllByRecursion}
 use Rattle.std.proofs.Math.Utf8.{low_scalar}
 use Rattle.std.proofs.lemmas.Bool.Decides.{nat_tests}
 use Rattle.std.specs.Char.{IsScalar}
@@ -30,9 +29,6 @@ by_jamo P c h two three =
       | true ↦ two l v (omega arith, omega arith) (omega arith, omega arith)
       | false ↦ three l v t (omega arith, omega arith) (omega arith, omega arith) (omega arith, omega arith)
     ]
-
-pub jamo_members : (c : ℕ) → is_hangul_syllable c ≡ true → AllByRecursion IsJamo (hangul_decomposition c)
-jamo_members c h = by_jamo (AllByRecursion IsJamo) c h (λ l v first second. (first, (second, tt))) (λ l v t first second third. (first, (second, (third, tt))))
 
 pub jamo_some : (c : ℕ) → is_hangul_syllable c ≡ true → hangul_decomposition c ≢ []
 jamo_some c h = by_jamo (λ x. x ≢ []) c h (λ l v first second e. cc) (λ l v t first second third e. cc)
