@@ -26,12 +26,18 @@
 #include <time.h>
 #include <unistd.h>
 
-/* How long the calls of a sample are to take, in nanoseconds. A call that takes more than SLOW is made once only. */
+/* How long the calls of a sample are to take, in nanoseconds, and those of a sample through C, of which there are more.
+   A call that takes more than SLOW is made once only. */
 #define SAMPLE 20000000u
+#define SAMPLE_THROUGH_C 4000000u
 #define SLOW 250000000u
 #define MOST_TIMES 4000000u
 /* How many times as many rounds as are asked for are made at most, as long as a least time falls. */
 #define MOST_ROUNDS 8
+/* How many samples a pair of cells has at least if the text has more bytes than LONG: each has text and output elsewhere
+   in a page. */
+#define PLACES 12
+#define LONG 100000u
 /* How many times a pair of cells is timed at most while the processor is busy. */
 #define MOST_TRIES 6
 
@@ -216,20 +222,22 @@ struct cell {
 
 #define NO_CALL UINT64_MAX
 
-/* Where text and output are in a page changes a time, too. So each sample reads a copy of the text, and what it
-   allocates is moved by a few lines of the cache: the least time counts. */
+/* Where text and output are in a page, and how far from each other, changes a time, too. So each sample reads a copy of
+   the text, and that and what is allocated after it are moved by a few lines of the cache: the least time counts. */
 static uint64_t spent(const struct cell *cell, size_t times) {
     static size_t moved;
     const struct text *text = cell->text;
     void *before = room_for((1 << 20) + moved);
     uint8_t *bytes = copy_of(text->bytes, text->length);
     uint16_t *units = copy_of(text->units, 2 * text->units_length);
+    void *between = room_for((1 << 20) + moved * 5 % 4096);
     struct text copy = {bytes, text->length, units, text->units_length};
     char nothing;
     struct output output = {&nothing, 0, 0};
     uint64_t begin = now();
     int has_call = cell->library->repeat(cell->form, cell->call, &copy, times, &output);
     uint64_t end = now();
+    free(between);
     free(units);
     free(bytes);
     free(before);
@@ -250,15 +258,15 @@ static void sample(struct cell *cell) {
     cell->steady = cell->all < least - least / 200 ? 0 : cell->steady + 1;
 }
 
-/* Finds how many calls make a sample. */
-static void begin(struct cell *cell) {
+/* Finds how many calls make a sample that takes so long. */
+static void begin(struct cell *cell, uint64_t wanted) {
     for (size_t times = 1; times != cell->times;) {
         cell->times = times;
         cell->none = cell->all = UINT64_MAX;
         sample(cell);
         cell->is_slow = passed(cell) / times > SLOW;
-        if (cell->is_slow || passed(cell) > SAMPLE - SAMPLE / 4) return;
-        times = times * SAMPLE / passed(cell) + 1;
+        if (cell->is_slow || passed(cell) > wanted - wanted / 4) return;
+        times = times * wanted / passed(cell) + 1;
         if (times > 16 * cell->times) times = 16 * cell->times;
         if (times > MOST_TIMES) times = MOST_TIMES;
     }
@@ -331,7 +339,7 @@ static void time_calls(struct text text, size_t rounds, const char *without) {
                 if (is_chosen(&cell, without)) cells[count++] = cell;
             }
     }
-    for (size_t i = 0; i < count; i++) begin(&cells[i]);
+    for (size_t i = 0; i < count; i++) begin(&cells[i], SAMPLE);
     for (size_t i = 0; i < count; i++) cells[i].steady = 0;
     for (size_t round = 0; round < MOST_ROUNDS * rounds; round++)
         for (size_t i = 0; i < count; i++)
@@ -359,15 +367,16 @@ static uint64_t spin(void) {
    are timed on as long as the least time of either falls. */
 static void time_by_turns(struct cell *pair, size_t rounds) {
     pair[0].steady = pair[1].steady = 0;
-    size_t most = MOST_ROUNDS * rounds;
-    for (size_t round = 0; round < most && (pair[0].steady < rounds || pair[1].steady < rounds); round++)
+    size_t least = pair[0].text->length > LONG ? PLACES : 0, most = least + MOST_ROUNDS * rounds;
+    for (size_t round = 0;
+         round < most && (round < least || pair[0].steady < rounds || pair[1].steady < rounds); round++)
         for (size_t i = 0; i < 2; i++) sample(&pair[(round + i) % 2]);
 }
 
 /* Times a call through C and the same call in Rattle. If a spin before or after takes 2 % more than the least one, both
    are timed again; what was sampled before counts too, since a busy processor makes no time less. */
 static void time_pair(struct cell *pair, size_t rounds, uint64_t *least) {
-    for (size_t i = 0; i < 2; i++) begin(&pair[i]);
+    for (size_t i = 0; i < 2; i++) begin(&pair[i], SAMPLE_THROUGH_C);
     for (size_t try = 0; try < MOST_TRIES; try++) {
         uint64_t before = spin();
         time_by_turns(pair, rounds);
