@@ -36,7 +36,7 @@
 #define MOST_ROUNDS 8
 /* How many samples a pair of cells has at least if the text has more bytes than LONG: each has text and output elsewhere
    in a page. */
-#define PLACES 12
+#define PLACES 16
 #define LONG 100000u
 /* How many times a pair of cells is timed at most while the processor is busy. */
 #define MOST_TRIES 6
