@@ -39,7 +39,7 @@
 #define PLACES 16
 #define LONG 100000u
 /* How many times a pair of cells is timed at most while the processor is busy. */
-#define MOST_TRIES 6
+#define MOST_TRIES 2
 
 static const char *const FORM_NAMES[] = {"NFD", "NFC", "NFKD", "NFKC"};
 static const char *const CALL_NAMES[] = {
