@@ -35,13 +35,6 @@ pub(crate) trait Lanes: Copy {
         requires { position + FEWER_LANES ≤ length (units self) }
         ensures { result ≡ leading_below bound (take FEWER_LANES (drop position (units self))) };
 
-    /// Returns the same of the last vector of this kind, from a position in it on.
-    fn last_lanes_below(self, position: usize, bound: u32) -> usize
-        requires vector { FEWER_LANES ≤ length (units self) }
-        requires position { position ≤ length (units self) }
-        requires last { length (units self) ≤ position + FEWER_LANES }
-        ensures { result ≡ leading_below bound (drop position (units self)) };
-
     /// Returns the same of a vector after the first.
     fn more_lanes_below(self, position: usize, bound: u32) -> usize
         requires { position + MORE_LANES ≤ length (units self) }
@@ -108,38 +101,20 @@ fn end_of_few<L: Lanes>(units: L, position: usize, bound: u32) -> usize
     end_of_fewer(units, position + LANES, bound)
 }
 
-/// Returns the same end, if fewer units are left than the first vector holds. Those that a vector doesn't fill are read
-/// with some before them.
+/// Returns the same end, if fewer units are left than the first vector holds.
 #[inline(always)]
 fn end_of_fewer<L: Lanes>(units: L, position: usize, bound: u32) -> usize
     requires { position ≤ length (L.units units) }
     ensures { result ≡ position + leading_below bound (drop position (L.units units)) }
 {
-    let len = units.len();
-    if len < FEWER_LANES {
+    if units.len() - position < FEWER_LANES {
         return end_by_units(units, position, bound);
-    }
-    if len - position <= FEWER_LANES {
-        return position + units.last_lanes_below(position, bound);
     }
     let below = units.fewer_lanes_below(position, bound);
     if below != FEWER_LANES {
         return position + below;
     }
-    end_of_last(units, position + FEWER_LANES, bound)
-}
-
-/// Returns the same end, in the last vector if that goes back to the position.
-#[inline(always)]
-fn end_of_last<L: Lanes>(units: L, position: usize, bound: u32) -> usize
-    requires position { position ≤ length (L.units units) }
-    requires vector { FEWER_LANES ≤ position }
-    ensures { result ≡ position + leading_below bound (drop position (L.units units)) }
-{
-    if units.len() - position <= FEWER_LANES {
-        return position + units.last_lanes_below(position, bound);
-    }
-    end_by_units(units, position, bound)
+    end_by_units(units, position + FEWER_LANES, bound)
 }
 
 /// Returns the same end, unit by unit.
@@ -181,26 +156,6 @@ fn byte_lanes_below<const N: usize>(bytes: &[u8], position: usize, bound: u32) -
     lanes_before_set(vector.simd_ge(Simd::splat(bound)).to_bitmask(), N)
 }
 
-/// Returns the same of the bytes from a position on, which are among the last N.
-#[inline(always)]
-fn last_byte_lanes_below<const N: usize>(bytes: &[u8], position: usize, bound: u32) -> usize
-    requires few { N < 64 }
-    requires vector { N ≤ length bytes.now }
-    requires position { position ≤ length bytes.now }
-    requires last { length bytes.now ≤ position + N }
-    ensures { result ≡ leading_below bound (drop position bytes.now) }
-{
-    let left = bytes.len() - position;
-    let Ok(bound) = u8::try_from(bound) else {
-        return left;
-    };
-    let vector = Simd::<u8, N>::from_slice(&bytes[bytes.len() - N..]);
-    lanes_before_set(
-        vector.simd_ge(Simd::splat(bound)).to_bitmask() >> (N - left),
-        left,
-    )
-}
-
 impl<'a> Lanes for &'a [u8] {
     ghost units = { λ bytes. bytes.now };
 
@@ -225,11 +180,6 @@ impl<'a> Lanes for &'a [u8] {
     }
 
     #[inline(always)]
-    fn last_lanes_below(self, position: usize, bound: u32) -> usize {
-        last_byte_lanes_below::<FEWER_LANES>(self, position, bound)
-    }
-
-    #[inline(always)]
     fn more_lanes_below(self, position: usize, bound: u32) -> usize {
         byte_lanes_below::<MORE_LANES>(self, position, bound)
     }
@@ -247,26 +197,6 @@ fn unit_lanes_below<const N: usize>(units: &[u16], position: usize, bound: u32) 
     };
     let vector = Simd::<u16, N>::from_slice(&units[position..]);
     lanes_before_set(vector.simd_ge(Simd::splat(bound)).to_bitmask(), N)
-}
-
-/// Returns the same of the 16-bit units from a position on, which are among the last N.
-#[inline(always)]
-fn last_unit_lanes_below<const N: usize>(units: &[u16], position: usize, bound: u32) -> usize
-    requires few { N < 64 }
-    requires vector { N ≤ length units.now }
-    requires position { position ≤ length units.now }
-    requires last { length units.now ≤ position + N }
-    ensures { result ≡ leading_below bound (drop position units.now) }
-{
-    let left = units.len() - position;
-    let Ok(bound) = u16::try_from(bound) else {
-        return left;
-    };
-    let vector = Simd::<u16, N>::from_slice(&units[units.len() - N..]);
-    lanes_before_set(
-        vector.simd_ge(Simd::splat(bound)).to_bitmask() >> (N - left),
-        left,
-    )
 }
 
 impl<'a> Lanes for &'a [u16] {
@@ -290,11 +220,6 @@ impl<'a> Lanes for &'a [u16] {
     #[inline(always)]
     fn fewer_lanes_below(self, position: usize, bound: u32) -> usize {
         unit_lanes_below::<FEWER_LANES>(self, position, bound)
-    }
-
-    #[inline(always)]
-    fn last_lanes_below(self, position: usize, bound: u32) -> usize {
-        last_unit_lanes_below::<FEWER_LANES>(self, position, bound)
     }
 
     #[inline(always)]

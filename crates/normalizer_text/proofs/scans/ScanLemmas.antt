@@ -1,5 +1,5 @@
 -- Stretches of units below a bound.
-use Rattle.std.proofs.Common.{◌≡◌, ℕ, zero, suc, ◌+◌, ◌-◌, ◌*◌, ◌/◌, ◌%◌, ◌^◌, ◌<◌, ◌≤◌, ◌⊎◌, Bool, false, not, cond, eqb, leb, ltb, replicate}
+use Rattle.std.proofs.Common.{◌≡◌, ℕ, suc, ◌+◌, ◌-◌, ◌*◌, ◌/◌, ◌%◌, ◌^◌, ◌<◌, ◌≤◌, ◌⊎◌, Bool, false, not, cond, eqb, leb, ltb, replicate}
 use Rattle.std.proofs.Common.{inl, inr, List, [], ◌∷◌, ◌++◌, length, take, drop, get_or, map, arith, refl, ap, sym, subst, ◌∙◌, ⊎_elim}
 use Rattle.std.proofs.Math.Nat.{min-le_left, min-le_right, le-min, le-div_iff_mul-le}
 use Rattle.std.specs.Prelude.{All, min, nat_lt, true, if◌then◌else◌}
@@ -10,8 +10,7 @@ use mir.Syntax.{Width}
 use mir.Val.{Fits, bits, hbits}
 use Rattle.std.proofs.lemmas.Bool.Decides.{nat_tests}
 use Rattle.std.proofs.lemmas.Bool.{cases_lt, ne_eqb, eq-eqb, le-leb, lt-leb, cond-true, cond-false, lt-ltb, le-ltb, true≢false, false_from_ne_true}
-use Rattle.std.proofs.Math.Nat.{div-one, zero-div, pow-suc, mul_comm, div-div-eq-div-mul}
-use Rattle.std.proofs.lemmas.List.{append-nil, length-map, length-drop, take_all, drop-drop, drop-map}
+use Rattle.std.proofs.lemmas.List.{append-nil, length-map}
 use Rattle.std.proofs.lemmas.List.Folds.{prefix_len-append}
 use Rattle.std.proofs.lemmas.Simd.{chunk-drop, length-chunk, get_or-chunk, tops_compared, zip2_splat_left, mask_l-mod, first_set_mask_l}
 use Rattle.std.proofs.lemmas.List.Sums.{prefix_len-drop_all, prefix_len-le-length, prefix_len_stops, prefix_len_is}
@@ -117,44 +116,6 @@ lanes-below_all w bound units at n room fits high =
     sym (prefix_len_is (λ u. ltb u bound) (chunk at n units) n 0 (omega arith)
     (λ k h. lt-ltb _ bound (let f = (fits (at + k)).fits in omega (arith, get_or-chunk at n units k 0 h)))
     (λ h. absurd (omega arith)))
-
--- the lanes of a mask from the s-th on
-mask-drop : (s : ℕ) (ms : List Bool) → mask_l ms / 2 ^ s ≡ mask_l (drop s ms)
-mask-drop zero ms = div-one (mask_l ms)
-mask-drop (suc s) [] = zero-div (2 ^ suc s)
-mask-drop (suc s) (m ∷ ms) =
-    let half : mask_l (m ∷ ms) / 2 ≡ mask_l ms = by m in
-    ap (λ n. mask_l (m ∷ ms) / n) (pow-suc 2 s ∙ mul_comm (2 ^ s) 2) ∙ sym (div-div-eq-div-mul (mask_l (m ∷ ms)) 2 (2 ^ s))
-    ∙ ap (λ n. n / 2 ^ s) half ∙ mask-drop s ms
-  where
-    by : (b : Bool) → (cond b 1 0 + 2 * mask_l ms) / 2 ≡ mask_l ms
-    by false = omega arith
-    by true = omega arith
-
--- the same by the mask of the last lanes, some of which come before the position
-pub lanes-below_last : (w : Width) (bound : ℕ) (units : List ℕ) (n at mask : ℕ) → n ≤ length units → at ≤ length units → length units ≤ at + n → n ≤ 64
-    → mask ≡ mask_l (map (top (hbits w)) (zip2 (λ a b. cond (leb a b) (2 ^ bits w - 1) 0) (replicate n bound) (chunk (length units - n) n units))) % 2 ^ 64
-    → cond (eqb (mask / 2 ^ (n - (length units - at))) 0) (length units - at) (count_trailing_zeros 64 (mask / 2 ^ (n - (length units - at))))
-    ≡ leading_below bound (drop at units)
-lanes-below_last w bound units n at mask room within last few is =
-    let v = chunk (length units - n) n units in
-    let s = n - (length units - at) in
-    let long = length-chunk (length units - n) n units (omega arith) in
-    let marks = tops_compared w leb (replicate n bound) v ∙ zip2_splat_left leb bound n v long in
-    let whole = is ∙ ap (λ l. mask_l l % 2 ^ 64) marks ∙ mask_l-mod (map (λ x. leb bound x) v) 64 (omega (arith, length-map v (λ x. leb bound x))) in
-    let v-is = take_all n (drop (length units - n) units) (omega (arith, length-drop (length units - n) units)) in
-    let rest = ap (drop s) v-is ∙ drop-drop s (length units - n) units ∙ ap (λ k. drop k units) {x = length units - n + s} {y = at} (omega arith) in
-    let lanes = ap (λ m. m / 2 ^ s) whole ∙ mask-drop s (map (λ x. leb bound x) v) ∙ ap mask_l (drop-map (λ x. leb bound x) s v ∙ ap (map (λ x. leb bound x)) rest) in
-    ap (λ m. cond (eqb m 0) (length units - at) (count_trailing_zeros 64 m)) lanes
-    ∙ first_set_mask_l (λ x. leb bound x) (drop at units) (length units - at) (length-drop at units) (omega arith)
-    ∙ prefix_len-same (λ x. not (leb bound x)) (λ x. ltb x bound) (not-leb bound) (drop at units)
-
--- and if the bound is too high for any of them to reach it
-pub lanes-below_none : (w : Width) (bound : ℕ) (units : List ℕ) (at : ℕ) → at ≤ length units → ((k : ℕ) → Fits w (get_or units k 0)) → 2 ^ bits w ≤ bound
-    → length units - at ≡ leading_below bound (drop at units)
-lanes-below_none w bound units at within fits high =
-    lanes-below_all w bound units at (length units - at) (omega arith) fits high
-    ∙ ap (leading_below bound) (take_all (length units - at) (drop at units) (omega (arith, length-drop at units)))
 
 -- ---- units that are characters by themselves
 
