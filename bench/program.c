@@ -1,16 +1,16 @@
 /* Times calls of libraries, by the processor time of this thread:
 
    program calls DATA ROUNDS FILE [LIBRARY]        each call of each library, but the named one, on the text of FILE
-   program through-c DATA ROUNDS FILE LEAST        each call of the C library, and the same in Rattle, on the text
+   program through-c DATA ROUNDS FILE              each call of the C library, and the same in Rattle, on the text
    program row DATA TIMES FILE FORM CALL LIBRARY   one call of a library, so many times, for a profiler
    program start DATA ROUNDS                       building data, and making normalizers over them
    program opening                                 the first time that a process makes a peer's four normalizers
    program child COMMAND..                         a program from its start to its end; by the same input and output
 
    DATA is the folder of UnicodeData.txt, CompositionExclusions.txt and the data prepared of them. `calls` and
-   `through-c` write a line for each cell: form, call, library, nanoseconds of a call, the length and the checksum of
-   what was written, and the nanoseconds of the spin beside it, with a tab between each two. LEAST is the least time of
-   a spin so far, or 0. `opening` writes one for each peer: its name and nanoseconds. */
+   `through-c` write a line for each cell: form, call, library, nanoseconds of a call, and the length and the checksum of
+   what was written, with a tab between each two; for a call through C also its speed in that of the same in Rattle.
+   `opening` writes one for each peer: its name and nanoseconds. */
 #define _POSIX_C_SOURCE 200809L
 #define _DEFAULT_SOURCE
 
@@ -34,12 +34,12 @@
 #define MOST_TIMES 4000000u
 /* How many times as many rounds as are asked for are made at most, as long as a least time falls. */
 #define MOST_ROUNDS 8
-/* How many samples a pair of cells has at least if the text has more bytes than LONG: each has text and output elsewhere
-   in a page. */
-#define PLACES 16
-#define LONG 100000u
-/* How many times a pair of cells is timed at most while the processor is busy. */
-#define MOST_TRIES 2
+/* How many pairs of samples tell the speed of a call through C: an odd number. Each has text and output elsewhere in a
+   page. */
+#define PAIRS 17
+/* The size of a page, and by how much a sample's memory is moved on in it: by lines of the cache and a part of one. */
+#define PAGE 4096
+#define MOVE 656
 
 static const char *const FORM_NAMES[] = {"NFD", "NFC", "NFKD", "NFKC"};
 static const char *const CALL_NAMES[] = {
@@ -216,21 +216,19 @@ struct cell {
     size_t first, times;
     uint64_t none, all; /* the least time of the first calls, none or one, and of so many more */
     size_t steady;      /* how many samples ago the latter last fell by half a percent */
-    uint64_t spun;      /* how long the longer of the spins before and after it took, if it is timed beside them */
     bool is_slow;
 };
 
 #define NO_CALL UINT64_MAX
 
 /* Where text and output are in a page, and how far from each other, changes a time, too. So each sample reads a copy of
-   the text, and that and what is allocated after it are moved by a few lines of the cache: the least time counts. */
-static uint64_t spent(const struct cell *cell, size_t times) {
-    static size_t moved;
+   the text, and that and what is allocated after it are moved. */
+static uint64_t spent(const struct cell *cell, size_t moved, size_t times) {
     const struct text *text = cell->text;
     void *before = room_for((1 << 20) + moved);
     uint8_t *bytes = copy_of(text->bytes, text->length);
     uint16_t *units = copy_of(text->units, 2 * text->units_length);
-    void *between = room_for((1 << 20) + moved * 5 % 4096);
+    void *between = room_for((1 << 20) + moved * 5 % PAGE);
     struct text copy = {bytes, text->length, units, text->units_length};
     char nothing;
     struct output output = {&nothing, 0, 0};
@@ -241,7 +239,6 @@ static uint64_t spent(const struct cell *cell, size_t times) {
     free(units);
     free(bytes);
     free(before);
-    moved = (moved + 656) % 4096;
     return has_call ? end - begin : NO_CALL;
 }
 
@@ -250,12 +247,22 @@ static uint64_t passed(const struct cell *cell) {
     return cell->all > cell->none ? cell->all - cell->none : 1;
 }
 
-/* A virtual machine's clock may jump: a sample of less than a quarter of the least so far is none. */
-static void sample(struct cell *cell) {
-    uint64_t none = spent(cell, cell->first), all = spent(cell, cell->first + cell->times), least = cell->all;
+/* A virtual machine's clock may jump: a sample of less than a quarter of the least so far is none. Returns how long a
+   call of this sample took. */
+static double sample_at(struct cell *cell, size_t moved) {
+    uint64_t none = spent(cell, moved, cell->first), all = spent(cell, moved, cell->first + cell->times);
+    uint64_t least = cell->all;
     if (none < cell->none) cell->none = none;
     if (all < cell->all && (cell->all == UINT64_MAX || all > cell->all / 4)) cell->all = all;
     cell->steady = cell->all < least - least / 200 ? 0 : cell->steady + 1;
+    return all > none ? (double)(all - none) / (double)cell->times : 1.0;
+}
+
+/* A sample elsewhere in a page than the last one. */
+static void sample(struct cell *cell) {
+    static size_t moved;
+    sample_at(cell, moved);
+    moved = (moved + MOVE) % PAGE;
 }
 
 /* Finds how many calls make a sample that takes so long. */
@@ -308,20 +315,21 @@ static struct text form_of(unsigned form, const struct text *text) {
     return text_of(written);
 }
 
-static void say_written(const struct cell *cell) {
+static void say_written(const struct cell *cell, double ratio) {
     size_t room = 16 * (cell->text->length + 1);
     struct output output = {room_of(room), room, 0};
     cell->library->repeat(cell->form, cell->call, cell->text, 1, &output);
     size_t size = is_check(cell->call) ? 0 : cell->call == NORMALIZE_UTF16_TO ? 2 * output.length : output.length;
-    printf("%s\t%s\t%s\t%.2f\t%zu\t%u\t%llu\n", FORM_NAMES[cell->form], CALL_NAMES[cell->call], cell->library->name,
-           (double)passed(cell) / (double)cell->times, output.length, digest_of(output.at, size),
-           (unsigned long long)cell->spun);
+    printf("%s\t%s\t%s\t%.2f\t%zu\t%u", FORM_NAMES[cell->form], CALL_NAMES[cell->call], cell->library->name,
+           (double)passed(cell) / (double)cell->times, output.length, digest_of(output.at, size));
+    if (ratio > 0.0) printf("\t%.4f", ratio);
+    putchar('\n');
     free(output.at);
 }
 
 /* Whether a cell is timed: not the calls of the library of that name, and not those of the C library in Rattle. */
 static bool is_chosen(const struct cell *cell, const char *without) {
-    return cell->library->repeat != direct_repeat && strcmp(cell->library->name, without) && spent(cell, 0) != NO_CALL;
+    return cell->library->repeat != direct_repeat && strcmp(cell->library->name, without) && spent(cell, 0, 0) != NO_CALL;
 }
 
 /* Libraries take turns: a round has a sample of each cell whose least time fell in the last rounds, of which there are
@@ -344,66 +352,44 @@ static void time_calls(struct text text, size_t rounds, const char *without) {
     for (size_t round = 0; round < MOST_ROUNDS * rounds; round++)
         for (size_t i = 0; i < count; i++)
             if (!cells[i].is_slow && cells[i].steady < rounds) sample(&cells[i]);
-    for (size_t i = 0; i < count; i++) say_written(&cells[i]);
+    for (size_t i = 0; i < count; i++) say_written(&cells[i], 0.0);
 }
 
-/* How long a loop of fixed work takes: its least time on a quiet processor, and more if another process uses the same
-   core or its caches. */
-static uint64_t spin(void) {
-    static uint64_t words[4096];
-    uint64_t a = 1, b = 2, c = 3, d = 4, begin = now();
-    for (unsigned round = 0; round < 512; round++)
-        for (size_t i = 0; i < sizeof words / sizeof *words; i += 4) {
-            a = a * 31 + words[i];
-            b = b * 37 + words[i + 1];
-            c = c * 41 + words[i + 2];
-            d = d * 43 + words[i + 3];
-        }
-    words[0] = a ^ b ^ c ^ d;
-    return now() - begin;
+static int by_size(const void *one, const void *other) {
+    double a = *(const double *)one, b = *(const double *)other;
+    return (a > b) - (a < b);
 }
 
-/* Samples of the two cells by turns, so that what changes meanwhile changes both. Each has as many as the other: both
-   are timed on as long as the least time of either falls. */
-static void time_by_turns(struct cell *pair, size_t rounds) {
-    pair[0].steady = pair[1].steady = 0;
-    size_t least = pair[0].text->length > LONG ? PLACES : 0, most = least + MOST_ROUNDS * rounds;
-    for (size_t round = 0;
-         round < most && (round < least || pair[0].steady < rounds || pair[1].steady < rounds); round++)
-        for (size_t i = 0; i < 2; i++) sample(&pair[(round + i) % 2]);
-}
-
-/* Times a call through C and the same call in Rattle. If a spin before or after takes 2 % more than the least one, both
-   are timed again; what was sampled before counts too, since a busy processor makes no time less. */
-static void time_pair(struct cell *pair, size_t rounds, uint64_t *least) {
-    for (size_t i = 0; i < 2; i++) begin(&pair[i], SAMPLE_THROUGH_C);
-    for (size_t try = 0; try < MOST_TRIES; try++) {
-        uint64_t before = spin();
-        time_by_turns(pair, rounds);
-        uint64_t after = spin(), longer = before > after ? before : after;
-        if (before < *least) *least = before;
-        if (after < *least) *least = after;
-        if (!try || longer < pair[0].spun) pair[0].spun = pair[1].spun = longer;
-        if (longer <= *least + *least / 50) return;
+/* The speed of one cell in that of another: the median of pairs of samples. The two of a pair have text and output at
+   the same places, and come one after the other, either one first by turns. So what takes longer than a pair to change,
+   as a processor's clock, changes both. */
+static double speed_in(struct cell *one, struct cell *other) {
+    double ratios[PAIRS];
+    for (size_t i = 0; i < PAIRS; i++) {
+        size_t moved = i * MOVE % PAGE;
+        double before = i % 2 ? 0.0 : sample_at(other, moved), took = sample_at(one, moved);
+        ratios[i] = (i % 2 ? sample_at(other, moved) : before) / took;
     }
+    qsort(ratios, PAIRS, sizeof *ratios, by_size);
+    return ratios[PAIRS / 2];
 }
 
 /* Each call of the C library and the same in Rattle. One call comes before those that are timed, since the first one
    makes the string of Rattle's grow. */
-static void time_through_c(struct text text, size_t rounds, uint64_t least) {
+static void time_through_c(struct text text) {
     for (unsigned form = 0; form < FORMS; form++) {
         struct text in_form = form_of(form, &text);
         for (unsigned call = 0; call < CALLS; call++) {
             if (!is_exported(call)) continue;
-            struct cell pair[2] = {{.library = &LIBRARIES[0]}, {.library = &LIBRARIES[COUNT_OF_LIBRARIES - 1]}};
-            for (size_t i = 0; i < 2; i++) {
-                pair[i].form = form;
-                pair[i].call = call;
-                pair[i].text = is_check(call) ? &in_form : &text;
-                pair[i].first = 1;
-            }
-            time_pair(pair, rounds, &least);
-            for (size_t i = 0; i < 2; i++) say_written(&pair[i]);
+            struct cell through_c = {.form = form, .call = call, .library = &LIBRARIES[0], .first = 1};
+            through_c.text = is_check(call) ? &in_form : &text;
+            struct cell direct = through_c;
+            direct.library = &LIBRARIES[COUNT_OF_LIBRARIES - 1];
+            begin(&through_c, SAMPLE_THROUGH_C);
+            begin(&direct, SAMPLE_THROUGH_C);
+            double ratio = speed_in(&through_c, &direct);
+            say_written(&through_c, ratio);
+            say_written(&direct, 0.0);
         }
     }
 }
@@ -424,7 +410,7 @@ static void time_row(struct text text, size_t times, char **names) {
     if (!cell.library) stop("there is no such library", names[2]);
     cell.none = cell.all = UINT64_MAX;
     sample(&cell);
-    say_written(&cell);
+    say_written(&cell, 0.0);
 }
 
 static uint64_t build_spent(unsigned form, uint64_t times) {
@@ -530,9 +516,8 @@ int main(int count, char **arguments) {
         time_row(text_of(file_of(arguments[4], "")), rounds, arguments + 5);
     } else if (!strcmp(arguments[1], "calls") && count > 4) {
         time_calls(text_of(file_of(arguments[4], "")), rounds, count > 5 ? arguments[5] : "");
-    } else if (!strcmp(arguments[1], "through-c") && count == 6) {
-        uint64_t least = strtoull(arguments[5], NULL, 10);
-        time_through_c(text_of(file_of(arguments[4], "")), rounds, least ? least : UINT64_MAX);
+    } else if (!strcmp(arguments[1], "through-c") && count == 5) {
+        time_through_c(text_of(file_of(arguments[4], "")));
     }
     icu_normalizer_close(&normalizer);
     return 0;
