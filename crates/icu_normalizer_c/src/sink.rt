@@ -111,10 +111,20 @@ impl<'a> Buffer<'a, u16> {
         if let Ok(unit) = u16::try_from(c as u32) {
             self.take([unit]);
         } else {
-            let mut units = [0; 2];
-            let pair: &[u16] = c.encode_utf16(&mut units);
-            self.take(pair);
+            self.take_pair(c);
         }
+    }
+
+    /// Takes a character in as many units as it has. It isn't inlined, so that callers inline the test for one unit.
+    #[inline(never)]
+    fn take_pair(&mut self, c: char)
+        ensures same_reference { self.new.units.ghost_name ≡ self.old.units.ghost_name }
+        ensures room { length self.new.units.now ≡ length self.old.units.now }
+        ensures history { self.new.history.units ≡ self.old.history.units ++ encode_utf16 c }
+    {
+        let mut units = [0; 2];
+        let pair: &[u16] = c.encode_utf16(&mut units);
+        self.take(pair);
     }
 }
 
@@ -164,6 +174,7 @@ impl<'a> Write16 for Buffer<'a, u16> {
         Ok(())
     }
 
+    #[inline(always)]
     fn write_char(&mut self, c: char) -> Result<(), SinkError> {
         self.take_in_utf16(c);
         Ok(())
