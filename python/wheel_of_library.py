@@ -57,8 +57,8 @@ def compiled(prefix, room):
     headers = [f"-I{prefix}/include", f"-I{sysconfig.get_paths()['include']}"]
     library = next(iter(prefix.glob("lib*/**/libicu_normalizer.a")))
     # The names of the library stay in the module, so that its calls of them are direct.
-    words = ["-O3", "-shared", "-fPIC", "-fvisibility=hidden", "-Wl,--exclude-libs,ALL", "-Wall", "-Wextra", *headers]
-    subprocess.run([*compiler, *words, "-o", module, HERE / NAME / "_native.c", library], check=True)
+    words = ["-O3", "-DNDEBUG", "-shared", "-fPIC", "-fvisibility=hidden", "-Wl,--exclude-libs,ALL", "-Wall", "-Wextra"]
+    subprocess.run([*compiler, *words, *headers, "-o", module, HERE / NAME / "_native.c", library], check=True)
     return module
 
 

@@ -15,6 +15,7 @@ typedef struct {
     PyObject_HEAD icu_normalizer handle;
     PyObject *read;     /* returns the data of the files, with which the first call opens the handle */
     PyObject *mismatch; /* the type of mismatches */
+    bool changes[4];    /* by form: whether the last text changed, as the next one is likely to */
 } Normalizer;
 
 typedef enum { NORMALIZE, MAP, VALIDATE } Call;
@@ -96,13 +97,14 @@ static inline bool is_open(Normalizer *self) {
 }
 
 static PyObject *forms[4]; /* their names, by their numbers */
+static const char *const form_names[] = {"NFD", "NFC", "NFKD", "NFKC"};
 
-static bool form_of(PyObject *word, icu_normalizer_form *form) {
+static inline bool form_of(PyObject *word, icu_normalizer_form *form) {
     for (icu_normalizer_form number = 0; number < 4; number++)
         if (word == forms[number]) return *form = number, true;
     if (PyUnicode_Check(word))
         for (icu_normalizer_form number = 0; number < 4; number++)
-            if (!PyUnicode_Compare(word, forms[number])) return *form = number, true;
+            if (!PyUnicode_CompareWithASCIIString(word, form_names[number])) return *form = number, true;
     if (!PyErr_Occurred()) PyErr_SetString(PyExc_ValueError, "the form is not NFC, NFD, NFKC or NFKD");
     return false;
 }
@@ -110,48 +112,45 @@ static bool form_of(PyObject *word, icu_normalizer_form *form) {
 /* Writes the characters of a str as 16-bit units. Surrogates stay as they are. */
 static size_t widen(PyObject *str, uint16_t *units) {
     Py_ssize_t length = PyUnicode_GET_LENGTH(str);
-    size_t count = 0;
+    uint16_t *to = units;
     if (PyUnicode_KIND(str) == PyUnicode_1BYTE_KIND) {
-        const Py_UCS1 *from = PyUnicode_1BYTE_DATA(str);
-        for (Py_ssize_t place = 0; place < length; place++) units[count++] = from[place];
-        return count;
+        for (const Py_UCS1 *from = PyUnicode_1BYTE_DATA(str), *end = from + length; from < end; from++) *to++ = *from;
+        return (size_t)length;
     }
-    const Py_UCS4 *from = PyUnicode_4BYTE_DATA(str);
-    for (Py_ssize_t place = 0; place < length; place++) {
-        Py_UCS4 c = from[place];
-        if (c > 0xFFFF) units[count++] = Py_UNICODE_HIGH_SURROGATE(c);
-        units[count++] = c > 0xFFFF ? Py_UNICODE_LOW_SURROGATE(c) : (uint16_t)c;
+    for (const Py_UCS4 *from = PyUnicode_4BYTE_DATA(str), *end = from + length; from < end; from++) {
+        if (*from > 0xFFFF) *to++ = Py_UNICODE_HIGH_SURROGATE(*from);
+        *to++ = *from > 0xFFFF ? Py_UNICODE_LOW_SURROGATE(*from) : (uint16_t)*from;
     }
-    return count;
+    return (size_t)(to - units);
 }
 
-static bool text_of(PyObject *object, Text *text) {
+/* The units of a str that hasn't them itself. */
+static bool made_wide(PyObject *str, Text *text) {
+    size_t length = (size_t)PyUnicode_GET_LENGTH(str);
+    uint16_t *units = text->own;
+    if (length > SHORT && !(units = text->made = PyMem_RawMalloc(4 * length))) return PyErr_NoMemory(), false;
+    text->units = units;
+    text->length = widen(str, units);
+    return true;
+}
+
+static inline bool text_of(PyObject *object, Text *text) {
     text->object = object;
     text->made = NULL;
     text->is_wide = false;
-    if (PyBytes_Check(object)) {
+    if (!PyUnicode_Check(object)) {
+        if (!PyBytes_Check(object)) return PyErr_SetString(PyExc_TypeError, "a text is a str or bytes"), false;
         text->units = PyBytes_AS_STRING(object);
         text->length = (size_t)PyBytes_GET_SIZE(object);
         return true;
     }
-    if (!PyUnicode_Check(object)) {
-        PyErr_SetString(PyExc_TypeError, "a text is a str or bytes");
-        return false;
-    }
 #if PY_VERSION_HEX < 0x030C0000
     if (PyUnicode_READY(object)) return false;
 #endif
-    size_t length = (size_t)PyUnicode_GET_LENGTH(object);
     text->units = PyUnicode_DATA(object);
-    text->length = length;
-    if (PyUnicode_IS_ASCII(object)) return true;
-    text->is_wide = true;
-    if (PyUnicode_KIND(object) == PyUnicode_2BYTE_KIND) return true;
-    uint16_t *units = text->own;
-    if (length > SHORT && !(units = text->made = PyMem_RawMalloc(4 * length))) return PyErr_NoMemory(), false;
-    text->units = units;
-    text->length = widen(object, units);
-    return true;
+    text->length = (size_t)PyUnicode_GET_LENGTH(object);
+    text->is_wide = !PyUnicode_IS_ASCII(object);
+    return !text->is_wide || PyUnicode_KIND(object) == PyUnicode_2BYTE_KIND || made_wide(object, text);
 }
 
 static inline void release_text(Text *text) {
@@ -187,11 +186,8 @@ static PyObject *object_of(const Text *text, const void *units, size_t length) {
 }
 
 /* The text itself, but for a subclass of str or bytes a copy. */
-static PyObject *same(const Text *text) {
-    if (PyUnicode_CheckExact(text->object) || PyBytes_CheckExact(text->object)) {
-        Py_INCREF(text->object);
-        return text->object;
-    }
+static inline PyObject *same(const Text *text) {
+    if (PyUnicode_CheckExact(text->object) || PyBytes_CheckExact(text->object)) return Py_NewRef(text->object);
     return object_of(text, text->units, text->length);
 }
 
@@ -219,6 +215,11 @@ static icu_normalizer_status cut_of(icu_normalizer *handle, icu_normalizer_form 
     return icu_normalizer_split_utf8(handle, form, text->units, text->length, cut);
 }
 
+static icu_normalizer_status check_of(icu_normalizer *handle, icu_normalizer_form form, const Text *text, bool *is) {
+    if (text->is_wide) return icu_normalizer_is_normalized_utf16(handle, form, text->units, text->length, is);
+    return icu_normalizer_is_normalized_utf8(handle, form, text->units, text->length, is);
+}
+
 static PyObject *short_result(Normalizer *self, Call call, icu_normalizer_form form, const Text *text) {
     uint16_t output[18 * SHORT];
     size_t needed, room = sizeof output / size_of(text);
@@ -229,7 +230,7 @@ static PyObject *short_result(Normalizer *self, Call call, icu_normalizer_form f
     return object_of(text, output, needed);
 }
 
-/* The result in memory of its own, or null if the text is its own form. */
+/* The result in memory of its own, or null if the text is already normalized. */
 static icu_normalizer_status long_result(icu_normalizer *handle, Call call, icu_normalizer_form form, const Text *text,
     char **output, size_t *length) {
     size_t cut = 0, needed = 0, size = size_of(text);
@@ -274,17 +275,17 @@ static PyObject *result(Normalizer *self, Call call, icu_normalizer_form form, c
     return made;
 }
 
-static PyObject *written(PyObject *it, Call call, icu_normalizer_form form, PyObject *object) {
+static PyObject *mapped(PyObject *it, Call call, PyObject *object) {
     Normalizer *self = (Normalizer *)it;
     Text text;
     if (!is_open(self) || !text_of(object, &text)) return NULL;
-    PyObject *made = result(self, call, form, &text);
+    PyObject *made = result(self, call, 0, &text);
     release_text(&text);
     return made;
 }
 
 /* The form and the text that are passed to a call of this name. */
-static bool is_passed(const char *name, Normalizer *self, PyObject *const *passed, Py_ssize_t count,
+static inline bool is_passed(const char *name, Normalizer *self, PyObject *const *passed, Py_ssize_t count,
     icu_normalizer_form *form, Text *text) {
     if (count != 2) {
         PyErr_Format(PyExc_TypeError, "%s() takes a form and a text", name);
@@ -293,32 +294,30 @@ static bool is_passed(const char *name, Normalizer *self, PyObject *const *passe
     return form_of(passed[0], form) && is_open(self) && text_of(passed[1], text);
 }
 
-/* Whether an object is an ASCII str in the form. Most are, and the answer takes less time than the form. */
-static inline bool is_ascii_in_form(Normalizer *self, icu_normalizer_form form, PyObject *object) {
+/* Whether a short text is in the form, if that is likely. Seeing it takes less time than writing the form. */
+static inline bool is_seen_in_form(Normalizer *self, icu_normalizer_form form, const Text *text) {
     bool is = false;
-    if (PyUnicode_CheckExact(object) && PyUnicode_IS_COMPACT_ASCII(object) && PyUnicode_GET_LENGTH(object) < LONG)
-        icu_normalizer_is_normalized_utf8(&self->handle, form, PyUnicode_1BYTE_DATA(object),
-            (size_t)PyUnicode_GET_LENGTH(object), &is);
+    if (!self->changes[form] && text->length <= SHORT) check_of(&self->handle, form, text, &is);
     return is;
 }
 
-static PyObject *normalize(PyObject *self, PyObject *const *passed, Py_ssize_t count) {
+static PyObject *normalize(PyObject *it, PyObject *const *passed, Py_ssize_t count) {
+    Normalizer *self = (Normalizer *)it;
     icu_normalizer_form form;
-    if (count != 2) {
-        PyErr_SetString(PyExc_TypeError, "normalize() takes a form and a text");
-        return NULL;
-    }
-    if (!form_of(passed[0], &form)) return NULL;
-    if (is_ascii_in_form((Normalizer *)self, form, passed[1])) return Py_NewRef(passed[1]);
-    return written(self, NORMALIZE, form, passed[1]);
+    Text text;
+    if (!is_passed("normalize", self, passed, count, &form, &text)) return NULL;
+    PyObject *made = is_seen_in_form(self, form, &text) ? same(&text) : result(self, NORMALIZE, form, &text);
+    self->changes[form] = made != passed[1];
+    release_text(&text);
+    return made;
 }
 
 static PyObject *map(PyObject *self, PyObject *text) {
-    return written(self, MAP, 0, text);
+    return mapped(self, MAP, text);
 }
 
 static PyObject *validate(PyObject *self, PyObject *text) {
-    return written(self, VALIDATE, 0, text);
+    return mapped(self, VALIDATE, text);
 }
 
 static PyObject *is_normalized(PyObject *it, PyObject *const *passed, Py_ssize_t count) {
@@ -327,9 +326,7 @@ static PyObject *is_normalized(PyObject *it, PyObject *const *passed, Py_ssize_t
     Text text;
     bool is = false;
     if (!is_passed("is_normalized", self, passed, count, &form, &text)) return NULL;
-    icu_normalizer_status status = text.is_wide
-        ? icu_normalizer_is_normalized_utf16(&self->handle, form, text.units, text.length, &is)
-        : icu_normalizer_is_normalized_utf8(&self->handle, form, text.units, text.length, &is);
+    icu_normalizer_status status = check_of(&self->handle, form, &text, &is);
     release_text(&text);
     return status ? failed(status) : PyBool_FromLong(is);
 }
@@ -463,9 +460,8 @@ static PyMethodDef functions[] = {
 };
 
 static int add_types(PyObject *module) {
-    const char *names[] = {"NFD", "NFC", "NFKD", "NFKC"};
     for (int number = 0; number < 4; number++)
-        if (!forms[number] && !(forms[number] = PyUnicode_InternFromString(names[number]))) return -1;
+        if (!forms[number] && !(forms[number] = PyUnicode_InternFromString(form_names[number]))) return -1;
     PyObject *type = PyType_FromSpec(&spec);
     if (!type) return -1;
     int status = PyModule_AddObjectRef(module, "Normalizer", type);

@@ -371,7 +371,8 @@ fn run_end<U: Units, N: Forming>(normalizer: &N, units: U, known: RunSoFar) -> R
     whole(run)
 }
 
-/// Returns the run with the step after it, if that is a member of the set or seen to pass. A member isn't looked up.
+/// Returns the run with the step after it, if that is a member of the set or seen to pass. A member isn't looked up. What
+/// is seen to pass is mostly a mark, and low letters may come after it.
 #[inline(always)]
 fn with_member_or_seen<U: Units, N: Forming>(
     normalizer: &N,
@@ -384,12 +385,13 @@ fn with_member_or_seen<U: Units, N: Forming>(
     requires step { step ≡ first_in U.encoding (drop run.end (U.units units)) }
     requires fits { length (U.units units) < 2 ^ 64 }
     ensures passes { IfSome result (GoesOn (N.passthrough_class normalizer.now) U.encoding (U.units units) run) }
-    ensures end { IfSome result (λ longer. longer.end ≡ run.end + step.width) }
+    ensures end { IfSome result (λ longer. run.end < longer.end) }
 {
     if normalizer.passing().contains(step.character) {
         return Some(with_step(run, step, 0));
     }
-    with_seen(normalizer, units, run, step)
+    let seen = with_seen(normalizer, units, run, step)?;
+    Some(with_low(normalizer, units, seen))
 }
 
 /// Returns the step at a place. Sequences of two bytes are decoded apart, which takes fewer instructions.
@@ -420,10 +422,9 @@ fn with_few<U: Units, N: Forming>(normalizer: &N, units: U, run: RunSoFar) -> Ru
             last,
             gaps,
         };
-        let Some(more) = with_member_or_seen(normalizer, units, known, step) else {
+        let Some(longer) = with_member_or_seen(normalizer, units, known, step) else {
             return known;
         };
-        let longer = with_low(normalizer, units, more);
         marks = longer.marks;
         end = longer.end;
         last = longer.last;
@@ -551,10 +552,17 @@ fn short_passthrough_end<U: Units, N: Forming>(normalizer: &N, units: U) -> Pass
     ensures { IsPassedFront U.encoding (N.made_form normalizer.now) (U.units units) result.end }
 {
     let run = with_few(normalizer, units, first_few(normalizer, units));
-    if run.end < units.len() {
-        return passthrough_end_after(normalizer, units, run.marks, run.end, run.last);
+    if run.end == units.len() {
+        return passed_by(normalizer, units, whole(run));
     }
-    passed_by(normalizer, units, whole(run))
+    // What doesn't begin with a character that is seen to pass changes mostly.
+    if run.end == 0 {
+        return Passed {
+            end: 0,
+            is_unordered: false,
+        };
+    }
+    passthrough_end_after(normalizer, units, run.marks, run.end, run.last)
 }
 
 /// Returns the same end, if a part of the run is known. It isn't inlined, so that the loop over what is seen to pass has

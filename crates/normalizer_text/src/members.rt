@@ -25,6 +25,9 @@ const GROUP: usize = 4;
 /// Up to so many 16-bit units are looked up one by one.
 const FEW: usize = 16;
 
+/// Up to so many 16-bit units, pairs aren't looked up together with single units.
+const SHORT: usize = 40;
+
 /// Units whose steps are looked up one after another.
 pub(crate) trait Members: Copy {
     /// The units.
@@ -346,7 +349,34 @@ pub(crate) fn end_of_unit_members(units: &[u16], position: usize, set: &Characte
         if !has_pair_at(units, end, set) {
             return end;
         }
-        end = end_of_mixed_members(units, end + 2, set);
+        end = end_after_pair(units, end + 2, set);
+    }
+    end
+}
+
+/// Returns an end of members after a pair, pairs among them. If few units are left, only pairs are passed over, which
+/// takes fewer instructions.
+#[inline(always)]
+fn end_after_pair(units: &[u16], position: usize, set: &CharacterSet) -> usize
+    requires { IsBoundary first_of_utf16 units.now position }
+    ensures { IsPassedTo (has set.now) Encoding.Utf16 units.now position result }
+{
+    if units.len() - position <= SHORT {
+        end_of_pairs(units, position, set)
+    } else {
+        end_of_mixed_members(units, position, set)
+    }
+}
+
+/// Returns the end of the surrogate pairs from a position on whose characters are members.
+#[inline(always)]
+fn end_of_pairs(units: &[u16], position: usize, set: &CharacterSet) -> usize
+    requires { IsBoundary first_of_utf16 units.now position }
+    ensures { IsPassedTo (has set.now) Encoding.Utf16 units.now position result }
+{
+    let mut end = position;
+    while has_pair_at(units, end, set) {
+        end += 2;
     }
     end
 }

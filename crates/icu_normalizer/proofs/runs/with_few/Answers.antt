@@ -1,5 +1,4 @@
 use Rattle.std.proofs.Common.{arith}
-use Rattle.normalizer_text.proofs.steps.StepBoundaries.{step-some}
 use Rattle.icu_normalizer.proofs.runs.with_few.Goals as goal
 
 pub loop-end-init : goal.loop-end-init
@@ -17,12 +16,8 @@ with_member_or_seen-requires-clause-step g c = c.step_ahead-step.ensures
 pub with_member_or_seen-requires-clause-fits : goal.with_member_or_seen-requires-clause-fits
 with_member_or_seen-requires-clause-fits g c = omega (arith, c.len.ensures)
 
-pub with_low-longer-requires : goal.with_low-longer-requires
-with_low-longer-requires g c = c.in-Some.ensures.passes.0
-
 pub loop-end-preserved : goal.loop-end-preserved
-loop-end-preserved g c = (c.with_low-longer.ensures.0, omega (arith, c.loop-end.invariant.1, c.in-Some.ensures.passes.1, c.with_low-longer.ensures.1))
+loop-end-preserved g c = (c.in-Some.ensures.passes.0, omega (arith, c.loop-end.invariant.1, c.in-Some.ensures.passes.1))
 
 pub loop-end-smaller : goal.loop-end-smaller
-loop-end-smaller g c =
-    omega (arith, c.len.ensures, c.with_low-longer.ensures.1, c.in-Some.ensures.end, step-some g.U.Units.encoding (g.U.Units.units c.args.units) c.loop-end.end c.step_ahead-step.result (omega (arith, c.len.ensures)) c.step_ahead-step.ensures)
+loop-end-smaller g c = omega (arith, c.len.ensures, c.in-Some.ensures.end)

@@ -17,3 +17,11 @@ returns-then-contains-clause-passes g c =
           c.with_step.ensures.starter c.with_step.ensures.mark,
       omega (arith, c.with_step.ensures.end),
     )
+
+pub returns-then-contains-clause-end : goal.returns-then-contains-clause-end
+returns-then-contains-clause-end g c =
+    omega (arith, c.with_step.ensures.end, step-some g.U.Units.encoding (g.U.Units.units c.args.units) c.args.run.end c.args.step c.requires.some c.requires.step)
+
+pub returns-clause-end : goal.returns-clause-end
+returns-clause-end g c =
+    omega (arith, c.in_ok-seen.ensures.end, c.with_low.ensures.1, step-some g.U.Units.encoding (g.U.Units.units c.args.units) c.args.run.end c.args.step c.requires.some c.requires.step)

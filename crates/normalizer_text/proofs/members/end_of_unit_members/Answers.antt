@@ -21,8 +21,8 @@ returns-then-not-has_pair_at c =
     sym (alone-end c.args.set.now c.args.units.now all c.loop-end.end c.end_of_single_members-end.result c.loop-end.invariant.0 c.end_of_single_members-end.ensures (sym c.has_pair_at.ensures ∙ c.if-not-has_pair_at.true))
     ∙ alone.1 ∙ c.loop-end.invariant.1
 
-pub end_of_mixed_members-end-requires : goal.end_of_mixed_members-end-requires
-end_of_mixed_members-end-requires c =
+pub end_after_pair-end-requires : goal.end_after_pair-end-requires
+end_after_pair-end-requires c =
     let all : (k : ℕ) → get_or c.args.units.now k 0 < 0x10000 = λ k. let f = (c.type_inv.units k).fits in omega arith in
     let alone = alone-passed c.args.set.now c.args.units.now all c.loop-end.end c.end_of_single_members-end.result c.loop-end.invariant.0 c.end_of_single_members-end.ensures in
     let passed = pair-passed c.args.set.now c.args.units.now c.end_of_single_members-end.result alone.0 (sym c.has_pair_at.ensures ∙ c.if-not-has_pair_at.false) in
@@ -33,12 +33,12 @@ loop-end-preserved c =
     let all : (k : ℕ) → get_or c.args.units.now k 0 < 0x10000 = λ k. let f = (c.type_inv.units k).fits in omega arith in
     let alone = alone-passed c.args.set.now c.args.units.now all c.loop-end.end c.end_of_single_members-end.result c.loop-end.invariant.0 c.end_of_single_members-end.ensures in
     let passed = pair-passed c.args.set.now c.args.units.now c.end_of_single_members-end.result alone.0 (sym c.has_pair_at.ensures ∙ c.if-not-has_pair_at.false) in
-    (c.end_of_mixed_members-end.ensures.0, c.end_of_mixed_members-end.ensures.2 ∙ passed.2 ∙ alone.1 ∙ c.loop-end.invariant.1)
+    (c.end_after_pair-end.ensures.0, c.end_after_pair-end.ensures.2 ∙ passed.2 ∙ alone.1 ∙ c.loop-end.invariant.1)
 
 pub loop-end-smaller : goal.loop-end-smaller
 loop-end-smaller c =
-    let most = boundary-le Encoding.Utf16 c.args.units.now c.end_of_mixed_members-end.result c.end_of_mixed_members-end.ensures.0 in
-    omega (arith, most, c.end_of_single_members-end.ensures, c.end_of_mixed_members-end.ensures.1)
+    let most = boundary-le Encoding.Utf16 c.args.units.now c.end_after_pair-end.result c.end_after_pair-end.ensures.0 in
+    omega (arith, most, c.end_of_single_members-end.ensures, c.end_after_pair-end.ensures.1)
 
 pub returns : goal.returns
 returns c =

@@ -1,0 +1,75 @@
+"""Times `normalize` beside that of `unicodedata`, on strings of 10 characters: a ratio for each text and form.
+
+times.py [--most RATIO]: the status is 1 if a ratio is greater than that, but for one cell."""
+import argparse
+import statistics
+import sys
+import time
+import timeit
+import unicodedata
+
+import icu_normalizer
+
+FORMS = ("NFC", "NFD", "NFKC", "NFKD")
+TEXTS = {
+    "ASCII": "identifier",
+    "Latin": "caf\xE9 na\xEFve",
+    "Latin, decomposed": "cafe\u0301 \xE0 la",
+    "Vietnamese": "Ti\u1EBFng Vi\u1EC7t",
+    "Vietnamese, decomposed": "Tie\u0302\u0301ng Vi",
+    "Greek": "\u03BA\u03B1\u03BB\u03B7\u03BC\u03AD\u03C1\u03B1 \u03C3",
+    "Cyrillic": "\u043F\u0440\u0438\u0432\u0435\u0442 \u043C\u0438\u0440",
+    "Hebrew": "\u05E9\u05DC\u05D5\u05DD \u05E2\u05D5\u05DC\u05DD!",
+    "Hebrew, pointed": "\u05E9\u05B8\u05DC\u05D5\u05B9\u05DD \u05E8\u05B7\u05D1",
+    "Arabic": "\u0645\u0631\u062D\u0628\u0627 \u0628\u0643\u0645\u061F",
+    "Arabic, one mark": "\u0645\u0631\u062D\u0628\u064B\u0627 \u0628\u0643\u0645",
+    "Arabic, vocalized": "\u0645\u064E\u0631\u0652\u062D\u064E\u0628\u064B\u0627\u0628",
+    "Bengali": "\u09AC\u09BE\u0982\u09B2\u09BE \u09AD\u09BE\u09B7\u09BE",
+    "Devanagari": "\u0928\u092E\u0938\u094D\u0924\u0947 \u0926\u0941\u0928",
+    "Thai": "\u0E2A\u0E27\u0E31\u0E2A\u0E14\u0E35\u0E04\u0E23\u0E31\u0E1A",
+    "Korean": "\uC548\uB155\uD558\uC138\uC694 \uC138\uACC4\uC5EC\uB7EC",
+    "Korean, decomposed": "\u110B\u1161\u11AB\u1102\u1167\u11BC\u1112\u1161\u1109\u1166",
+    "Chinese": "\u4F60\u597D\u4E16\u754C\u6B22\u8FCE\u6765\u5230\u8FD9\u91CC",
+    "Japanese": "\u30AB\u3099\u30AE\u306F\u30D1\u30F3\u3067\u3059\u3088\u306D",
+    "full-width": "\uFF21\uFF22\uFF23\uFF11\uFF12\uFF13\uFF0C\uFF21\uFF22\uFF23",
+    "half-width": "\uFF76\uFF9E\uFF77\uFF78\uFF79\uFF9E\uFF7A\uFF7B\uFF7C\uFF7D",
+    "mathematical": "".join(map(chr, range(0x1D400, 0x1D40A))),
+    "words and emoji": "\U0001F600\U0001F44D ok \U0001F680\U0001F44D!!",
+    "emoji": "".join(map(chr, range(0x1F600, 0x1F60A))),
+    "marks out of order": "a\u0301\u0323b\u0302\u0323c\u0304\u0323d",
+}
+# Each character changes there, one by one: that takes longer, and doesn't count for the status.
+SLOWEST = ("mathematical", "NFKC")
+
+
+def ratio(form, text, samples=51, number=5000):
+    """The processor time of a call beside that of `unicodedata`: the median of samples that are taken in pairs."""
+    own, other = (
+        timeit.Timer("call(form, text)", timer=time.process_time, globals={"call": call, "form": form, "text": text})
+        for call in (icu_normalizer.normalize, unicodedata.normalize)
+    )
+    return statistics.median(own.timeit(number) / other.timeit(number) for _ in range(samples))
+
+
+def main():
+    parser = argparse.ArgumentParser(description=__doc__)
+    parser.add_argument("--most", type=float)
+    most = parser.parse_args().most
+    print(f"{'':22}" + "".join(f"{form:>7}" for form in FORMS))
+    ratios = {}
+    for name, text in TEXTS.items():
+        ratios.update({(name, form): ratio(form, text) for form in FORMS})
+        print(f"{name:22}" + "".join(f"{ratios[name, form]:7.2f}" for form in FORMS), flush=True)
+    slowest = ratios.pop(SLOWEST)
+    greatest = max(ratios.values())
+    verdict = (
+        f"`normalize` on 10 characters takes at most {greatest:.2f} times as long as `unicodedata`, "
+        f"{slowest:.2f} times for {SLOWEST[1]} of {SLOWEST[0]} letters"
+    )
+    if most and greatest > most:
+        sys.exit(verdict)
+    print(verdict)
+
+
+if __name__ == "__main__":
+    main()
