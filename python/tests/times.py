@@ -1,6 +1,6 @@
 """Times `normalize` beside that of `unicodedata`, on strings of 10 characters: a ratio for each text and form.
 
-times.py [--most RATIO]: the status is 1 if a ratio is greater than that, but for one cell."""
+times.py [--most RATIO]: the status is 1 if a ratio is greater than that, but for symbols."""
 import argparse
 import statistics
 import sys
@@ -33,13 +33,17 @@ TEXTS = {
     "Japanese": "\u30AB\u3099\u30AE\u306F\u30D1\u30F3\u3067\u3059\u3088\u306D",
     "full-width": "\uFF21\uFF22\uFF23\uFF11\uFF12\uFF13\uFF0C\uFF21\uFF22\uFF23",
     "half-width": "\uFF76\uFF9E\uFF77\uFF78\uFF79\uFF9E\uFF7A\uFF7B\uFF7C\uFF7D",
-    "mathematical": "".join(map(chr, range(0x1D400, 0x1D40A))),
+    "Gothic": "".join(map(chr, range(0x10330, 0x1033A))),
     "words and emoji": "\U0001F600\U0001F44D ok \U0001F680\U0001F44D!!",
     "emoji": "".join(map(chr, range(0x1F600, 0x1F60A))),
     "marks out of order": "a\u0301\u0323b\u0302\u0323c\u0304\u0323d",
 }
-# Each character changes there, one by one: that takes longer, and doesn't count for the status.
-SLOWEST = ("mathematical", "NFKC")
+# Symbols that all change in some form, one by one: that takes longer, and doesn't count for the status.
+SYMBOLS = {
+    "circled": "".join(map(chr, range(0x2460, 0x246A))),
+    "mathematical": "".join(map(chr, range(0x1D400, 0x1D40A))),
+    "musical": 2 * "".join(map(chr, range(0x1D15E, 0x1D163))),
+}
 
 
 def ratio(form, text, samples=51, number=5000):
@@ -57,14 +61,13 @@ def main():
     most = parser.parse_args().most
     print(f"{'':22}" + "".join(f"{form:>7}" for form in FORMS))
     ratios = {}
-    for name, text in TEXTS.items():
-        ratios.update({(name, form): ratio(form, text) for form in FORMS})
-        print(f"{name:22}" + "".join(f"{ratios[name, form]:7.2f}" for form in FORMS), flush=True)
-    slowest = ratios.pop(SLOWEST)
-    greatest = max(ratios.values())
+    for name, text in {**TEXTS, **SYMBOLS}.items():
+        ratios[name] = [ratio(form, text) for form in FORMS]
+        print(f"{name:22}" + "".join(f"{it:7.2f}" for it in ratios[name]), flush=True)
+    greatest, of_symbols = (max(it for name in texts for it in ratios[name]) for texts in (TEXTS, SYMBOLS))
     verdict = (
-        f"`normalize` on 10 characters takes at most {greatest:.2f} times as long as `unicodedata`, "
-        f"{slowest:.2f} times for {SLOWEST[1]} of {SLOWEST[0]} letters"
+        f"`normalize` takes at most {greatest:.2f} times as long as `unicodedata` on 10 characters, "
+        f"{of_symbols:.2f} times on symbols that change"
     )
     if most and greatest > most:
         sys.exit(verdict)
