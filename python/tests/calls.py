@@ -47,6 +47,9 @@ def forms():
     assert icu_normalizer.first_mismatch("NFC", "\u00E4a\u0308".encode()).offset == 2
     assert icu_normalizer.first_mismatch("NFC", "\U0001F600xa\u0308") == (2, "a", "\u00E4")
     assert icu_normalizer.split("NFC", "\U0001F600xa\u0308") == ("\U0001F600x", "a\u0308")
+    for form in ("NFC", "".join(["NF", "C"])):  # the second is another object
+        for text in ["a\u0308", "\xE4", "\xE4", "a\u0308", "a\u0308", "\U0001F600", "\U0001F600\u0308a"]:
+            assert icu_normalizer.normalize(form, text) == unicodedata.normalize("NFC", text), text
     assert icu_normalizer.normalize("NFC", b"a\xFFb") == "a\uFFFDb".encode()
     assert icu_normalizer.split("NFC", b"ab\xFF") == (b"ab", b"\xFF")
 
