@@ -56,9 +56,12 @@ def compiled(prefix, room):
     compiler = shlex.split(os.environ.get("CC") or "cc")
     headers = [f"-I{prefix}/include", f"-I{sysconfig.get_paths()['include']}"]
     library = next(iter(prefix.glob("lib*/**/libicu_normalizer.a")))
-    # The names of the library stay in the module, so that its calls of them are direct.
+    # The names of the library stay in the module, so that its calls of them are direct. Intel's processors of 2015 to
+    # 2019 are slow where a jump crosses 32 bytes; not each compiler takes the word that keeps jumps apart.
     words = ["-O3", "-DNDEBUG", "-shared", "-fPIC", "-fvisibility=hidden", "-Wl,--exclude-libs,ALL", "-Wall", "-Wextra"]
-    subprocess.run([*compiler, *words, *headers, "-o", module, HERE / NAME / "_native.c", library], check=True)
+    words = [*compiler, *words, *headers, "-o", module, HERE / NAME / "_native.c", library]
+    if subprocess.run([*words, "-Wa,-mbranches-within-32B-boundaries"], capture_output=True).returncode:
+        subprocess.run(words, check=True)
     return module
 
 

@@ -96,15 +96,25 @@ static inline bool is_open(Normalizer *self) {
     return self->handle.is_open || opened(self);
 }
 
-static PyObject *forms[4]; /* their names, by their numbers */
-static const char *const form_names[] = {"NFD", "NFC", "NFKD", "NFKC"};
+/* Until Python 3.12 a str may have been made without its characters. */
+static inline bool is_ready(PyObject *str) {
+#if PY_VERSION_HEX < 0x030C0000
+    if (PyUnicode_READY(str)) return false;
+#endif
+    (void)str;
+    return true;
+}
 
 static inline bool form_of(PyObject *word, icu_normalizer_form *form) {
-    for (icu_normalizer_form number = 0; number < 4; number++)
-        if (word == forms[number]) return *form = number, true;
-    if (PyUnicode_Check(word))
-        for (icu_normalizer_form number = 0; number < 4; number++)
-            if (!PyUnicode_CompareWithASCIIString(word, form_names[number])) return *form = number, true;
+    if (PyUnicode_Check(word) && is_ready(word) && PyUnicode_IS_ASCII(word)) {
+        const Py_UCS1 *name = PyUnicode_1BYTE_DATA(word);
+        Py_ssize_t length = PyUnicode_GET_LENGTH(word);
+        bool has_k = length == 4 && name[2] == 'K';
+        if (length == 3 + has_k && name[0] == 'N' && name[1] == 'F') {
+            if (name[length - 1] == 'C') return *form = has_k ? ICU_NORMALIZER_NFKC : ICU_NORMALIZER_NFC, true;
+            if (name[length - 1] == 'D') return *form = has_k ? ICU_NORMALIZER_NFKD : ICU_NORMALIZER_NFD, true;
+        }
+    }
     if (!PyErr_Occurred()) PyErr_SetString(PyExc_ValueError, "the form is not NFC, NFD, NFKC or NFKD");
     return false;
 }
@@ -118,8 +128,14 @@ static size_t widen(PyObject *str, uint16_t *units) {
         return (size_t)length;
     }
     for (const Py_UCS4 *from = PyUnicode_4BYTE_DATA(str), *end = from + length; from < end; from++) {
-        if (*from > 0xFFFF) *to++ = Py_UNICODE_HIGH_SURROGATE(*from);
-        *to++ = *from > 0xFFFF ? Py_UNICODE_LOW_SURROGATE(*from) : (uint16_t)*from;
+        /* Both units are stored at once, as they may be read. */
+        uint32_t pair = Py_UNICODE_HIGH_SURROGATE(*from) | (uint32_t)Py_UNICODE_LOW_SURROGATE(*from) << 16;
+        if (*from > 0xFFFF) {
+            memcpy(to, &pair, sizeof pair);
+            to += 2;
+        } else {
+            *to++ = (uint16_t)*from;
+        }
     }
     return (size_t)(to - units);
 }
@@ -144,9 +160,7 @@ static inline bool text_of(PyObject *object, Text *text) {
         text->length = (size_t)PyBytes_GET_SIZE(object);
         return true;
     }
-#if PY_VERSION_HEX < 0x030C0000
-    if (PyUnicode_READY(object)) return false;
-#endif
+    if (!is_ready(object)) return false;
     text->units = PyUnicode_DATA(object);
     text->length = (size_t)PyUnicode_GET_LENGTH(object);
     text->is_wide = !PyUnicode_IS_ASCII(object);
@@ -161,23 +175,35 @@ static size_t size_of(const Text *text) {
     return text->is_wide ? sizeof(uint16_t) : 1;
 }
 
+static inline bool is_pair(const uint16_t *units) {
+    return (units[0] & 0xFC00) == 0xD800 && (units[1] & 0xFC00) == 0xDC00;
+}
+
+static void join_pairs(const uint16_t *units, size_t length, Py_UCS4 *to) {
+    for (const uint16_t *end = units + length; units < end; units++) {
+        bool joins = units + 1 < end && is_pair(units);
+        *to++ = joins ? Py_UNICODE_JOIN_SURROGATES(units[0], units[1]) : units[0];
+        units += joins;
+    }
+}
+
 /* The str of 16-bit units. */
 static PyObject *str_of(const uint16_t *units, size_t length) {
-    unsigned bits = 0, surrogates = 0;
-    for (size_t place = 0; place < length; place++) {
-        bits |= units[place];
-        surrogates |= (units[place] & 0xF800) == 0xD800;
+    unsigned bits = 0;
+    size_t pairs = 0;
+    for (size_t place = 0; place < length; place++) bits |= units[place];
+    if (bits >= 0xD800)
+        for (size_t place = 1; place < length; place++) pairs += is_pair(units + place - 1);
+    PyObject *made = PyUnicode_New((Py_ssize_t)(length - pairs), pairs ? 0x10FFFF : bits);
+    if (!made || !length) return made;
+    if (pairs) {
+        join_pairs(units, length, PyUnicode_4BYTE_DATA(made));
+    } else if (bits < 0x100) {
+        for (size_t place = 0; place < length; place++) PyUnicode_1BYTE_DATA(made)[place] = (Py_UCS1)units[place];
+    } else {
+        memcpy(PyUnicode_2BYTE_DATA(made), units, length * sizeof(uint16_t));
     }
-    if (!surrogates && bits < 0x100)
-        return PyUnicode_FromKindAndData(PyUnicode_2BYTE_KIND, units, (Py_ssize_t)length);
-    if (!surrogates) {
-        PyObject *made = PyUnicode_New((Py_ssize_t)length, 0xFFFF);
-        if (made) memcpy(PyUnicode_2BYTE_DATA(made), units, length * sizeof(uint16_t));
-        return made;
-    }
-    const uint16_t one = 1;
-    int order = *(const uint8_t *)&one ? -1 : 1;
-    return PyUnicode_DecodeUTF16((const char *)units, (Py_ssize_t)(length * sizeof(uint16_t)), NULL, &order);
+    return made;
 }
 
 static PyObject *object_of(const Text *text, const void *units, size_t length) {
@@ -460,8 +486,6 @@ static PyMethodDef functions[] = {
 };
 
 static int add_types(PyObject *module) {
-    for (int number = 0; number < 4; number++)
-        if (!forms[number] && !(forms[number] = PyUnicode_InternFromString(form_names[number]))) return -1;
     PyObject *type = PyType_FromSpec(&spec);
     if (!type) return -1;
     int status = PyModule_AddObjectRef(module, "Normalizer", type);

@@ -15,6 +15,11 @@ TEXTS = [
     "a\u0308",
     "e\u0301\u0323 \uFB01 \u1EC7\u212B \uAC01 \u1112\u1161\u11AB",
     "\xE4\xBD",
+    "\u2460\u2461",
+    "\u212B",
+    "\U0001D15E",
+    "x\U0001D15E\U0001D160\xE4\u4E00\U0002F800",
+    "\U0001D400\U0001F600b\U0001D15Ey",
     40 * "a\u0308",
     300 * "\xE4\xBD",
     9000 * "\U0001D15E\xE4",
@@ -55,8 +60,8 @@ def forms():
 
 
 def errors():
-    refused(ValueError, icu_normalizer.normalize, "NFX", "a")
-    refused(ValueError, icu_normalizer.normalize, b"NFC", "a")
+    for form in ["", "N", "NF", "NFX", "NFK", "NFKX", "NFXC", "NXKC", "nfc", "NFCC", "NFC\0", "NF\xC7", b"NFC", 1]:
+        refused(ValueError, icu_normalizer.normalize, form, "a")
     refused(TypeError, icu_normalizer.normalize, "NFC", 1)
     refused(TypeError, icu_normalizer.normalize, "NFC")
     assert icu_normalizer.normalize("NFC", "\uD800") == "\uFFFD" and not icu_normalizer.is_normalized("NFC", "\uD800")
@@ -72,8 +77,9 @@ def errors():
     class Text(str):
         pass
 
-    for text in ("a", "\xE4"):
-        assert type(icu_normalizer.normalize("NFC", Text(text))) is str
+    for text in ("a", "\xE4", "\u4E00", "a\U0001F600"):
+        made = icu_normalizer.normalize("NFC", Text(text))
+        assert type(made) is str and made == text
 
 
 def other_data():

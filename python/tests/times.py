@@ -1,6 +1,6 @@
 """Times `normalize` beside that of `unicodedata`, on strings of 10 characters: a ratio for each text and form.
 
-times.py [--most RATIO]: the status is 1 if a ratio is greater than that, but for symbols."""
+times.py [--most RATIO]: the status is 1 if a ratio is greater than that."""
 import argparse
 import statistics
 import sys
@@ -37,9 +37,7 @@ TEXTS = {
     "words and emoji": "\U0001F600\U0001F44D ok \U0001F680\U0001F44D!!",
     "emoji": "".join(map(chr, range(0x1F600, 0x1F60A))),
     "marks out of order": "a\u0301\u0323b\u0302\u0323c\u0304\u0323d",
-}
-# Symbols that all change in some form, one by one: that takes longer, and doesn't count for the status.
-SYMBOLS = {
+    "ligatures": 2 * "".join(map(chr, range(0xFB00, 0xFB05))),
     "circled": "".join(map(chr, range(0x2460, 0x246A))),
     "mathematical": "".join(map(chr, range(0x1D400, 0x1D40A))),
     "musical": 2 * "".join(map(chr, range(0x1D15E, 0x1D163))),
@@ -60,15 +58,12 @@ def main():
     parser.add_argument("--most", type=float)
     most = parser.parse_args().most
     print(f"{'':22}" + "".join(f"{form:>7}" for form in FORMS))
-    ratios = {}
-    for name, text in {**TEXTS, **SYMBOLS}.items():
-        ratios[name] = [ratio(form, text) for form in FORMS]
-        print(f"{name:22}" + "".join(f"{it:7.2f}" for it in ratios[name]), flush=True)
-    greatest, of_symbols = (max(it for name in texts for it in ratios[name]) for texts in (TEXTS, SYMBOLS))
-    verdict = (
-        f"`normalize` takes at most {greatest:.2f} times as long as `unicodedata` on 10 characters, "
-        f"{of_symbols:.2f} times on symbols that change"
-    )
+    greatest = 0
+    for name, text in TEXTS.items():
+        ratios = [ratio(form, text) for form in FORMS]
+        greatest = max(greatest, *ratios)
+        print(f"{name:22}" + "".join(f"{it:7.2f}" for it in ratios), flush=True)
+    verdict = f"`normalize` takes at most {greatest:.2f} times as long as `unicodedata` on 10 characters"
     if most and greatest > most:
         sys.exit(verdict)
     print(verdict)

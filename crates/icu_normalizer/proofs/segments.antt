@@ -1,3 +1,4 @@
 -- Segments that stay as they are.
+pub mod ApartLemmas
 pub mod KeptLemmas
 pub mod StableLemmas

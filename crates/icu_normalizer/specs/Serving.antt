@@ -25,14 +25,16 @@ pub record ServesDecomposing (s : Characters) (b : Bounds) : Type 0 where
   pub laws : SuitsTexts (reading_by s Dropped []) Decomposing
 
 -- text may be decomposed and composed by them character by character, characters below the bound of decomposing are
--- passthrough, characters that are taken as boundaries have one before them (condition 13), what pairs compose to has
--- their lists (condition 14), and the laws of both forms hold
+-- passthrough, lists are in canonical order, characters that are taken as boundaries have one before them (condition
+-- 13), what pairs compose to has their lists (condition 14), and the laws of both forms hold
 pub record ServesComposing (s : Characters) (b : Bounds) (pairs : List Pair) : Type 0 where
   pub reading : SuitsLazyReading (has_class_form s) (reading_by s Dropped [])
   pub composing : SuitsLazyComposing s b pairs
   pub beginnings : (c : ℕ) → IsScalar c → is_taken_as_boundary s b c ≡ true
       → HasBoundaryBefore (reading_by s Dropped pairs) Composing c
   pub passthrough : IsPassthroughBelow s b.decomposition
+  pub ordered : (c : ℕ) → IsScalar c → order (reading_by s Dropped []) ((reading_by s Dropped []).list c)
+      ≡ (reading_by s Dropped []).list c
   pub results : All (λ p. list_of s [] p.2
       ≡ order (reading_by s Dropped []) (list_of s [] p.1 ++ list_of s [] p.0)) pairs
   pub laws : SuitsTexts (reading_by s Dropped pairs) Composing

@@ -24,7 +24,7 @@ ghost use Rattle.icu_normalizer.specs.inner.WrittenParts.{NothingOffered, Writes
 use crate::boundaries::is_taken_as_boundary;
 use crate::composing_form::ComposingForm;
 use crate::decomposing_form::DecomposingForm;
-use crate::kept::{SeenSegment, Unseen, seen_segment};
+use crate::kept::{SeenSegment, Unseen, has_no_second, seen_segment, short_list_has_no_second};
 use crate::word_classes::{class_if_backward, is_own_from, is_unflagged_or_mark_from};
 use crate::writing::{first_item, write_items};
 use normalizer_iterators::{MarkRun, NormalizeError, SegmentBuffers};
@@ -345,15 +345,21 @@ impl<'a> Forming for ComposingForm<'a> {
     }
 
     #[inline(always)]
-    fn short_list(&self, _character: char) -> Option<ShortList> {
-        None
+    fn short_list(&self, character: char) -> Option<ShortList> {
+        let word = self.characters.word_of(character);
+        let list = self.characters.short_list(character, word)?;
+        if short_list_has_no_second(self.pairs, list) {
+            Some(list)
+        } else {
+            None
+        }
     }
 
     fn form_of_one(&self, character: char) -> Option<Members<'_>> {
         let members = self
             .characters
             .members(character, IgnoredCharacters::Dropped);
-        if members.len() == 1 {
+        if has_no_second(self.pairs, &members) {
             Some(members)
         } else {
             None

@@ -1,20 +1,22 @@
 //! Segments of the composing form that stay as they are, or become one character.
-ghost use Rattle.std.specs.Prelude.{◌≡◌, ◌≢◌, ◌<◌, ◌≤◌, drop, length, true, IfOk, IfSome, None, Some};
+ghost use Rattle.std.specs.Prelude.{◌≡◌, ◌≢◌, ◌<◌, ◌≤◌, drop, length, true, IfOk, IfSome, IsTrue, None, Some};
 ghost use Rattle.normalizer_text.specs.Encodings.{first_in};
 ghost use Rattle.normal_forms.specs.declared.Form.TheVariants.{Composing};
 ghost use Rattle.normalizer_tables.specs.Characters.{word_of};
 ghost use Rattle.normalizer_tables.specs.conditions.PairConditions.{is_composing_passthrough, is_taken_as_boundary};
 ghost use Rattle.normalizer_tables.specs.Readings.{reading_by};
+ghost use Rattle.normalizer_tables.specs.ShortLists.{text_of};
 ghost use Rattle.normalizer_tables.specs.declared.characters.IgnoredCharacters.TheVariants.{Dropped};
-ghost use Rattle.icu_normalizer.specs.inner.Kept.{IsFirstOfTwo, IsKeptCharacter, IsKeptStarter};
+ghost use Rattle.icu_normalizer.specs.inner.Kept.{HasNoSecond, IsFirstOfTwo, IsKeptCharacter, IsKeptStarter};
 ghost use Rattle.icu_normalizer.specs.inner.Kept.{IsMarkAfter, JoinsStarter};
 ghost use Rattle.icu_normalizer.specs.inner.PassthroughRuns.{IsSeenSegment};
 
 use crate::composing_form::ComposingForm;
 use crate::forming::Forming;
 use normalizer_tables::characters::IgnoredCharacters;
-use normalizer_tables::compose;
 use normalizer_tables::members::Members;
+use normalizer_tables::short_list::ShortList;
+use normalizer_tables::{CanonicalCompositions, compose, may_be_second};
 use normalizer_text::{Step, Units};
 
 /// The bits of a word that are 0 if its list is neither two characters nor in a table.
@@ -142,14 +144,30 @@ fn single_segment<U: Units>(
         return None;
     }
     let end = first.width;
-    if end < units.len() && !form.begins(units.step_at(end).character) {
-        return None;
-    }
+    let is_before_run = is_before_run(form, units, end)?;
     Some(SeenSegment {
         end,
-        is_before_run: true,
+        is_before_run,
         becomes: Some(members.at(0)),
     })
+}
+
+/// Returns whether a run may begin at a place, if what comes there begins a new part.
+#[inline(always)]
+fn is_before_run<U: Units>(form: &ComposingForm<'_>, units: U, end: usize) -> Option<bool>
+    ensures { IfSome result (λ _. end < length (U.units units) → is_taken_as_boundary form.now.characters
+        form.now.bounds (first_in U.encoding (drop end (U.units units))).character ≡ true) }
+{
+    if end >= units.len() {
+        return Some(false);
+    }
+    let next = units.step_at(end).character;
+    let word = form.characters.word_of(next);
+    if form.begins_by(next, word) {
+        Some(form.passes_by(next, word))
+    } else {
+        None
+    }
 }
 
 /// Returns whether a list may have one member, by the word: lists in tables are taken to have more.
@@ -198,12 +216,10 @@ fn joined_segment<U: Units>(
         return None;
     }
     let past = end + step.width;
-    if past < len && !form.begins(units.step_at(past).character) {
-        return None;
-    }
+    let is_before_run = is_before_run(form, units, past)?;
     Some(SeenSegment {
         end: past,
-        is_before_run: true,
+        is_before_run,
         becomes: mark.joined,
     })
 }
@@ -324,4 +340,33 @@ fn staying_mark(class: u8) -> Option<Mark>
         class,
         joined: None,
     })
+}
+
+/// Returns whether no member of a list after the first is the second of a pair.
+pub(crate) fn has_no_second(pairs: &CanonicalCompositions, members: &Members<'_>) -> bool
+    ensures { IsTrue result → HasNoSecond pairs.now members.now }
+{
+    let mut place = 1;
+    while place < members.len() {
+        if may_be_second(pairs, members.at(place)) {
+            return false;
+        }
+        place += 1;
+    }
+    true
+}
+
+/// Returns whether the same holds of a short list.
+#[tactic(auto, unfolding(normalizer_tables::specs::ShortLists::text_of))]
+#[inline(always)]
+pub(crate) fn short_list_has_no_second(pairs: &CanonicalCompositions, list: ShortList) -> bool
+    ensures { IsTrue result → HasNoSecond pairs.now (text_of list) }
+{
+    match list {
+        ShortList::One(_) => true,
+        ShortList::Two(_, second) => !may_be_second(pairs, second),
+        ShortList::Three(_, second, third) => {
+            !may_be_second(pairs, second) && !may_be_second(pairs, third)
+        }
+    }
 }

@@ -20,11 +20,22 @@ struct Run {
     is_unordered: bool,
 }
 
-/// The end of what is passed on as it is, and whether a mark out of order ends the run.
+/// What is seen of what comes after a run.
+#[derive(Clone, Copy)]
+enum Next {
+    /// Nothing.
+    Unknown,
+    /// A mark out of order.
+    Unordered,
+    /// A character that changes: it doesn't pass, and begins a new part.
+    Changed,
+}
+
+/// The end of what is passed on as it is, and what is seen of what comes after the run.
 #[derive(Clone, Copy)]
 pub(crate) struct Passed {
     pub(crate) end: usize,
-    is_unordered: bool,
+    next: Next,
 }
 
 /// A run so far: where the marks at its end begin, where it ends, and the class of its last character. `gaps` tells how
@@ -37,10 +48,11 @@ struct RunSoFar {
     gaps: u8,
 }
 
-/// A segment that is seen to become one character: its end, and that character.
+/// A segment that is seen to become one character: its end, whether a run may begin there, and that character.
 #[derive(Clone, Copy)]
 pub(crate) struct Composite {
     pub(crate) end: usize,
+    pub(crate) is_before_run: bool,
     pub(crate) character: char,
 }
 
@@ -555,11 +567,11 @@ fn short_passthrough_end<U: Units, N: Forming>(normalizer: &N, units: U) -> Pass
     if run.end == units.len() {
         return passed_by(normalizer, units, whole(run));
     }
-    // What doesn't begin with a character that is seen to pass changes mostly.
-    if run.end == 0 {
+    // What doesn't begin with two units that are seen to pass mostly changes.
+    if run.end <= 1 {
         return Passed {
             end: 0,
-            is_unordered: false,
+            next: Next::Unknown,
         };
     }
     passthrough_end_after(normalizer, units, run.marks, run.end, run.last)
@@ -597,7 +609,19 @@ fn passed_by<U: Units, N: Forming>(normalizer: &N, units: U, run: Run) -> Passed
 {
     Passed {
         end: end_before(normalizer, units, run),
-        is_unordered: run.is_unordered,
+        next: seen_after(normalizer, run),
+    }
+}
+
+/// Returns what is seen of what comes after a run.
+#[inline(always)]
+fn seen_after<N: Forming>(normalizer: &N, run: Run) -> Next {
+    match run.next {
+        _ if run.is_unordered => Next::Unordered,
+        Some(next)
+            if next.character != char::REPLACEMENT_CHARACTER && normalizer.begins(next.character) =>
+            { Next::Changed }
+        _ => Next::Unknown,
     }
 }
 
@@ -625,6 +649,19 @@ fn end_before<U: Units, N: Forming>(normalizer: &N, units: U, run: Run) -> usize
     run.marks
 }
 
+impl Passed {
+    /// Whether nothing after it is kept.
+    #[inline(always)]
+    fn is_all(self) -> bool {
+        !matches!(self.next, Next::Unknown)
+    }
+
+    #[inline(always)]
+    fn is_unordered(self) -> bool {
+        matches!(self.next, Next::Unordered)
+    }
+}
+
 impl Kept {
     /// What is kept ends there, and nothing is known of the segment after it but whether its marks are out of order.
     #[inline(always)]
@@ -650,10 +687,10 @@ pub(crate) fn kept_end<U: Units, N: Forming>(normalizer: &N, units: U, alternate
         (N.beginning normalizer.now) U.encoding m.reading m.form (drop result.end (U.units units))) }
 {
     let passed = passthrough_end(normalizer, units, alternates);
-    if passed.end < units.len() && normalizer.holds_back() && !passed.is_unordered {
+    if passed.end < units.len() && normalizer.holds_back() && !passed.is_all() {
         return kept_after(normalizer, units, passed.end, alternates);
     }
-    Kept::to(passed.end, passed.is_unordered)
+    Kept::to(passed.end, passed.is_unordered())
 }
 
 /// Returns the same end, which comes after a run.
@@ -675,6 +712,7 @@ fn kept_after<U: Units, N: Forming>(normalizer: &N, units: U, run: usize, altern
         if let Some(character) = seen.becomes {
             let composite = Composite {
                 end: seen.end,
+                is_before_run: seen.is_before_run,
                 character,
             };
             return Kept {
@@ -687,8 +725,8 @@ fn kept_after<U: Units, N: Forming>(normalizer: &N, units: U, run: usize, altern
         if seen.is_before_run {
             let passed = passthrough_end(normalizer, units.after(end), alternates);
             end += passed.end;
-            if passed.is_unordered {
-                return Kept::to(end, true);
+            if passed.is_all() {
+                return Kept::to(end, passed.is_unordered());
             }
         }
     }

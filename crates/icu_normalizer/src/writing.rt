@@ -224,7 +224,7 @@ fn segment_ahead<U: Units, N: Forming>(
         Some(composite) => Segment {
             end: composite.end,
             next: None,
-            is_before_run: true,
+            is_before_run: composite.is_before_run,
         },
         None => front_segment(normalizer, units, first),
     }

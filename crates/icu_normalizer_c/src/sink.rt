@@ -108,23 +108,26 @@ impl<'a> Buffer<'a, u16> {
         ensures room { length self.new.units.now ≡ length self.old.units.now }
         ensures history { self.new.history.units ≡ self.old.history.units ++ encode_utf16 c }
     {
-        if let Ok(unit) = u16::try_from(c as u32) {
-            self.take([unit]);
+        if (c as u32) < 0x10000 {
+            self.take([c as u16]);
         } else {
             self.take_pair(c);
         }
     }
 
-    /// Takes a character in as many units as it has. It isn't inlined, so that callers inline the test for one unit.
+    /// Takes a character that has two units in UTF-16. It isn't inlined, so that callers inline the test for one unit.
     #[inline(never)]
     fn take_pair(&mut self, c: char)
+        requires { 0x10000 ≤ c }
         ensures same_reference { self.new.units.ghost_name ≡ self.old.units.ghost_name }
         ensures room { length self.new.units.now ≡ length self.old.units.now }
         ensures history { self.new.history.units ≡ self.old.history.units ++ encode_utf16 c }
     {
-        let mut units = [0; 2];
-        let pair: &[u16] = c.encode_utf16(&mut units);
-        self.take(pair);
+        let rest = c as u32 - 0x10000;
+        self.take([
+            (0xD800 + rest / 0x400) as u16,
+            (0xDC00 + rest % 0x400) as u16,
+        ]);
     }
 }
 

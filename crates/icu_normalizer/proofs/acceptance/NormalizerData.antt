@@ -54,11 +54,13 @@ ServesDecomposing-met s plain accepted =
 pub ServesComposing-met : (s : Characters) (pairs : List Pair) → s.is_mapper ≡ false → SuitsComposing (s, pairs) → ServesComposing s (bounds_of s.decompositions) pairs
 ServesComposing-met s pairs plain accepted =
     let parts = parts_met s pairs accepted in
+    let in_order = met (characters_alone s) decomposing_conditions Order parts.0 refl in
     record {
-      reading = SuitsLazyReading-sound s _ (met (characters_alone s) decomposing_conditions Order parts.0 refl);
+      reading = SuitsLazyReading-sound s _ in_order;
       composing = SuitsLazyComposing-met s pairs parts.0 parts.1;
       beginnings = HasBoundaryBefore-taken s (bounds_of s.decompositions) pairs (SuitsLazyComposing-met s pairs parts.0 parts.1).starters parts.1;
       passthrough = IsPassthroughBelow-accepted s (bounds_of s.decompositions) parts.0;
+      ordered = list_ordered s (bounds_of s.decompositions) in_order;
       results = results_ordered s (bounds_of s.decompositions) pairs plain parts.1;
       laws = SuitsTexts-accepted_pairs s (bounds_of s.decompositions) pairs parts.0 plain parts.1 Composing;
     }

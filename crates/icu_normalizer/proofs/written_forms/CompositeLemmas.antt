@@ -11,9 +11,9 @@ use Rattle.icu_normalizer.specs.inner.PassthroughRuns.{IsComposite, IsSeenSegmen
 
 module _ (beginning : ℕ → Bool) (e : Encoding) (d : Reading) (form : Form) where
   -- it was seen while it was read
-  pub IsComposite-seen : (units : List ℕ) (end c : ℕ) → IsSeenSegment beginning e d form units end (Some c)
-      → IsComposite beginning e d form units (record { end = end; character = c })
-  IsComposite-seen units end c seen = record { segment = seen.segment; form_is = seen.one }
+  pub IsComposite-seen : (units : List ℕ) (c : Composite) → IsSeenSegment beginning e d form units c.end (Some c.character)
+      → IsComposite beginning e d form units c
+  IsComposite-seen units c seen = record { segment = seen.segment; form_is = seen.one }
 
   -- one at a place, counted in what follows another
   pub composite-drop : (units rest : List ℕ) (position end : ℕ) (o : Option Composite) → rest ≡ drop position units → IfSome o (IsComposite beginning e d form (drop end rest))

@@ -1,6 +1,7 @@
 -- Starters and marks that stay as they are.
-use Rattle.std.specs.Prelude.{◌≡◌, ℕ, List, ◌<◌, ◌≤◌, ◌⊎◌, false, [], ◌∷◌, IfSome, MatchOption, Some, None}
+use Rattle.std.specs.Prelude.{◌≡◌, ℕ, suc, List, ◌<◌, ◌≤◌, ◌⊎◌, false, [], ◌∷◌, IfSome, MatchOption, Some, None, slice_get}
 use Rattle.normal_forms.specs.Reading.{Reading, ReadsAsItself}
+use Rattle.normalizer_tables.specs.Pairs.{Pair, may_be_second}
 use Rattle.normalizer_text.specs.declared.decoding_step.Step.{Step}
 use Rattle.icu_normalizer.specs.declared.kept.KeptStarter.{KeptStarter}
 use Rattle.icu_normalizer.specs.declared.kept.Mark.{Mark}
@@ -49,3 +50,7 @@ pub record JoinsStarter (d : Reading) (r : KeptStarter) (s : Step) (c : ℕ) : T
 -- it is a mark that stays, or joins the starter
 abbrev pub IsMarkAfter : Reading → KeptStarter → ℕ → Step → Mark → Type 0
 IsMarkAfter d r last s mark = MatchOption mark.joined (StaysMark d r last s mark.class) (JoinsStarter d r s)
+
+-- no member of x after the first is the second of a pair
+abbrev pub HasNoSecond : List Pair → List ℕ → Type 0
+HasNoSecond pairs x = (i c : ℕ) → slice_get x (suc i) ≡ Some c → may_be_second pairs c ≡ false

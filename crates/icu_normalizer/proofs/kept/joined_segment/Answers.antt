@@ -1,9 +1,7 @@
-use Rattle.std.proofs.Common.{◌+◌, arith, ap, sym, ◌∙◌}
-use Rattle.normalizer_tables.specs.conditions.PairConditions.{is_taken_as_boundary}
+use Rattle.std.proofs.Common.{◌+◌, arith, ap, sym}
 use Rattle.normalizer_text.proofs.steps.StepBoundaries.{step-some}
 use Rattle.icu_normalizer.proofs.segments.KeptLemmas.{IsSeenSegment-joined}
 use Rattle.icu_normalizer.proofs.kept.joined_segment.Goals as goal
-use Rattle.icu_normalizer.proofs.kept.joined_segment.Goals.{else-past-len-via-then-past-len+else-not-begins, else-past-len-via-else-past-len}
 
 pub overflow_add-past : goal.overflow_add-past
 overflow_add-past g c =
@@ -15,9 +13,5 @@ returns g c =
     let at = c.if-end-first.false in
     IsSeenSegment-joined _ f.serves.composing.starters f.serves.laws.laws.2 _ _ c.args.first c.args.step c.requires.some c.requires.first
     (rw (sym at) c.requires.more) (rw (sym at) c.requires.step) _ _ (ap (λ n. n + c.args.step.width) at)
-    (elim c.else-past-len.branch [
-      | else-past-len-via-then-past-len+else-not-begins w ↦
-          λ _. ap (λ s. is_taken_as_boundary f.characters f.bounds s.character) (sym w.step_at.ensures) ∙ sym w.begins.ensures ∙ w.if-not-begins.false
-      | else-past-len-via-else-past-len w ↦ λ more. absurd (omega (arith, c.len-len.ensures, w.if-past-len.false))
-    ])
+    c.in_ok-is_before_run.ensures
     c.args.starter c.requires.starter c.args.mark.joined c.requires.joins c.requires.joined

@@ -15,7 +15,7 @@ seen_segment-requires g c = rw c.after-rest.ensures (omega (arith, c.len.ensures
 
 pub returns-in-Some-clause-composite : goal.returns-in-Some-clause-composite
 returns-in-Some-clause-composite g c =
-    IsComposite-seen _ _ _ _ _ _ _ (rw (c.in-Some.is, c.after-rest.ensures) at c.in-Ok.ensures)
+    IsComposite-seen _ _ _ _ _ _ (rw (c.in-Some.is, c.after-rest.ensures) at c.in-Ok.ensures)
 
 pub overflow_add-end : goal.overflow_add-end
 overflow_add-end g c =
@@ -38,14 +38,14 @@ overflow_add-end-then-seen g c =
     let most = IsKeptTo-le _ _ _ _ _ all in
     omega (arith, c.len.ensures)
 
-pub returns-then-passed-clause-kept : goal.returns-then-passed-clause-kept
-returns-then-passed-clause-kept g c =
+pub returns-then-is_all-clause-kept : goal.returns-then-is_all-clause-kept
+returns-then-is_all-clause-kept g c =
     let so_far = IsKeptTo-more _ _ _ _ _ _ _ c.after-rest.ensures c.loop-end.invariant
     (λ _. (IsPart-segment _ _ _ _ _ c.passthrough_is_normalized_apart.ensures.begins _ c.in-Ok.ensures.segment, c.in-Ok.ensures.own c.in_default-becomes.is)) in
-    rw c.to-then-passed.ensures.end (IsKeptTo-more _ _ _ _ _ _ _ c.after.ensures so_far c.passthrough_end-passed.ensures)
+    rw c.to-then-is_all.ensures.end (IsKeptTo-more _ _ _ _ _ _ _ c.after.ensures so_far c.passthrough_end-passed.ensures)
 
-pub loop-end-preserved-else-passed : goal.loop-end-preserved-else-passed
-loop-end-preserved-else-passed g c =
+pub loop-end-preserved-else-is_all : goal.loop-end-preserved-else-is_all
+loop-end-preserved-else-is_all g c =
     let so_far = IsKeptTo-more _ _ _ _ _ _ _ c.after-rest.ensures c.loop-end.invariant
     (λ _. (IsPart-segment _ _ _ _ _ c.passthrough_is_normalized_apart.ensures.begins _ c.in-Ok.ensures.segment, c.in-Ok.ensures.own c.in_default-becomes.is)) in
     IsKeptTo-more _ _ _ _ _ _ _ c.after.ensures so_far c.passthrough_end-passed.ensures

@@ -1,8 +1,10 @@
-use Rattle.std.proofs.Common.{ap, length, sym, ◌∙◌}
-use Rattle.icu_normalizer.proofs.segments.StableLemmas.{form_of_single}
+use Rattle.std.proofs.Common.{subst, sym, ◌∙◌}
+use Rattle.icu_normalizer.specs.inner.Kept.{HasNoSecond}
+use Rattle.icu_normalizer.proofs.segments.ApartLemmas.{form_of_apart}
 use Rattle.icu_normalizer.proofs.forming.ComposingFormForming.form_of_one.Goals as goal
 
-pub returns-then-len-eq1 : goal.returns-then-len-eq1
-returns-then-len-eq1 c =
+pub returns-then-has_no_second : goal.returns-then-has_no_second
+returns-then-has_no_second c =
     c.members-members.ensures
-    ∙ sym (form_of_single _ c.args.self.now.serves.composing.starters c.args.character (sym (ap length c.members-members.ensures) ∙ sym c.len.ensures ∙ c.if-len-eq1.true))
+    ∙ sym (form_of_apart _ _ _ c.args.self.now.serves c.args.character c.ranges.character.0
+    (subst (HasNoSecond c.args.self.now.pairs.now) c.members-members.ensures (c.has_no_second.ensures c.if-has_no_second.true)))
