@@ -1,4 +1,4 @@
-use Rattle.std.proofs.Common.{◌++◌, ap, sym, ◌∙◌, arith}
+use Rattle.std.proofs.Common.{◌++◌, ap, sym, ◌∙◌}
 use Rattle.std.proofs.str.Utf16.{two_units}
 use Rattle.icu_normalizer_c.proofs.sink.Buffer+u16.take_pair.Goals as goal
 
