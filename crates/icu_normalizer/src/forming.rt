@@ -147,7 +147,7 @@ pub trait Forming {
     final fn segment_buffers(&self) -> SegmentBuffers
         ensures { text result ≡ [] }
     {
-        SegmentBuffers::new(self.characters())
+        SegmentBuffers::new()
     }
 
     /// Returns the allocator of the data.

@@ -11,27 +11,28 @@ ghost use Rattle.normalizer_tables.specs.Ignored.{ignored_list};
 ghost use Rattle.normalizer_tables.specs.Readings.{reading_by};
 ghost use Rattle.normalizer_tables.specs.declared.characters.IgnoredCharacters.TheVariants.{Dropped};
 ghost use Rattle.normalizer_text.specs.Encodings.{decoded_in};
-ghost use Rattle.normalizer_iterators.specs.Reads.{HasOwnWord};
 ghost use Rattle.normalizer_iterators.specs.ShortText.{so_far};
-ghost use Rattle.normalizer_iterators.specs.WaitingList.{item_count, ordered_text, AgreesWith};
-ghost use Rattle.normalizer_iterators.specs.inner.ReadingOn.{Adds, KeepsClasses};
+ghost use Rattle.normalizer_iterators.specs.Waiting.{characters, HasClassesOf};
+ghost use Rattle.normalizer_iterators.specs.inner.OrderedTexts.{entries_so_far, IsOrderOf, Puts};
 ghost use Rattle.normalizer_iterators.specs.inner.Segments.{composed_nfd, HasPairsOf};
 
 use crate::pending::PendingChar;
-use crate::reading::push_from;
+use crate::segment::ordered_text::OrderedText;
 use crate::segment::short_text::ShortText;
-use crate::waiting::{ClassedChar, WaitingList};
+use crate::waiting::ClassedChar;
 use normalizer_tables::CanonicalCompositions;
 use normalizer_tables::characters::{CharacterData, IgnoredCharacters};
+use normalizer_tables::members::Members;
 use normalizer_text::{Step, Units};
 
+mod ordered_text;
 mod short_text;
 
 /// Buffers for the normal forms of short texts, which are used again for each text. A form fits if it is made of lists
 /// that have at most 17 characters together. No memory is taken.
 #[derive(Drop)]
 pub struct SegmentBuffers {
-    waiting: WaitingList,
+    ordered: OrderedText,
     text: ShortText,
     /// Whether marks of the next text are known to be out of order.
     is_unordered: bool,
@@ -41,11 +42,11 @@ impl SegmentBuffers {
     ghost use Rattle.normalizer_iterators.specs.Segment.{text};
 
     /// Makes empty buffers.
-    pub fn new(characters: &CharacterData<'_>) -> Self
+    pub fn new() -> Self
         ensures { text result ≡ [] }
     {
         SegmentBuffers {
-            waiting: WaitingList::new(characters.allocator()),
+            ordered: OrderedText::new(),
             text: ShortText::new(),
             is_unordered: false,
         }
@@ -83,10 +84,10 @@ impl SegmentBuffers {
             self.text.clear();
             return self.text.push(first) && self.text.push(second);
         }
-        if !read_all(characters, ignored, units, &mut self.waiting) {
+        if !read_all(characters, ignored, units, &mut self.ordered) {
             return false;
         }
-        copy_all(&mut self.waiting, &mut self.text)
+        copy_all(&self.ordered, &mut self.text)
     }
 
     /// Makes the composed form of what the units decode to. Returns whether it fits; if not, the text is unspecified.
@@ -108,10 +109,10 @@ impl SegmentBuffers {
         if !is_unordered && compose_in_order(characters, pairs, units, &mut self.text) {
             return true;
         }
-        if !read_all(characters, ignored, units, &mut self.waiting) {
+        if !read_all(characters, ignored, units, &mut self.ordered) {
             return false;
         }
-        compose_all(pairs, &mut self.waiting, &mut self.text)
+        compose_all(pairs, &self.ordered, &mut self.text)
     }
 }
 
@@ -129,11 +130,11 @@ fn two_in_order<U: Units>(characters: &CharacterData<'_>, units: U) -> Option<(c
     if first.width == len {
         return None;
     }
+    let before = class_of_itself(characters, first)?;
     let second = units.step_at(first.width);
     if len - first.width != second.width {
         return None;
     }
-    let before = class_of_itself(characters, first)?;
     let after = class_of_itself(characters, second)?;
     if 0 < after && after < before {
         Some((second.character, first.character))
@@ -188,108 +189,109 @@ fn compose_in_order<U: Units>(
     true
 }
 
-/// Buffers the lists of what the units decode to, in canonical order, if they fit.
+/// Puts the lists of what the units decode to in canonical order, if they fit.
 fn read_all<U: Units>(
     characters: &CharacterData<'_>,
     ignored: IgnoredCharacters,
     units: U,
-    waiting: &mut WaitingList,
+    ordered: &mut OrderedText,
 ) -> bool
-    ensures text { IsTrue result → ordered_text waiting.new ≡
-        nfd (reading_by characters.now ignored []) (decoded_in U.encoding (U.units units)) }
-    ensures classes { IsTrue result → AgreesWith (reading_by characters.now ignored []) waiting.new }
-    ensures short { IsTrue result → length (ordered_text waiting.new) ≤ buffer_limit }
+    ensures text { IsTrue result → let d = reading_by characters.now ignored [] in
+        IsOrderOf d (expand d (decoded_in U.encoding (U.units units))) (entries_so_far ordered.new) }
     ensures fits { length (expand (reading_by characters.now ignored []) (decoded_in U.encoding (U.units units)))
         ≤ buffer_limit → IsTrue result }
 {
-    waiting.clear();
+    ordered.clear();
     let mut position = 0;
     while position < units.len() {
         let step = units.step_at(position);
-        let read = PendingChar::new(characters, 0, step.character);
-        if !push_list(characters, ignored, read, waiting) {
+        if !add_list(characters, ignored, step.character, ordered) {
             return false;
         }
         position += step.width;
     }
-    let Ok(()) = waiting.put_in_order() else {
-        unreachable!()
-    };
     true
 }
 
-/// Buffers the list of a character, if it fits.
+/// Adds the list of a character, if it fits.
 #[inline(always)]
-fn push_list(
+fn add_list(
     characters: &CharacterData<'_>,
     ignored: IgnoredCharacters,
-    read: PendingChar,
-    waiting: &mut WaitingList,
+    character: char,
+    ordered: &mut OrderedText,
 ) -> bool
-    requires { HasOwnWord characters.now read }
     ensures text { IsTrue result →
-        Adds characters.now (list_of characters.now (ignored_list ignored) read.character) waiting.old waiting.new }
-    ensures classes { IsTrue result → KeepsClasses characters.now waiting.old waiting.new }
-    ensures held { IsTrue result → item_count waiting.new ≡
-        item_count waiting.old + length (list_of characters.now (ignored_list ignored) read.character) }
-    ensures short { IsTrue result → item_count waiting.new ≤ buffer_limit }
-    ensures fits { item_count waiting.old + length (list_of characters.now (ignored_list ignored) read.character)
-        ≤ buffer_limit → IsTrue result }
+        Puts characters.now (list_of characters.now (ignored_list ignored) character) ordered.old ordered.new }
+    ensures len { IsTrue result → ordered.new.len ≡
+        ordered.old.len + length (list_of characters.now (ignored_list ignored) character) }
+    ensures fits { ordered.old.len + length (list_of characters.now (ignored_list ignored) character) ≤ buffer_limit →
+        IsTrue result }
 {
-    match read.class_of_itself(characters) {
-        Some(class) => {
-            if !waiting.has_room(1) {
-                return false;
-            }
-            let Ok(()) = waiting.push(read.character, class) else {
-                unreachable!()
-            };
-            true
-        }
+    let word = characters.word_of(character);
+    match characters.class_of_itself(character, word) {
+        Some(class) => ordered.add(ClassedChar { character, class }),
         None => {
-            let members = read.members(characters, ignored);
-            if !waiting.has_room(members.len()) {
-                return false;
-            }
-            let Ok(()) = push_from(characters, &members, 0, waiting) else {
-                unreachable!()
-            };
-            true
+            let members = characters.members_by(character, word, ignored);
+            add_members(characters, &members, ordered)
         }
     }
 }
 
-/// Copies what is in order, if it fits.
+/// Adds the members of a list, if they fit.
 #[inline(always)]
-fn copy_all(waiting: &mut WaitingList, text: &mut ShortText) -> bool
-    ensures text { IsTrue result → so_far text.new ≡ ordered_text waiting.old }
-    ensures fits { length (ordered_text waiting.old) ≤ buffer_limit → IsTrue result }
+fn add_members(
+    characters: &CharacterData<'_>,
+    members: &Members<'_>,
+    ordered: &mut OrderedText,
+) -> bool
+    ensures text { IsTrue result → Puts characters.now members.now ordered.old ordered.new }
+    ensures len { IsTrue result → ordered.new.len ≡ ordered.old.len + length members.now }
+    ensures fits { ordered.old.len + length members.now ≤ buffer_limit → IsTrue result }
 {
-    text.clear();
-    while let Some(given) = waiting.pop_front() {
-        if !text.push(given.character) {
+    let mut place = 0;
+    while place < members.len() {
+        let character = members.at(place);
+        let class = characters.class_of(character);
+        if !ordered.add(ClassedChar { character, class }) {
             return false;
         }
+        place += 1;
+    }
+    true
+}
+
+/// Copies what is in order, if it fits.
+#[inline(always)]
+fn copy_all(ordered: &OrderedText, text: &mut ShortText) -> bool
+    ensures text { IsTrue result → so_far text.new ≡ characters (entries_so_far ordered.now) }
+    ensures fits { IsTrue result }
+{
+    text.clear();
+    let mut place = 0;
+    while place < ordered.len() {
+        if !text.push(ordered.at(place).character) {
+            return false;
+        }
+        place += 1;
     }
     true
 }
 
 /// Composes what is in order, if it fits.
 #[inline(always)]
-fn compose_all(
-    pairs: &CanonicalCompositions,
-    waiting: &mut WaitingList,
-    text: &mut ShortText,
-) -> bool
-    ensures text { IsTrue result → (d : Reading) → AgreesWith d waiting.old → HasPairsOf pairs.now d →
-        so_far text.new ≡ compose_by_starters d (ordered_text waiting.old) }
-    ensures fits { length (ordered_text waiting.old) ≤ buffer_limit → IsTrue result }
+fn compose_all(pairs: &CanonicalCompositions, ordered: &OrderedText, text: &mut ShortText) -> bool
+    ensures text { IsTrue result → (d : Reading) → HasClassesOf d (entries_so_far ordered.now) → HasPairsOf pairs.now d →
+        so_far text.new ≡ compose_by_starters d (characters (entries_so_far ordered.now)) }
+    ensures fits { IsTrue result }
 {
     text.clear();
-    while let Some(given) = waiting.pop_front() {
-        if !text.compose(pairs, given) {
+    let mut place = 0;
+    while place < ordered.len() {
+        if !text.compose(pairs, ordered.at(place)) {
             return false;
         }
+        place += 1;
     }
     true
 }

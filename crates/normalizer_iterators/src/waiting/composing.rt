@@ -53,7 +53,7 @@ impl WaitingList {
 
 /// Moves the entries of a range up by one place.
 #[inline(always)]
-fn move_up(entries: &mut [Waiting], start: usize, end: usize)
+pub(crate) fn move_up(entries: &mut [Waiting], start: usize, end: usize)
     requires range { start ≤ end }
     requires within { end < length entries.old }
     ensures moved { entries.new ≡ copy_within entries.old start end (start + 1) }

@@ -1,10 +1,10 @@
-use Rattle.std.proofs.Common.{length}
-use Rattle.normalizer_iterators.specs.WaitingList.{ordered_text}
-use Rattle.normalizer_iterators.proofs.segments.SegmentLemmas.{ComposedTo}
+use Rattle.std.proofs.Common.{◌-◌, length}
+use Rattle.normalizer_iterators.specs.inner.OrderedTexts.{entries_so_far}
+use Rattle.normalizer_iterators.proofs.segments.OrderedLemmas.{ComposedTo}
 use Rattle.normalizer_iterators.proofs.segment.compose_all.Given as goal
 
-abbrev pub invariant-loop-given : goal.invariant-loop-given
-invariant-loop-given l = ComposedTo l.pairs l.initial.waiting l.waiting l.text
+abbrev pub invariant-loop-place : goal.invariant-loop-place
+invariant-loop-place l = ComposedTo l.pairs l.ordered l.place l.text
 
-abbrev pub decreases-loop-given : goal.decreases-loop-given
-decreases-loop-given l = length (ordered_text l.waiting)
+abbrev pub decreases-loop-place : goal.decreases-loop-place
+decreases-loop-place l = length (entries_so_far l.ordered) - l.place

@@ -1,10 +1,10 @@
-use Rattle.std.proofs.Common.{◌≡◌, ◌++◌, length}
-use Rattle.normalizer_iterators.specs.ShortText.{so_far}
-use Rattle.normalizer_iterators.specs.WaitingList.{ordered_text}
+use Rattle.std.proofs.Common.{◌-◌, length}
+use Rattle.normalizer_iterators.specs.inner.OrderedTexts.{entries_so_far}
+use Rattle.normalizer_iterators.proofs.segments.OrderedLemmas.{CopiedTo}
 use Rattle.normalizer_iterators.proofs.segment.copy_all.Given as goal
 
-abbrev pub invariant-loop-given : goal.invariant-loop-given
-invariant-loop-given l = so_far l.text ++ ordered_text l.waiting ≡ ordered_text l.initial.waiting
+abbrev pub invariant-loop-place : goal.invariant-loop-place
+invariant-loop-place l = CopiedTo l.ordered l.place l.text
 
-abbrev pub decreases-loop-given : goal.decreases-loop-given
-decreases-loop-given l = length (ordered_text l.waiting)
+abbrev pub decreases-loop-place : goal.decreases-loop-place
+decreases-loop-place l = length (entries_so_far l.ordered) - l.place
