@@ -115,15 +115,16 @@ impl<'a> Buffer<'a, u16> {
         }
     }
 
-    /// Takes a character that has two units in UTF-16. It isn't inlined, so that callers inline the test for one unit.
+    /// Takes a character that mostly has two units in UTF-16. It isn't inlined, so that the test for one unit is.
     #[inline(never)]
     fn take_pair(&mut self, c: char)
-        requires { 0x10000 ≤ c }
         ensures same_reference { self.new.units.ghost_name ≡ self.old.units.ghost_name }
         ensures room { length self.new.units.now ≡ length self.old.units.now }
         ensures history { self.new.history.units ≡ self.old.history.units ++ encode_utf16 c }
     {
-        let rest = c as u32 - 0x10000;
+        let Some(rest) = (c as u32).checked_sub(0x10000) else {
+            return self.take([c as u16]);
+        };
         self.take([
             (0xD800 + rest / 0x400) as u16,
             (0xDC00 + rest % 0x400) as u16,
