@@ -119,6 +119,21 @@ static inline bool form_of(PyObject *word, icu_normalizer_form *form) {
     return false;
 }
 
+typedef uint32_t Four __attribute__((vector_size(16)));
+
+/* Writes four characters as pairs of surrogates, if all are beyond U+FFFF. */
+static inline bool widen_four(const Py_UCS4 *from, uint16_t *to) {
+    Four four;
+    uint64_t narrow[2];
+    memcpy(&four, from, sizeof four);
+    Four is_narrow = (Four)(four >> 16 == 0);
+    memcpy(narrow, &is_narrow, sizeof narrow);
+    if (narrow[0] | narrow[1]) return false;
+    Four pairs = ((four >> 10) + 0xD7C0) | ((four & 0x3FF) | 0xDC00) << 16;
+    memcpy(to, &pairs, sizeof pairs);
+    return true;
+}
+
 /* Writes the characters of a str as 16-bit units. Surrogates stay as they are. */
 static size_t widen(PyObject *str, uint16_t *units) {
     Py_ssize_t length = PyUnicode_GET_LENGTH(str);
@@ -127,7 +142,9 @@ static size_t widen(PyObject *str, uint16_t *units) {
         for (const Py_UCS1 *from = PyUnicode_1BYTE_DATA(str), *end = from + length; from < end; from++) *to++ = *from;
         return (size_t)length;
     }
-    for (const Py_UCS4 *from = PyUnicode_4BYTE_DATA(str), *end = from + length; from < end; from++) {
+    const Py_UCS4 *from = PyUnicode_4BYTE_DATA(str), *end = from + length;
+    for (; end - from >= 4 && widen_four(from, to); from += 4) to += 8;
+    for (; from < end; from++) {
         /* Both units are stored at once, as they may be read. */
         uint32_t pair = Py_UNICODE_HIGH_SURROGATE(*from) | (uint32_t)Py_UNICODE_LOW_SURROGATE(*from) << 16;
         if (*from > 0xFFFF) {
@@ -175,25 +192,34 @@ static size_t size_of(const Text *text) {
     return text->is_wide ? sizeof(uint16_t) : 1;
 }
 
-static inline bool is_pair(const uint16_t *units) {
-    return (units[0] & 0xFC00) == 0xD800 && (units[1] & 0xFC00) == 0xDC00;
+/* How many pairs of surrogates are in well-formed UTF-16. It is counted in parts, so that 16 bits are enough for each. */
+static size_t count_pairs(const uint16_t *units, size_t length) {
+    size_t pairs = 0;
+    for (const uint16_t *end = units + length; units < end;) {
+        size_t part = Py_MIN((size_t)(end - units), 0x8000);
+        uint16_t found = 0;
+        for (size_t place = 0; place < part; place++) found += Py_UNICODE_IS_LOW_SURROGATE(units[place]);
+        pairs += found;
+        units += part;
+    }
+    return pairs;
 }
 
 static void join_pairs(const uint16_t *units, size_t length, Py_UCS4 *to) {
-    for (const uint16_t *end = units + length; units < end; units++) {
-        bool joins = units + 1 < end && is_pair(units);
-        *to++ = joins ? Py_UNICODE_JOIN_SURROGATES(units[0], units[1]) : units[0];
-        units += joins;
-    }
+    for (const uint16_t *end = units + length; units < end; units++)
+        if (Py_UNICODE_IS_HIGH_SURROGATE(*units)) {
+            *to++ = Py_UNICODE_JOIN_SURROGATES(units[0], units[1]);
+            units++;
+        } else {
+            *to++ = *units;
+        }
 }
 
-/* The str of 16-bit units. */
+/* The str of well-formed UTF-16. */
 static PyObject *str_of(const uint16_t *units, size_t length) {
     unsigned bits = 0;
-    size_t pairs = 0;
     for (size_t place = 0; place < length; place++) bits |= units[place];
-    if (bits >= 0xD800)
-        for (size_t place = 1; place < length; place++) pairs += is_pair(units + place - 1);
+    size_t pairs = bits < 0xD800 ? 0 : count_pairs(units, length);
     PyObject *made = PyUnicode_New((Py_ssize_t)(length - pairs), pairs ? 0x10FFFF : bits);
     if (!made || !length) return made;
     if (pairs) {

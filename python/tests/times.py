@@ -1,6 +1,6 @@
 """Times `normalize` beside that of `unicodedata`, on strings of 10 characters: a ratio for each text and form.
 
-times.py [--most RATIO]: the status is 1 if a ratio is greater than that."""
+times.py [--most RATIO]: the status is 1 if a ratio of TEXTS is greater than that. SLOWER has what takes longer."""
 import argparse
 import statistics
 import sys
@@ -21,6 +21,7 @@ TEXTS = {
     "Cyrillic": "\u043F\u0440\u0438\u0432\u0435\u0442 \u043C\u0438\u0440",
     "Hebrew": "\u05E9\u05DC\u05D5\u05DD \u05E2\u05D5\u05DC\u05DD!",
     "Hebrew, pointed": "\u05E9\u05B8\u05DC\u05D5\u05B9\u05DD \u05E8\u05B7\u05D1",
+    "Hebrew, presentation": "\u05E9\u05C1\u05E9\u05C2\u05D0\u05B7\u05D1\u05BC\u05D2\u05BC",
     "Arabic": "\u0645\u0631\u062D\u0628\u0627 \u0628\u0643\u0645\u061F",
     "Arabic, one mark": "\u0645\u0631\u062D\u0628\u064B\u0627 \u0628\u0643\u0645",
     "Arabic, vocalized": "\u0645\u064E\u0631\u0652\u062D\u064E\u0628\u064B\u0627\u0628",
@@ -33,6 +34,7 @@ TEXTS = {
     "Japanese": "\u30AB\u3099\u30AE\u306F\u30D1\u30F3\u3067\u3059\u3088\u306D",
     "full-width": "\uFF21\uFF22\uFF23\uFF11\uFF12\uFF13\uFF0C\uFF21\uFF22\uFF23",
     "half-width": "\uFF76\uFF9E\uFF77\uFF78\uFF79\uFF9E\uFF7A\uFF7B\uFF7C\uFF7D",
+    "half-width, voiced": "\uFF76\uFF9E\uFF77\uFF9E\uFF78\uFF9E\uFF79\uFF9E\uFF7A\uFF9E",
     "Gothic": "".join(map(chr, range(0x10330, 0x1033A))),
     "words and emoji": "\U0001F600\U0001F44D ok \U0001F680\U0001F44D!!",
     "emoji": "".join(map(chr, range(0x1F600, 0x1F60A))),
@@ -41,6 +43,18 @@ TEXTS = {
     "circled": "".join(map(chr, range(0x2460, 0x246A))),
     "mathematical": "".join(map(chr, range(0x1D400, 0x1D40A))),
     "musical": 2 * "".join(map(chr, range(0x1D15E, 0x1D163))),
+    "CJK, compatibility": "".join(map(chr, range(0x2F972, 0x2F97C))),
+    "Kaithi letters": "".join(map(chr, range(0x11096, 0x110A0))),
+}
+SLOWER = {
+    "Chakma": "\U00011103\U0001110B\U00011134\U0001111F\U00011133\U00011126 \U0001110C\U0001110B\U00011134",
+    "Hanifi Rohingya": "".join(map(chr, (0x10D0C, 0x10D17, 0x10D25, 0x10D1D, 0x10D19, 0x10D1A, 0x10D12))) + " 12",
+    "Kaithi": "\U00011096\U00011097\U000110B0\U00011099\U000110B9 \U00011096\U00011097\U000110B0\U00011099",
+    "marks": "".join(map(chr, range(0x2DE2, 0x2DEC))),
+    "marks, Glagolitic": "".join(map(chr, range(0x1E00B, 0x1E015))),
+    "circled Hangul": "".join(map(chr, range(0x326E, 0x3278))),
+    "U+FFFD": "caf\uFFFD na\uFFFDve",
+    "U+FFFD alone": 10 * "\uFFFD",
 }
 
 
@@ -53,20 +67,27 @@ def ratio(form, text, samples=51, number=5000):
     return statistics.median(own.timeit(number) / other.timeit(number) for _ in range(samples))
 
 
+def greatest_of(texts):
+    """Prints the ratios of texts, and returns the greatest."""
+    greatest = 0
+    for name, text in texts.items():
+        ratios = [ratio(form, text) for form in FORMS]
+        greatest = max(greatest, *ratios)
+        print(f"{name:22}" + "".join(f"{it:7.2f}" for it in ratios), flush=True)
+    return greatest
+
+
 def main():
     parser = argparse.ArgumentParser(description=__doc__)
     parser.add_argument("--most", type=float)
     most = parser.parse_args().most
     print(f"{'':22}" + "".join(f"{form:>7}" for form in FORMS))
-    greatest = 0
-    for name, text in TEXTS.items():
-        ratios = [ratio(form, text) for form in FORMS]
-        greatest = max(greatest, *ratios)
-        print(f"{name:22}" + "".join(f"{it:7.2f}" for it in ratios), flush=True)
+    greatest = greatest_of(TEXTS)
+    slower = greatest_of(SLOWER)
     verdict = f"`normalize` takes at most {greatest:.2f} times as long as `unicodedata` on 10 characters"
     if most and greatest > most:
         sys.exit(verdict)
-    print(verdict)
+    print(f"{verdict}, and {slower:.2f} times on what is slower")
 
 
 if __name__ == "__main__":
