@@ -144,6 +144,9 @@ static size_t widen(PyObject *str, uint16_t *units) {
     }
     const Py_UCS4 *from = PyUnicode_4BYTE_DATA(str), *end = from + length;
     for (; end - from >= 4 && widen_four(from, to); from += 4) to += 8;
+    /* If fewer than four are left after others beyond U+FFFF, the last four are widened, some of them again. */
+    bool is_last = to > units && from < end && end - from < 4;
+    if (is_last && widen_four(end - 4, units + 2 * length - 8)) return 2 * (size_t)length;
     for (; from < end; from++) {
         /* Both units are stored at once, as they may be read. */
         uint32_t pair = Py_UNICODE_HIGH_SURROGATE(*from) | (uint32_t)Py_UNICODE_LOW_SURROGATE(*from) << 16;

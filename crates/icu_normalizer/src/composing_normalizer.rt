@@ -119,7 +119,7 @@ impl ComposingNormalizer {
         let loaded = LoadedData::new(borrowed, bounds, Some(&pairs), None);
         check(&loaded, marker, composing_conditions())?;
         Ok(ComposingNormalizer {
-            decomposing: DecomposingNormalizer { characters },
+            decomposing: DecomposingNormalizer { characters, bounds },
             pairs,
         })
     }
@@ -137,8 +137,8 @@ impl ComposingNormalizer {
         ensures held { composing_data_of_borrowed result ≡ composing_data_of self.now }
         ensures pairs { pairs_of_borrowed result ≡ pairs_of self.now }
     {
+        let bounds = self.decomposing.bounds;
         let characters = self.decomposing.characters.as_borrowed(Purpose::Forms);
-        let bounds = Bounds::of_cap(characters.cap());
         NormalizerBorrowed {
             form: ComposingForm {
                 characters: characters.with_passthrough_bound(bounds.decomposition),

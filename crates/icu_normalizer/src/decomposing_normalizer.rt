@@ -29,6 +29,8 @@ use normalizer_tables::{
 #[derive(Drop)]
 pub struct DecomposingNormalizer {
     pub(crate) characters: OwnedCharacterData,
+    pub(crate) bounds: Bounds,
+    ghost bounded: { bounds ≡ bounds_of characters.decompositions },
     ghost serves: { ServesDecomposing (characters_owned characters false) (bounds_of characters.decompositions) },
 }
 
@@ -99,15 +101,15 @@ impl DecomposingNormalizer {
         let bounds = Bounds::of_cap(borrowed.cap());
         let loaded = LoadedData::new(borrowed, bounds, None, None);
         check(&loaded, marker, decomposing_conditions())?;
-        Ok(DecomposingNormalizer { characters })
+        Ok(DecomposingNormalizer { characters, bounds })
     }
 
     /// Returns the normalizer that borrows this one's data.
     pub fn as_borrowed(&self) -> DecomposingNormalizerBorrowed<'_>
         ensures { data_of_borrowed result ≡ data_of self.now }
     {
+        let bounds = self.bounds;
         let characters = self.characters.as_borrowed(Purpose::Forms);
-        let bounds = Bounds::of_cap(characters.cap());
         NormalizerBorrowed {
             form: DecomposingForm {
                 characters: characters.with_passthrough_bound(bounds.decomposition),

@@ -24,8 +24,12 @@ ghost use Rattle.icu_normalizer.specs.inner.WrittenParts.{NothingOffered, Writes
 use crate::boundaries::is_taken_as_boundary;
 use crate::composing_form::ComposingForm;
 use crate::decomposing_form::DecomposingForm;
-use crate::kept::{SeenSegment, Unseen, has_no_second, seen_segment, short_list_has_no_second};
-use crate::word_classes::{class_if_backward, is_own_from, is_unflagged_or_mark_from};
+use crate::kept::{
+    SeenSegment, Unseen, composed_list, composed_list_of_two, has_no_second, seen_segment,
+};
+use crate::word_classes::{
+    class_if_backward, is_own_from, is_told_from, is_unflagged, is_unflagged_or_mark_from,
+};
 use crate::writing::{first_item, write_items};
 use normalizer_iterators::{MarkRun, NormalizeError, SegmentBuffers};
 use normalizer_sets::CharacterSet;
@@ -68,6 +72,12 @@ pub trait Forming {
 
     /// Returns the class of a character that is passed on after one of class `last`, if its word alone says so.
     fn seen_class(&self, last: u8, character: char) -> Option<u8>
+        ensures passes { IfSome result (λ class. passthrough_class self.now character ≡ Some class) }
+        ensures in_order { IfSome result (λ class. class_in_order last class ≡ Some class) };
+
+    /// Returns the same class, if starters are told from marks by a branch: that takes fewer instructions, and is
+    /// foreseen unless the text is long and letters and marks alternate.
+    fn told_class(&self, last: u8, character: char) -> Option<u8>
         ensures passes { IfSome result (λ class. passthrough_class self.now character ≡ Some class) }
         ensures in_order { IfSome result (λ class. class_in_order last class ≡ Some class) };
 
@@ -220,6 +230,11 @@ impl<'a> Forming for DecomposingForm<'a> {
         }
     }
 
+    #[inline(always)]
+    fn told_class(&self, last: u8, character: char) -> Option<u8> {
+        self.seen_class(last, character)
+    }
+
     fn passing(&self) -> &CharacterSet {
         self.characters.plain()
     }
@@ -303,7 +318,7 @@ impl<'a> Forming for ComposingForm<'a> {
             return Some(0);
         }
         let class = class_by(&self.characters, character, word)?;
-        if class > 0 && !may_be_second(self.pairs, character) {
+        if !may_be_second(self.pairs, character) {
             Some(class)
         } else {
             None
@@ -320,6 +335,21 @@ impl<'a> Forming for ComposingForm<'a> {
             return None;
         }
         Some(class_if_backward(word))
+    }
+
+    #[inline(always)]
+    fn told_class(&self, last: u8, character: char) -> Option<u8> {
+        let word = self.characters.word_of(character);
+        if is_unflagged(word) {
+            return Some(0);
+        }
+        if !is_told_from(word, last) {
+            return None;
+        }
+        if may_be_second(self.pairs, character) {
+            return None;
+        }
+        Some(low_byte(word))
     }
 
     #[tactic(auto, unfolding(crate::specs::inner::PassthroughRuns::composing_class, normalizer_tables::specs::conditions::PairConditions::is_composing_passthrough, normalizer_tables::specs::TableSets::has_no_flag))]
@@ -347,11 +377,9 @@ impl<'a> Forming for ComposingForm<'a> {
     #[inline(always)]
     fn short_list(&self, character: char) -> Option<ShortList> {
         let word = self.characters.word_of(character);
-        let list = self.characters.short_list(character, word)?;
-        if short_list_has_no_second(self.pairs, list) {
-            Some(list)
-        } else {
-            None
+        match self.characters.short_list(character, word) {
+            Some(list) => composed_list(self, list),
+            None => composed_list_of_two(self, character, word),
         }
     }
 

@@ -1,8 +1,9 @@
 //! Segments of the composing form that stay as they are, or become one character.
-ghost use Rattle.std.specs.Prelude.{◌≡◌, ◌≢◌, ◌<◌, ◌≤◌, drop, length, true, IfOk, IfSome, IsTrue, None, Some};
+ghost use Rattle.std.specs.Prelude.{◌≡◌, ◌≢◌, ◌<◌, ◌≤◌, ◌∷◌, [], drop, length, true, IfOk, IfSome, IsTrue, None, Some};
 ghost use Rattle.normalizer_text.specs.Encodings.{first_in};
+ghost use Rattle.normal_forms.specs.Composition.{compose};
 ghost use Rattle.normal_forms.specs.declared.Form.TheVariants.{Composing};
-ghost use Rattle.normalizer_tables.specs.Characters.{word_of};
+ghost use Rattle.normalizer_tables.specs.Characters.{list_of, word_of};
 ghost use Rattle.normalizer_tables.specs.conditions.PairConditions.{is_composing_passthrough, is_taken_as_boundary};
 ghost use Rattle.normalizer_tables.specs.Readings.{reading_by};
 ghost use Rattle.normalizer_tables.specs.ShortLists.{text_of};
@@ -18,6 +19,9 @@ use normalizer_tables::members::Members;
 use normalizer_tables::short_list::ShortList;
 use normalizer_tables::{CanonicalCompositions, compose, may_be_second};
 use normalizer_text::{Step, Units};
+
+/// The bits of the word of a list in a table that say how many members it has.
+const LENGTH_BITS: u32 = 0xF;
 
 /// The bits of a word that are 0 if its list is neither two characters nor in a table.
 const HIGH_BITS: u32 = 0x3FFF_0000;
@@ -356,17 +360,68 @@ pub(crate) fn has_no_second(pairs: &CanonicalCompositions, members: &Members<'_>
     true
 }
 
-/// Returns whether the same holds of a short list.
+/// Returns what a short list composes to, if no member after the first is the second of a pair, or if there are two.
 #[tactic(auto, unfolding(normalizer_tables::specs::ShortLists::text_of))]
 #[inline(always)]
-pub(crate) fn short_list_has_no_second(pairs: &CanonicalCompositions, list: ShortList) -> bool
-    ensures { IsTrue result → HasNoSecond pairs.now (text_of list) }
+pub(crate) fn composed_list(form: &ComposingForm<'_>, list: ShortList) -> Option<ShortList>
+    ensures { IfSome result (λ made. compose (reading_by form.now.characters Dropped form.now.pairs.now) (text_of list)
+        ≡ text_of made) }
 {
     match list {
-        ShortList::One(_) => true,
-        ShortList::Two(_, second) => !may_be_second(pairs, second),
-        ShortList::Three(_, second, third) => {
-            !may_be_second(pairs, second) && !may_be_second(pairs, third)
+        ShortList::One(_) => Some(list),
+        ShortList::Two(first, second) => {
+            if may_be_second(form.pairs, second) {
+                return composed_two(form, first, second);
+            }
+            Some(list)
         }
+        ShortList::Three(_, second, third) => {
+            if may_be_second(form.pairs, second) || may_be_second(form.pairs, third) {
+                return None;
+            }
+            Some(list)
+        }
+    }
+}
+
+/// Returns what the list of a character composes to, if the word says that it may have two members in a table, and it
+/// has.
+pub(crate) fn composed_list_of_two(
+    form: &ComposingForm<'_>,
+    character: char,
+    word: u32,
+) -> Option<ShortList>
+    requires { word ≡ word_of form.now.characters character }
+    ensures { IfSome result (λ made. compose (reading_by form.now.characters Dropped form.now.pairs.now)
+        (list_of form.now.characters [] character) ≡ text_of made) }
+{
+    if !may_have_two_members(word) {
+        return None;
+    }
+    let members = form
+        .characters
+        .members_by(character, word, IgnoredCharacters::Dropped);
+    if members.len() != 2 {
+        return None;
+    }
+    composed_two(form, members.at(0), members.at(1))
+}
+
+/// Returns whether a list in a table may have two members, by the word.
+#[inline(always)]
+fn may_have_two_members(word: u32) -> bool {
+    word & LENGTH_BITS == 0
+}
+
+/// Returns what two characters compose to, unless they compose and the first is no starter.
+#[tactic(auto, unfolding(normalizer_tables::specs::ShortLists::text_of))]
+fn composed_two(form: &ComposingForm<'_>, first: char, second: char) -> Option<ShortList>
+    ensures { IfSome result (λ made. compose (reading_by form.now.characters Dropped form.now.pairs.now)
+        (first ∷ second ∷ []) ≡ text_of made) }
+{
+    match compose(form.pairs, first, second) {
+        None => Some(ShortList::Two(first, second)),
+        Some(composite) if form.characters.class_of(first) == 0 => Some(ShortList::One(composite)),
+        Some(_) => None,
     }
 }

@@ -4,9 +4,10 @@ ghost use Rattle.normalizer_text.specs.InputCut.{QualifiesForInputCut};
 ghost use Rattle.icu_normalizer.specs.Checks.{IsLastingOffence};
 ghost use Rattle.icu_normalizer.specs.Forms.{HasShortUnits};
 ghost use Rattle.icu_normalizer.specs.inner.Offences.{IsCutUnlessNormalized};
+ghost use Rattle.icu_normalizer.specs.inner.PassthroughRuns.{IsPassedFront};
 
 use crate::forming::Forming;
-use crate::runs::kept_end;
+use crate::runs::{Passed, kept_from, passthrough_end};
 use crate::writing::write_changed;
 use normalizer_iterators::NormalizeError;
 use normalizer_text::Offence;
@@ -48,10 +49,28 @@ pub(crate) fn cut_of<U: Expected, N: Forming>(
     ensures room { HasShortUnits (N.made_form normalizer.now) U.encoding (U.units units) → IsOk result }
     ensures refused { IsOkUnless result NormalizeError.Memory }
 {
-    let kept = kept_end(normalizer, units, false);
-    if kept.end == units.len() {
+    let passed = passthrough_end(normalizer, units, false);
+    if passed.end == units.len() {
         return Ok(None);
     }
+    cut_after_run(normalizer, units, passed)
+}
+
+/// The same cut, by the end of the run at the beginning. It isn't inlined, so that a text that is passed on needs no
+/// large frame.
+#[inline(never)]
+fn cut_after_run<U: Expected, N: Forming>(
+    normalizer: &N,
+    units: U,
+    passed: Passed,
+) -> Result<Option<usize>, NormalizeError>
+    requires { IsPassedFront U.encoding (N.made_form normalizer.now) (U.units units) passed.end }
+    ensures cut { IfOk result (IsCutUnlessNormalized
+        U.encoding (N.made_form normalizer.now).reading (N.made_form normalizer.now).form (U.units units)) }
+    ensures room { HasShortUnits (N.made_form normalizer.now) U.encoding (U.units units) → IsOk result }
+    ensures refused { IsOkUnless result NormalizeError.Memory }
+{
+    let kept = kept_from(normalizer, units, passed, false);
     cut_after(normalizer, units, kept.end)
 }
 

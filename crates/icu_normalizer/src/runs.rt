@@ -80,7 +80,7 @@ fn next_class<N: Forming>(normalizer: &N, last: u8, step: Step) -> Result<u8, Un
     ensures { MatchResult result (λ class. next_class (N.passthrough_class normalizer.now) last step ≡ Some class)
         (λ _. next_class (N.passthrough_class normalizer.now) last step ≡ None) }
 {
-    if step.character == char::REPLACEMENT_CHARACTER {
+    if step.is_error && step.character == char::REPLACEMENT_CHARACTER {
         return Err(Unseen::Unknown);
     }
     let Some(class) = normalizer.passthrough_class(step.character) else {
@@ -98,10 +98,21 @@ fn next_class<N: Forming>(normalizer: &N, last: u8, step: Step) -> Result<u8, Un
 fn seen_class<N: Forming>(normalizer: &N, last: u8, step: Step) -> Option<u8>
     ensures { IfSome result (λ class. next_class (N.passthrough_class normalizer.now) last step ≡ Some class) }
 {
-    if step.character == char::REPLACEMENT_CHARACTER {
+    if step.is_error {
         return None;
     }
     normalizer.seen_class(last, step.character)
+}
+
+/// Returns the same class, if starters are told from marks by a branch.
+#[inline(always)]
+fn told_class<N: Forming>(normalizer: &N, last: u8, step: Step) -> Option<u8>
+    ensures { IfSome result (λ class. next_class (N.passthrough_class normalizer.now) last step ≡ Some class) }
+{
+    if step.is_error {
+        return None;
+    }
+    normalizer.told_class(last, step.character)
 }
 
 /// How many characters are looked up one by one where letters and marks alternate.
@@ -383,10 +394,10 @@ fn run_end<U: Units, N: Forming>(normalizer: &N, units: U, known: RunSoFar) -> R
     whole(run)
 }
 
-/// Returns the run with the step after it, if that is a member of the set or seen to pass. A member isn't looked up. What
-/// is seen to pass is mostly a mark, and low letters may come after it.
+/// Returns the run with the step after it, if that is seen to pass, and with the low letters after it, if it is low
+/// itself. Low letters aren't looked up.
 #[inline(always)]
-fn with_member_or_seen<U: Units, N: Forming>(
+fn with_low_or_told<U: Units, N: Forming>(
     normalizer: &N,
     units: U,
     run: RunSoFar,
@@ -399,11 +410,11 @@ fn with_member_or_seen<U: Units, N: Forming>(
     ensures passes { IfSome result (GoesOn (N.passthrough_class normalizer.now) U.encoding (U.units units) run) }
     ensures end { IfSome result (λ longer. run.end < longer.end) }
 {
-    if normalizer.passing().contains(step.character) {
-        return Some(with_step(run, step, 0));
+    if (step.character as u32) < normalizer.passing().first_missing() {
+        return Some(with_low(normalizer, units, with_step(run, step, 0)));
     }
-    let seen = with_seen(normalizer, units, run, step)?;
-    Some(with_low(normalizer, units, seen))
+    let class = told_class(normalizer, run.last, step)?;
+    Some(with_step(run, step, class))
 }
 
 /// Returns the step at a place. Sequences of two bytes are decoded apart, which takes fewer instructions.
@@ -434,7 +445,7 @@ fn with_few<U: Units, N: Forming>(normalizer: &N, units: U, run: RunSoFar) -> Ru
             last,
             gaps,
         };
-        let Some(longer) = with_member_or_seen(normalizer, units, known, step) else {
+        let Some(longer) = with_low_or_told(normalizer, units, known, step) else {
             return known;
         };
         marks = longer.marks;
@@ -618,9 +629,7 @@ fn passed_by<U: Units, N: Forming>(normalizer: &N, units: U, run: Run) -> Passed
 fn seen_after<N: Forming>(normalizer: &N, run: Run) -> Next {
     match run.next {
         _ if run.is_unordered => Next::Unordered,
-        Some(next)
-            if next.character != char::REPLACEMENT_CHARACTER && normalizer.begins(next.character) =>
-            { Next::Changed }
+        Some(next) if normalizer.begins(next.character) => Next::Changed,
         _ => Next::Unknown,
     }
 }
@@ -687,6 +696,23 @@ pub(crate) fn kept_end<U: Units, N: Forming>(normalizer: &N, units: U, alternate
         (N.beginning normalizer.now) U.encoding m.reading m.form (drop result.end (U.units units))) }
 {
     let passed = passthrough_end(normalizer, units, alternates);
+    kept_from(normalizer, units, passed, alternates)
+}
+
+/// Returns the same end, by that of the run at the beginning.
+#[inline(always)]
+pub(crate) fn kept_from<U: Units, N: Forming>(
+    normalizer: &N,
+    units: U,
+    passed: Passed,
+    alternates: bool,
+) -> Kept
+    requires { IsPassedFront U.encoding (N.made_form normalizer.now) (U.units units) passed.end }
+    ensures kept { let m = N.made_form normalizer.now in
+        IsKeptTo U.encoding m.reading m.form (U.units units) result.end }
+    ensures composite { let m = N.made_form normalizer.now in IfSome result.composite (IsComposite
+        (N.beginning normalizer.now) U.encoding m.reading m.form (drop result.end (U.units units))) }
+{
     if passed.end < units.len() && normalizer.holds_back() && !passed.is_all() {
         return kept_after(normalizer, units, passed.end, alternates);
     }

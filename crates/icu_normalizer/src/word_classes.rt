@@ -4,7 +4,7 @@ ghost use Rattle.std.specs.Prelude.{◌≡◌, ◌<◌, ◌≤◌, ◌⊎◌, fa
 ghost use Rattle.normalizer_tables.specs.TableSets.{has_no_flag};
 ghost use Rattle.normalizer_tables.specs.Words.{is_backward_combining, is_ordinary_class_form, is_plain, low_byte};
 
-use normalizer_tables::word::{is_backward_combining, low_byte};
+use normalizer_tables::word::{is_backward_combining, is_plain, low_byte};
 
 /// The bits of a word that aren't flags.
 const UNFLAGGED: u32 = 0x3FFF_FFFF;
@@ -36,6 +36,27 @@ pub(crate) fn is_own_from(word: u32, last: u8) -> bool
         return false;
     }
     true
+}
+
+/// Returns whether the same is seen of a word by branches that tell marks from starters: a mark's has BACKWARD_COMBINING
+/// alone.
+#[inline(always)]
+pub(crate) fn is_told_from(word: u32, last: u8) -> bool
+    ensures { IsTrue result →
+        (is_plain word ≡ true) ⊎ ((is_ordinary_class_form word ≡ true) × (last ≤ low_byte word)) }
+{
+    if BACKWARD + MARK + last as u32 <= word && word <= BACKWARD + LAST_MARK {
+        return true;
+    }
+    is_plain(word)
+}
+
+/// Returns whether a word has no flag.
+#[inline(always)]
+pub(crate) fn is_unflagged(word: u32) -> bool
+    ensures { IsTrue result → has_no_flag word ≡ true }
+{
+    word < FLAG
 }
 
 /// Returns whether a word has no flag, or is that of a mark of a class from `last` on, with BACKWARD_COMBINING alone.

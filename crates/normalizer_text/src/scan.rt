@@ -10,7 +10,7 @@ use std::simd::prelude::*;
 const LANES: usize = 16;
 /// How many units each vector after it holds.
 const MORE_LANES: usize = 32;
-/// How many units the vector holds for which fewer than those of the first are left.
+/// How many units each vector holds if few are left.
 const FEWER_LANES: usize = 8;
 
 /// Units that are compared with a bound by a vector, or one alone.
@@ -30,7 +30,7 @@ pub(crate) trait Lanes: Copy {
         requires { position + LANES ≤ length (units self) }
         ensures { result ≡ leading_below bound (take LANES (drop position (units self))) };
 
-    /// Returns the same of the vector for which fewer are left.
+    /// Returns the same of a vector if few are left.
     fn fewer_lanes_below(self, position: usize, bound: u32) -> usize
         requires { position + FEWER_LANES ≤ length (units self) }
         ensures { result ≡ leading_below bound (take FEWER_LANES (drop position (units self))) };
@@ -101,20 +101,18 @@ fn end_of_few<L: Lanes>(units: L, position: usize, bound: u32) -> usize
     end_of_fewer(units, position + LANES, bound)
 }
 
-/// Returns the same end, if fewer units are left than the first vector holds.
+/// Returns the same end, if few units are left: by vectors of which all units are below, and then unit by unit, so that
+/// what comes next doesn't wait for a vector's mask.
 #[inline(always)]
-fn end_of_fewer<L: Lanes>(units: L, position: usize, bound: u32) -> usize
+pub(crate) fn end_of_fewer<L: Lanes>(units: L, position: usize, bound: u32) -> usize
     requires { position ≤ length (L.units units) }
     ensures { result ≡ position + leading_below bound (drop position (L.units units)) }
 {
-    if units.len() - position < FEWER_LANES {
-        return end_by_units(units, position, bound);
+    let mut end = position;
+    while units.len() - end >= FEWER_LANES && units.fewer_lanes_below(end, bound) == FEWER_LANES {
+        end += FEWER_LANES;
     }
-    let below = units.fewer_lanes_below(position, bound);
-    if below != FEWER_LANES {
-        return position + below;
-    }
-    end_by_units(units, position + FEWER_LANES, bound)
+    end_by_units(units, end, bound)
 }
 
 /// Returns the same end, unit by unit.

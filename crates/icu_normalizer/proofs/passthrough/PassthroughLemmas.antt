@@ -3,15 +3,15 @@ use Rattle.std.proofs.Common.{◌≡◌, ℕ, ◌<◌, ◌⊎◌, inl, inr, Bool
 use Rattle.std.specs.Char.{IsScalar}
 use Rattle.std.specs.Prelude.{nat_lt, ◌||◌, ◌&&◌, ◌≤◌, not, option_and_then, Option, Some, None, if◌then◌else◌}
 use lib.Utf8.{scalar}
-use Rattle.std.proofs.lemmas.Bool.{and_parts, cases_Bool, cases_lt, cond-false, cond-true, cond_both, le-ltb, lt-ltb, ltb-true}
+use Rattle.std.proofs.lemmas.Bool.{cases_Bool, cases_lt, cond-false, cond-true, cond_both, le-ltb, lt-ltb}
 use Rattle.std.proofs.lemmas.List.{drop_at}
 use Rattle.std.proofs.lemmas.Option.{option_and_then_some}
 use Rattle.normal_forms.specs.Reading.{Reading, ReadsAsItself, IsSecondInNoPair, IsStarter}
-use Rattle.normal_forms.specs.Boundary.{BeginsWithStarter}
+use Rattle.normal_forms.specs.Boundary.{BeginsAtBoundary, BeginsWithStarter}
 use Rattle.normal_forms.specs.Hypotheses.{HasStarterResults, SuitsForm}
 use Rattle.normal_forms.specs.Decomposition.{expand}
 use Rattle.normal_forms.specs.Order.{order, insert, EndsUpTo}
-use Rattle.normal_forms.specs.Composition.{compose, compose_from}
+use Rattle.normal_forms.specs.Composition.{compose, compose_from, visit}
 use Rattle.normal_forms.specs.declared.Form.{Form}
 use Rattle.normal_forms.specs.declared.Form.TheVariants.{Decomposing, Composing}
 use Rattle.normal_forms.specs.Forms.{normal_form, nfd, nfc, IsNormalized}
@@ -185,18 +185,30 @@ module _ (s : Characters) (b : Bounds) (pairs : List Pair) (c : ℕ) where
   class_when true other k is = inl ((let same : 0 ≡ k = cc in sym same), refl)
   class_when false other k is = inr is
 
-  -- what it says that a character passes as a mark
+  -- what it says that a character passes that isn't passed by a composing loop
   alone : (k : ℕ) → option_and_then (class_if_alone pairs c) (class_of_itself (reading_of_word s c)) ≡ Some k
-      → (class_of_itself (reading_of_word s c) ≡ Some k) × (0 < k) × (may_be_second pairs c ≡ false)
+      → (class_of_itself (reading_of_word s c) ≡ Some k) × (may_be_second pairs c ≡ false)
   unfolding class_if_alone
-  alone k is = option_and_then_some (class_if_alone pairs c) (class_of_itself (reading_of_word s c)) k is (λ j own passes. elim (cases_Bool (nat_lt 0 j && not (may_be_second pairs c))) [
-    | inl true_of_both ↦
-        let same : Some j ≡ Some k = sym (cond-true (nat_lt 0 j && not (may_be_second pairs c)) (Some j) None true_of_both) ∙ passes in
-        let equal : j ≡ k = cc in
-        let parts = and_parts (nat_lt 0 j) (not (may_be_second pairs c)) true_of_both in
-        (own ∙ same, subst (λ n. 0 < n) equal (ltb-true 0 j parts.0), not-true (may_be_second pairs c) parts.1)
-    | inr other ↦ absurd (let none : None ≡ Some k = sym (cond-false (nat_lt 0 j && not (may_be_second pairs c)) (Some j) None other) ∙ passes in cc)
+  alone k is = option_and_then_some (class_if_alone pairs c) (class_of_itself (reading_of_word s c)) k is (λ j own passes. elim (cases_Bool (may_be_second pairs c)) [
+    | inl second ↦ absurd (let none : None ≡ Some k = sym (cond-true (may_be_second pairs c) None (Some j) second) ∙ passes in cc)
+    | inr other ↦ (own ∙ sym (cond-false (may_be_second pairs c) None (Some j) other) ∙ passes, other)
   ])
+
+  -- a starter that reads as itself and composes with nothing before it
+  CanPassThrough-alone : SuitsLazyComposing s b pairs → IsScalar c → class_of_itself (reading_of_word s c) ≡ Some 0 → may_be_second pairs c ≡ false
+      → CanPassThrough (reading_by s Dropped pairs) Composing true c
+  unfolding normal_form nfc nfd expand order insert compose compose_from visit
+  CanPassThrough-alone suits scalar own other =
+      let d = reading_by s Dropped pairs in
+      let known = of_itself s 0 c scalar 0 own in
+      let itself : d.list c ≡ c ∷ [] = known.0 in
+      record {
+        starter = known.1;
+        own = ap (λ l. compose d (order d (l ++ []))) itself;
+        begins = λ front x. nfc-boundary d suits.starters front (c ∷ x)
+            (BeginsAtBoundary-expand d c x (λ none. let no : [] ≡ c ∷ [] = sym none ∙ itself in cc) (subst (BeginsAtBoundary d) (sym itself) (known.1, pair_of-none pairs c other)));
+        ends = λ no. absurd (cc);
+      }
 
   pub composed_low_class : c < b.composition → composing_class s b pairs c ≡ Some 0
   unfolding composing_class
@@ -206,7 +218,7 @@ module _ (s : Characters) (b : Bounds) (pairs : List Pair) (c : ℕ) where
   unfolding composing_class
   CanPassThrough-composed suits scalar is = elim (class_when (is_composing_passthrough s b c) _ 0 is) [
     | inl passed ↦ CanPassThrough-passed s b pairs suits c scalar passed.1
-    | inr mark ↦ absurd (let known = alone 0 mark in omega (arith, known.1))
+    | inr other ↦ let known = alone 0 other in CanPassThrough-alone suits scalar known.0 known.1
   ]
 
   pub CanFollowMark-composed : SuitsForm (reading_by s Dropped pairs) Composing → IsScalar c → (k : ℕ) → composing_class s b pairs c ≡ Some k → 0 < k
@@ -217,7 +229,7 @@ module _ (s : Characters) (b : Bounds) (pairs : List Pair) (c : ℕ) where
     | inr mark ↦
         let known = alone k mark in
         let itself = of_itself s 0 c scalar k known.0 in
-        CanFollowMark-itself (reading_by s Dropped pairs) Composing suits c k itself.0 itself.1 some (λ _. pair_of-none pairs c known.2)
+        CanFollowMark-itself (reading_by s Dropped pairs) Composing suits c k itself.0 itself.1 some (λ _. pair_of-none pairs c known.1)
   ]
 
 module _ (d : Reading) (form : Form) where

@@ -2,7 +2,7 @@
 use Rattle.std.proofs.Common.{◌≡◌, ℕ, zero, suc, ◌-◌, ◌<◌, ◌≤◌, Bool, true, false, List, [], ◌∷◌, ◌++◌, length, take, drop, map, refl, sym, ap, subst, ◌∙◌}
 use Rattle.std.proofs.Common.{append_assoc, append-nil, arith, length-drop, inl, inr}
 use Rattle.std.specs.Char.{IsScalar}
-use Rattle.std.specs.Prelude.{All, ◌⊎◌, ◌&&◌, Option, Some}
+use Rattle.std.specs.Prelude.{All, ◌⊎◌, ◌&&◌, ◌==◌, Option, Some}
 use Rattle.std.proofs.lemmas.Bool.{cases_lt, cases_Bool, true≢false, cond-true, cond-false, eq-eqb}
 use Rattle.std.proofs.lemmas.Option.{option_and_then_some}
 use Rattle.std.proofs.lemmas.List.{drop_at, map-append}
@@ -57,7 +57,9 @@ error_first Encoding.Utf16 = error_utf16
 -- so what passes is no error
 passes_right : (passed : ℕ → Option ℕ) (s : Step) (k : ℕ) → (s.is_error ≡ true → s.character ≡ replacement) → class_of_step passed s ≡ Some k → s.is_error ≡ false
 passes_right passed s k known is = elim (cases_Bool s.is_error) [
-  | inl error ↦ absurd (true≢false (sym (eq-eqb s.character replacement (known error)) ∙ (class_of_step-passed passed s k is).0))
+  | inl error ↦
+      let both : (s.is_error && (s.character == replacement)) ≡ true = ap (λ b. b && (s.character == replacement)) error ∙ eq-eqb s.character replacement (known error) in
+      absurd (true≢false (sym both ∙ (class_of_step-passed passed s k is).0))
   | inr right ↦ right
 ]
 

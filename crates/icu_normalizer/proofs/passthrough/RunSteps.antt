@@ -1,7 +1,8 @@
 -- Runs of characters that are passed on as they are, step by step.
 use Rattle.std.proofs.Common.{◌≡◌, ℕ, ◌+◌, ◌-◌, ◌<◌, ◌≤◌, Bool, true, false, List, [], ◌∷◌, ◌++◌, length, length-drop, take, drop, map, refl, sym, ap, subst, ◌∙◌}
 use Rattle.std.proofs.Common.{append_assoc, append-nil, arith, length-take-le, inl, inr}
-use Rattle.std.specs.Prelude.{All, ◌⊎◌, ◌≢◌, ◌==◌, ◌||◌, nat_le, Option, Some, None, option_and_then}
+use Rattle.std.specs.Prelude.{All, ◌⊎◌, ◌≢◌, ◌==◌, ◌||◌, ◌&&◌, nat_le, Option, Some, None, option_and_then}
+use Rattle.std.proofs.Math.Bool.{and-false}
 use Rattle.std.proofs.lemmas.Bool.{cases_Bool, cond-true, cond-false, eqb-true, leb-true, ne_eqb, or_cases}
 use Rattle.std.proofs.lemmas.Option.{option_and_then_some}
 use Rattle.std.proofs.lemmas.List.Elements.{All-nil, All-cons, All-append, All-head, All-tail}
@@ -18,12 +19,18 @@ use Rattle.icu_normalizer.specs.inner.PassthroughRuns.{class_after, class_in_ord
 -- ---- the classes of steps that pass
 
 module _ (passed : ℕ → Option ℕ) where
-  pub class_of_step-passed : (s : Step) (k : ℕ) → class_of_step passed s ≡ Some k → ((s.character == replacement) ≡ false) × (passed s.character ≡ Some k)
+  pub class_of_step-passed : (s : Step) (k : ℕ) → class_of_step passed s ≡ Some k → ((s.is_error && (s.character == replacement)) ≡ false) × (passed s.character ≡ Some k)
   unfolding class_of_step
-  class_of_step-passed s k is = elim (cases_Bool (s.character == replacement)) [
-    | inl error ↦ absurd (let none : None ≡ Some k = sym (cond-true (s.character == replacement) None (passed s.character) error) ∙ is in cc)
-    | inr right ↦ (right, sym (cond-false (s.character == replacement) None (passed s.character) right) ∙ is)
+  class_of_step-passed s k is = elim (cases_Bool (s.is_error && (s.character == replacement))) [
+    | inl error ↦ absurd (let none : None ≡ Some k = sym (cond-true (s.is_error && (s.character == replacement)) None (passed s.character) error) ∙ is in cc)
+    | inr right ↦ (right, sym (cond-false (s.is_error && (s.character == replacement)) None (passed s.character) right) ∙ is)
   ]
+
+  -- a character that isn't U+FFFD is no error
+  pub class_of_step-other : (s : Step) → s.character ≢ replacement → class_of_step passed s ≡ passed s.character
+  unfolding class_of_step
+  class_of_step-other s other = cond-false (s.is_error && (s.character == replacement)) None (passed s.character)
+      (ap (λ b. s.is_error && b) (ne_eqb s.character replacement other) ∙ and-false s.is_error)
 
   -- what a class says of the step that has it: it is a starter, or the class isn't less than the last
   pub next_class-passed : (last : ℕ) (s : Step) (k : ℕ) → next_class passed last s ≡ Some k → (class_of_step passed s ≡ Some k) × ((k ≡ 0) ⊎ (last ≤ k))
@@ -42,9 +49,7 @@ module _ (passed : ℕ → Option ℕ) where
 
   -- a character of class 0 passes after any other
   pub next_class-member : (last : ℕ) (s : Step) → s.character ≢ replacement → passed s.character ≡ Some 0 → next_class passed last s ≡ Some 0
-  unfolding class_of_step
-  next_class-member last s other is =
-      next_class-starter last s (cond-false (s.character == replacement) None (passed s.character) (ne_eqb s.character replacement other) ∙ is)
+  next_class-member last s other is = next_class-starter last s (class_of_step-other s other ∙ is)
 
   class_after-append : (a b : List Step) (last k : ℕ) → class_after passed last a ≡ Some k → class_after passed last (a ++ b) ≡ class_after passed k b
   unfolding class_after
@@ -123,12 +128,11 @@ module _ (passed : ℕ → Option ℕ) (e : Encoding) (units : List ℕ) where
   -- a run goes on with characters of a set, each of which passes
   module _ (test : ℕ → Bool) (pass : (c : ℕ) → test c ≡ true → (c ≢ replacement) × (passed c ≡ Some 0)) where
     members_pass : (ss : List Step) → All (λ s. test s.character ≡ true) ss → All (λ s. class_of_step passed s ≡ Some 0) ss
-    unfolding class_of_step
     members_pass [] all = All-nil (λ s. class_of_step passed s ≡ Some 0)
     members_pass (s ∷ ss) all =
         let is = pass s.character (All-head (λ t. test t.character ≡ true) s ss all) in
         All-cons (λ t. class_of_step passed t ≡ Some 0) s ss
-        (cond-false (s.character == replacement) None (passed s.character) (ne_eqb s.character replacement is.0) ∙ is.1)
+        (class_of_step-other passed s is.0 ∙ is.1)
         (members_pass ss (All-tail (λ t. test t.character ≡ true) s ss all))
 
     pub IsPassthroughTo-members : (last end new : ℕ) → new ≡ end + width_within test (steps (first_in e) (drop end units)) → (new ≡ end → last ≡ 0) → IsPassthroughTo passed e units end last

@@ -1,8 +1,8 @@
 -- Characters that are seen to pass by their words.
-use Rattle.std.proofs.Common.{◌≡◌, ◌≢◌, ℕ, ◌<◌, ◌≤◌, ◌==◌, ◌||◌, ◌&&◌, ◌⊎◌, inl, inr, true, false, not, ap, subst, sym, ◌∙◌, arith, List}
+use Rattle.std.proofs.Common.{◌≡◌, ℕ, ◌<◌, ◌≤◌, ◌==◌, ◌||◌, ◌&&◌, ◌⊎◌, inl, inr, true, false, ap, subst, sym, ◌∙◌, arith, List}
 use Rattle.std.specs.Char.{IsScalar}
 use Rattle.std.specs.Prelude.{nat_le, nat_lt, IfSome, Option, Some, None, option_and_then, if◌then◌else◌}
-use Rattle.std.proofs.lemmas.Bool.{cases_Bool, cases_lt, cond-false, cond-true, eq-eqb, eqb-true, le-leb, le-ltb, lt-ltb}
+use Rattle.std.proofs.lemmas.Bool.{cases_Bool, cases_lt, cond-false, cond-true, eq-eqb, le-leb, le-ltb}
 use Rattle.normalizer_text.specs.declared.decoding_step.Step.{Step}
 use Rattle.normalizer_tables.specs.declared.condition.Bounds.{Bounds}
 use Rattle.normalizer_tables.specs.Characters.{Characters, class_of, class_of_itself, reading_of_word, word_of}
@@ -23,16 +23,16 @@ unfolding class_in_order
 in_order last k (inl zero) = cond-true ((k == 0) || nat_le last k) (Some k) None (ap (λ b. b || nat_le last k) (eq-eqb k 0 zero))
 in_order last k (inr rising) = cond-true ((k == 0) || nat_le last k) (Some k) None (ap (λ b. (k == 0) || b) (le-leb last k rising) ∙ or-true (k == 0))
 
-module _ (passed : ℕ → Option ℕ) (last : ℕ) (s : Step) (right : s.character ≢ replacement) where
-  no_replacement : (s.character == replacement) ≡ false
-  no_replacement = elim (cases_Bool (s.character == replacement)) [ inl error ↦ absurd (right (eqb-true s.character replacement error)) | inr other ↦ other ]
-
+module _ (passed : ℕ → Option ℕ) (last : ℕ) (s : Step) (right : s.is_error ≡ false) where
   -- the class of its step
   pub next_class_seen : (class : Option ℕ) → IfSome class (λ k. passed s.character ≡ Some k) → IfSome class (λ k. class_in_order last k ≡ Some k)
       → IfSome class (λ k. next_class passed last s ≡ Some k)
   unfolding next_class class_of_step
   next_class_seen None own order = tt
-  next_class_seen (Some k) own order = ap (option_and_then (class_in_order last)) (cond-false (s.character == replacement) None (passed s.character) no_replacement ∙ own) ∙ order
+  next_class_seen (Some k) own order =
+      ap (option_and_then (class_in_order last))
+      (cond-false (s.is_error && (s.character == replacement)) None (passed s.character) (ap (λ b. b && (s.character == replacement)) right) ∙ own)
+      ∙ order
 
 module _ (s : Characters) (c k : ℕ) (is_scalar : IsScalar c) (own : class_of_itself (reading_of_word s c) ≡ Some k) where
   -- one that is its own list passes where text is decomposed
@@ -44,17 +44,17 @@ module _ (s : Characters) (c k : ℕ) (is_scalar : IsScalar c) (own : class_of_i
     | inr high ↦ cond-false (nat_lt c bound) (Some 0) (class_of_itself (reading_of_word s c)) (le-ltb c bound high) ∙ own
   ]
 
-  -- a mark that is second in no pair passes where text is composed
-  pub seen_composed : (b : Bounds) (pairs : List Pair) → SuitsLazyComposing s b pairs → 0 < k → may_be_second pairs c ≡ false → composing_class s b pairs c ≡ Some k
+  -- one that is second in no pair passes where text is composed, too
+  pub seen_composed : (b : Bounds) (pairs : List Pair) → SuitsLazyComposing s b pairs → may_be_second pairs c ≡ false → composing_class s b pairs c ≡ Some k
   unfolding composing_class class_if_alone
-  seen_composed b pairs suits mark alone = elim (cases_Bool (is_composing_passthrough s b c)) [
+  seen_composed b pairs suits alone = elim (cases_Bool (is_composing_passthrough s b c)) [
     | inl passed ↦
         let zero : class_of s c ≡ 0 = (CanPassThrough-passed s b pairs suits c is_scalar passed).starter in
         let is : class_of s c ≡ k = (of_itself s 0 c is_scalar k own).1 in
-        absurd (omega (arith, zero, is))
+        cond-true (is_composing_passthrough s b c) (Some 0) _ passed ∙ ap (λ n. Some n) (sym zero ∙ is)
     | inr other ↦ cond-false (is_composing_passthrough s b c) (Some 0) (option_and_then (class_if_alone pairs c) (class_of_itself (reading_of_word s c))) other
         ∙ ap (option_and_then (class_if_alone pairs c)) own
-        ∙ cond-true (nat_lt 0 k && not (may_be_second pairs c)) (Some k) None (ap (λ a. a && not (may_be_second pairs c)) (lt-ltb 0 k mark) ∙ ap not alone)
+        ∙ cond-false (may_be_second pairs c) None (Some k) alone
   ]
 
 -- one without flags passes, too
@@ -78,7 +78,7 @@ module _ (s : Characters) (n w last : ℕ) (word : w ≡ word_of s n) where
     pub class_composed : (has_no_flag w ≡ true) ⊎ ((is_ordinary_class_form w ≡ true) × (last ≤ low_byte w) × (0 < low_byte w) × (is_backward_combining w ≡ true)) → composing_class s b pairs n ≡ Some k
     class_composed (inl none) = seen_unflagged s b pairs n (subst (λ v. has_no_flag v ≡ true) word none) ∙ ap (λ j. Some j) (sym (other (not_backward w none)))
     class_composed (inr mark) =
-        seen_composed s n (low_byte w) is_scalar (sym (class_of_itself-ordinary s n w word mark.0)) b pairs suits mark.2 alone
+        seen_composed s n (low_byte w) is_scalar (sym (class_of_itself-ordinary s n w word mark.0)) b pairs suits alone
         ∙ ap (λ j. Some j) (sym (backward mark.3))
 
     pub order_composed : (has_no_flag w ≡ true) ⊎ ((is_ordinary_class_form w ≡ true) × (last ≤ low_byte w) × (0 < low_byte w) × (is_backward_combining w ≡ true)) → class_in_order last k ≡ Some k

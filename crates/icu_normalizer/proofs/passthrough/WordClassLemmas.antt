@@ -26,7 +26,7 @@ module _ (w : ℕ) where
     | inr some ↦ ap not some
   ]
 
-  no_flag : w < 0x40000000 → has_no_flag w ≡ true
+  pub no_flag : w < 0x40000000 → has_no_flag w ≡ true
   unfolding has_no_flag is_non_round_trip is_backward_combining
   no_flag small =
       let round_trip : (bit_and w 0x40000000 == 0) ≡ true = eq-eqb (bit_and w 0x40000000) 0 (and_high w 1 30 ∙ omega arith) in
@@ -44,6 +44,10 @@ module _ (w last : ℕ) where
         inr (ordinary w (omega arith) (omega (arith, and_mask w 30)), omega (arith, and_mask w 30, low_is w))
     | inr none ↦ inl (eq-eqb (bit_and w 0x3FFFFFFF) 0 (omega arith))
   ]
+
+  -- a word of a mark, with its flags
+  pub told_from : 0x8000D800 + last ≤ w → w ≤ 0x8000D8FF → (is_ordinary_class_form w ≡ true) × (last ≤ low_byte w)
+  told_from least most = (ordinary w (omega arith) (omega arith), omega (arith, low_is w))
 
   -- a word with its flags, or how much more it is than the lower one
   pub mark_from : w < 2 ^ 32 → w ≤ 0x8000D8FF → w ≢ 0x8000D800 → 0x4000D800 + last ≤ (w + (2 ^ 32 - 0x40000000)) % 2 ^ 32

@@ -1,16 +1,17 @@
 -- Lists in which nothing composes: no member after the first is the second of a pair.
-use Rattle.std.proofs.Common.{◌≡◌, ℕ, suc, List, [], ◌∷◌, ◌++◌, None, Some, refl, sym, ap, ◌∙◌, append-nil, append_assoc, slice_get}
-use Rattle.std.proofs.lemmas.Bool.{cond_both}
+use Rattle.std.proofs.Common.{◌≡◌, ℕ, zero, suc, List, [], ◌∷◌, ◌++◌, None, Some, false, refl, sym, subst, ap, ◌∙◌, append-nil, append_assoc, slice_get}
+use Rattle.std.proofs.lemmas.Bool.{cond-true, cond_both}
+use Rattle.normal_forms.proofs.composing.ComposeLemmas.{is_starter-true}
 use Rattle.std.specs.Prelude.{◌&&◌, not}
 use Rattle.std.specs.Char.{IsScalar}
-use Rattle.normal_forms.specs.Reading.{Reading, is_starter}
+use Rattle.normal_forms.specs.Reading.{Reading, IsStarter, is_starter}
 use Rattle.normal_forms.specs.Composition.{compose, compose_from, is_blocked, joined, visit}
 use Rattle.normal_forms.specs.Forms.{nfc, nfd, normal_form}
 use Rattle.normal_forms.specs.Decomposition.{expand}
 use Rattle.normal_forms.specs.Order.{order}
 use Rattle.normal_forms.specs.declared.Form.TheVariants.{Composing}
 use Rattle.normalizer_tables.specs.Characters.{Characters, list_of}
-use Rattle.normalizer_tables.specs.Pairs.{Pair, pair_of}
+use Rattle.normalizer_tables.specs.Pairs.{Pair, may_be_second, pair_of}
 use Rattle.normalizer_tables.specs.Readings.{reading_by}
 use Rattle.normalizer_tables.specs.declared.characters.IgnoredCharacters.TheVariants.{Dropped}
 use Rattle.normalizer_tables.specs.declared.condition.Bounds.{Bounds}
@@ -42,11 +43,42 @@ module _ (d : Reading) where
   compose-none [] none = refl
   compose-none (e ∷ x) none = compose_from-none x (e ∷ []) none
 
+-- a character becomes what its list composes to
+pub form_of_list : (s : Characters) (b : Bounds) (pairs : List Pair) → ServesComposing s b pairs → (c : ℕ) → IsScalar c
+    → normal_form (reading_by s Dropped pairs) Composing (c ∷ []) ≡ compose (reading_by s Dropped pairs) (list_of s [] c)
+unfolding normal_form nfc nfd expand
+form_of_list s b pairs serves c scalar =
+    ap (λ l. compose (reading_by s Dropped pairs) (order (reading_by s Dropped pairs) l)) (append-nil (list_of s [] c))
+    ∙ ap (compose (reading_by s Dropped pairs)) (sym (order-own s [] (pair_of pairs) (list_of s [] c)) ∙ serves.ordered c scalar)
+
+-- a list in which nothing composes stays
+pub compose-apart : (s : Characters) (pairs : List Pair) (x : List ℕ) → HasNoSecond pairs x → compose (reading_by s Dropped pairs) x ≡ x
+compose-apart s pairs x apart = compose-none (reading_by s Dropped pairs) x (λ i m at. pair_of-none pairs m (apart i m at))
+
+-- one character stays
+pub compose-one : (d : Reading) (c : ℕ) → compose d (c ∷ []) ≡ c ∷ []
+unfolding compose compose_from visit
+compose-one d c = refl
+
+-- three do if neither the second nor the third is second in a pair
+pub HasNoSecond-three : (pairs : List Pair) (a b c : ℕ) → may_be_second pairs b ≡ false → may_be_second pairs c ≡ false → HasNoSecond pairs (a ∷ b ∷ c ∷ [])
+HasNoSecond-three pairs a b c second third zero m at = (let same : b ≡ m = cc in subst (λ k. may_be_second pairs k ≡ false) same second)
+HasNoSecond-three pairs a b c second third (suc zero) m at = (let same : c ≡ m = cc in subst (λ k. may_be_second pairs k ≡ false) same third)
+HasNoSecond-three pairs a b c second third (suc (suc i)) m at = absurd (let no : None ≡ Some m = at in cc)
+
+-- two characters compose if the first is a starter and they are a pair
+module _ (d : Reading) (first second : ℕ) where
+  pub compose-two : (composite : ℕ) → d.pair first second ≡ Some composite → IsStarter d first → compose d (first ∷ second ∷ []) ≡ composite ∷ []
+  unfolding compose compose_from visit joined is_blocked
+  compose-two composite pair starter =
+      let joins : joined d first [] second ≡ Some composite = cond-true (is_starter d first && not (is_blocked d [] second)) (d.pair first second) None (ap (λ b. b && not (is_blocked d [] second)) (is_starter-true d first starter)) ∙ pair in
+      rw (joins, visit) refl
+
+  pub compose-no_two : d.pair first second ≡ None → compose d (first ∷ second ∷ []) ≡ first ∷ second ∷ []
+  unfolding compose compose_from visit
+  compose-no_two none = rw (joined-none d first [] second none, visit) refl
+
 -- a character whose list is such a one becomes that list
 pub form_of_apart : (s : Characters) (b : Bounds) (pairs : List Pair) → ServesComposing s b pairs → (c : ℕ) → IsScalar c → HasNoSecond pairs (list_of s [] c)
     → normal_form (reading_by s Dropped pairs) Composing (c ∷ []) ≡ list_of s [] c
-unfolding normal_form nfc nfd expand
-form_of_apart s b pairs serves c scalar apart =
-    ap (λ l. compose (reading_by s Dropped pairs) (order (reading_by s Dropped pairs) l)) (append-nil (list_of s [] c))
-    ∙ ap (compose (reading_by s Dropped pairs)) (sym (order-own s [] (pair_of pairs) (list_of s [] c)) ∙ serves.ordered c scalar)
-    ∙ compose-none (reading_by s Dropped pairs) (list_of s [] c) (λ i m at. pair_of-none pairs m (apart i m at))
+form_of_apart s b pairs serves c scalar apart = form_of_list s b pairs serves c scalar ∙ compose-apart s pairs (list_of s [] c) apart

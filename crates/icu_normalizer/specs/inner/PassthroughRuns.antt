@@ -1,5 +1,5 @@
 -- Text whose form is made in parts: runs of characters that are passed on as they are, and what is between them.
-use Rattle.std.specs.Prelude.{◌≡◌, ◌≢◌, ℕ, ◌-◌, ◌<◌, ◌≤◌, Bool, true, false, not, ◌||◌, ◌&&◌, ◌==◌, nat_le, nat_lt}
+use Rattle.std.specs.Prelude.{◌≡◌, ◌≢◌, ℕ, ◌-◌, ◌<◌, ◌≤◌, Bool, true, false, ◌||◌, ◌&&◌, ◌==◌, nat_le}
 use Rattle.std.specs.Prelude.{if◌then◌else◌}
 use Rattle.std.specs.Prelude.{List, [], ◌∷◌, ◌++◌, length, take, drop, All, IfSome, Option, Some, None, option_and_then}
 use Rattle.normal_forms.specs.Reading.{Reading, IsStarter, ReadsAsItself}
@@ -47,9 +47,9 @@ pub record IsOwnListOfClass (d : Reading) (c k : ℕ) : Type 0 where
   pub itself : ReadsAsItself d c
   pub class : d.class c ≡ k
 
--- the class k of c, if c is a mark and composes with nothing before it
+-- the class k of c, if c composes with nothing before it
 unfoldable pub class_if_alone : List Pair → ℕ → ℕ → Option ℕ
-class_if_alone pairs c k = if nat_lt 0 k && not (may_be_second pairs c) then Some k else None
+class_if_alone pairs c k = if may_be_second pairs c then None else Some k
 
 -- the class with which c passes where text is composed: 0 if a composing loop passes it, else its own, if it is its own
 -- list and composes with nothing before it
@@ -58,13 +58,13 @@ composing_class s b pairs c =
     if is_composing_passthrough s b c then Some 0
     else option_and_then (class_if_alone pairs c) (class_of_itself (reading_of_word s c))
 
--- U+FFFD, as which errors read, never passes
+-- as which errors read
 abbrev pub replacement : ℕ
 replacement = 0xFFFD
 
--- the class with which a step passes; none if it never does
+-- the class with which a step passes; none if it never does, as an error
 unfoldable pub class_of_step : (ℕ → Option ℕ) → Step → Option ℕ
-class_of_step passed s = if s.character == replacement then None else passed s.character
+class_of_step passed s = if s.is_error && (s.character == replacement) then None else passed s.character
 
 -- after a character of class `last`, one of class 0 passes, and one whose class isn't less than the last
 unfoldable pub class_in_order : ℕ → ℕ → Option ℕ

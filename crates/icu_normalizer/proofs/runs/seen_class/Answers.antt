@@ -1,6 +1,5 @@
-use Rattle.std.proofs.Common.{arith}
 use Rattle.icu_normalizer.proofs.passthrough.SeenClasses.{next_class_seen}
 use Rattle.icu_normalizer.proofs.runs.seen_class.Goals as goal
 
 pub returns : goal.returns
-returns g c = next_class_seen (g.N.Forming.passthrough_class c.args.normalizer.now) c.args.last c.args.step (λ is. omega (arith, is)) _ c.seen_class.ensures.passes c.seen_class.ensures.in_order
+returns g c = next_class_seen (g.N.Forming.passthrough_class c.args.normalizer.now) c.args.last c.args.step c.if-step.false _ c.seen_class.ensures.passes c.seen_class.ensures.in_order

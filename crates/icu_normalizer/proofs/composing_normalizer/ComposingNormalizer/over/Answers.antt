@@ -12,7 +12,7 @@ met : (c : In_ok-check) → SuitsComposing (characters_owned c.args.characters f
 met c = let h = c.in_ok-check.ensures.ok.0 refl in rw (c.composing_conditions.ensures, c.new-loaded.ensures, c.of_cap-bounds.ensures, c.cap.ensures, c.as_borrowed-borrowed.ensures) at h
 
 pub invariant_of-result : goal.invariant_of-result
-invariant_of-result c = record { serves = ServesDecomposing-met _ refl (parts_met _ _ (met c)).0 }
+invariant_of-result c = record { bounded = rw (c.of_cap-bounds.ensures, c.cap.ensures, c.as_borrowed-borrowed.ensures) refl; serves = ServesDecomposing-met _ refl (parts_met _ _ (met c)).0 }
 
 pub invariant_of-result-2 : goal.invariant_of-result-2
 invariant_of-result-2 c = record { serves = ServesComposing-met _ _ refl (met (goal.at.invariant_of-result-2 c).In_ok-check) }
