@@ -41,10 +41,12 @@ TEXTS = {
     "marks out of order": "a\u0301\u0323b\u0302\u0323c\u0304\u0323d",
     "ligatures": 2 * "".join(map(chr, range(0xFB00, 0xFB05))),
     "circled": "".join(map(chr, range(0x2460, 0x246A))),
+    "circled Hangul": "".join(map(chr, range(0x326E, 0x3278))),
     "mathematical": "".join(map(chr, range(0x1D400, 0x1D40A))),
     "musical": 2 * "".join(map(chr, range(0x1D15E, 0x1D163))),
     "CJK, compatibility": "".join(map(chr, range(0x2F972, 0x2F97C))),
     "Kaithi letters": "".join(map(chr, range(0x11096, 0x110A0))),
+    "U+FFFD": "caf\uFFFD na\uFFFDve",
 }
 SLOWER = {
     "Chakma": "\U00011103\U0001110B\U00011134\U0001111F\U00011133\U00011126 \U0001110C\U0001110B\U00011134",
@@ -52,8 +54,6 @@ SLOWER = {
     "Kaithi": "\U00011096\U00011097\U000110B0\U00011099\U000110B9 \U00011096\U00011097\U000110B0\U00011099",
     "marks": "".join(map(chr, range(0x2DE2, 0x2DEC))),
     "marks, Glagolitic": "".join(map(chr, range(0x1E00B, 0x1E015))),
-    "circled Hangul": "".join(map(chr, range(0x326E, 0x3278))),
-    "U+FFFD": "caf\uFFFD na\uFFFDve",
     "U+FFFD alone": 10 * "\uFFFD",
 }
 
