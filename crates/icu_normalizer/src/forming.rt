@@ -28,7 +28,8 @@ use crate::kept::{
     SeenSegment, Unseen, composed_list, composed_list_of_two, has_no_second, seen_segment,
 };
 use crate::word_classes::{
-    class_if_backward, is_own_from, is_told_from, is_unflagged, is_unflagged_or_mark_from,
+    class_if_backward, is_own_from, is_own_from_by_branches, is_unflagged,
+    is_unflagged_or_mark_from,
 };
 use crate::writing::{first_item, write_items};
 use normalizer_iterators::{MarkRun, NormalizeError, SegmentBuffers};
@@ -75,9 +76,9 @@ pub trait Forming {
         ensures passes { IfSome result (λ class. passthrough_class self.now character ≡ Some class) }
         ensures in_order { IfSome result (λ class. class_in_order last class ≡ Some class) };
 
-    /// Returns the same class, if starters are told from marks by a branch: that takes fewer instructions, and is
-    /// foreseen unless the text is long and letters and marks alternate.
-    fn told_class(&self, last: u8, character: char) -> Option<u8>
+    /// Returns the same class. Starters and marks are distinguished by a branch: that takes fewer instructions, and is
+    /// predicted unless the text is long and letters and marks alternate.
+    fn branched_class(&self, last: u8, character: char) -> Option<u8>
         ensures passes { IfSome result (λ class. passthrough_class self.now character ≡ Some class) }
         ensures in_order { IfSome result (λ class. class_in_order last class ≡ Some class) };
 
@@ -231,7 +232,7 @@ impl<'a> Forming for DecomposingForm<'a> {
     }
 
     #[inline(always)]
-    fn told_class(&self, last: u8, character: char) -> Option<u8> {
+    fn branched_class(&self, last: u8, character: char) -> Option<u8> {
         self.seen_class(last, character)
     }
 
@@ -338,12 +339,12 @@ impl<'a> Forming for ComposingForm<'a> {
     }
 
     #[inline(always)]
-    fn told_class(&self, last: u8, character: char) -> Option<u8> {
+    fn branched_class(&self, last: u8, character: char) -> Option<u8> {
         let word = self.characters.word_of(character);
         if is_unflagged(word) {
             return Some(0);
         }
-        if !is_told_from(word, last) {
+        if !is_own_from_by_branches(word, last) {
             return None;
         }
         if may_be_second(self.pairs, character) {

@@ -104,15 +104,15 @@ fn seen_class<N: Forming>(normalizer: &N, last: u8, step: Step) -> Option<u8>
     normalizer.seen_class(last, step.character)
 }
 
-/// Returns the same class, if starters are told from marks by a branch.
+/// Returns the same class. Starters and marks are distinguished by a branch.
 #[inline(always)]
-fn told_class<N: Forming>(normalizer: &N, last: u8, step: Step) -> Option<u8>
+fn branched_class<N: Forming>(normalizer: &N, last: u8, step: Step) -> Option<u8>
     ensures { IfSome result (λ class. next_class (N.passthrough_class normalizer.now) last step ≡ Some class) }
 {
     if step.is_error {
         return None;
     }
-    normalizer.told_class(last, step.character)
+    normalizer.branched_class(last, step.character)
 }
 
 /// How many characters are looked up one by one where letters and marks alternate.
@@ -397,7 +397,7 @@ fn run_end<U: Units, N: Forming>(normalizer: &N, units: U, known: RunSoFar) -> R
 /// Returns the run with the step after it, if that is seen to pass, and with the low letters after it, if it is low
 /// itself. Low letters aren't looked up.
 #[inline(always)]
-fn with_low_or_told<U: Units, N: Forming>(
+fn with_one_more<U: Units, N: Forming>(
     normalizer: &N,
     units: U,
     run: RunSoFar,
@@ -413,7 +413,7 @@ fn with_low_or_told<U: Units, N: Forming>(
     if (step.character as u32) < normalizer.passing().first_missing() {
         return Some(with_low(normalizer, units, with_step(run, step, 0)));
     }
-    let class = told_class(normalizer, run.last, step)?;
+    let class = branched_class(normalizer, run.last, step)?;
     Some(with_step(run, step, class))
 }
 
@@ -445,7 +445,7 @@ fn with_few<U: Units, N: Forming>(normalizer: &N, units: U, run: RunSoFar) -> Ru
             last,
             gaps,
         };
-        let Some(longer) = with_low_or_told(normalizer, units, known, step) else {
+        let Some(longer) = with_one_more(normalizer, units, known, step) else {
             return known;
         };
         marks = longer.marks;

@@ -1,5 +1,5 @@
-//! The words of characters that pass after a character of a class. Starters and marks aren't told apart by branches,
-//! since they alternate in a text.
+//! The words of characters that pass after a character of a class. In long texts starters and marks aren't distinguished
+//! by branches, since they alternate.
 ghost use Rattle.std.specs.Prelude.{◌≡◌, ◌<◌, ◌≤◌, ◌⊎◌, false, true, IsTrue};
 ghost use Rattle.normalizer_tables.specs.TableSets.{has_no_flag};
 ghost use Rattle.normalizer_tables.specs.Words.{is_backward_combining, is_ordinary_class_form, is_plain, low_byte};
@@ -38,10 +38,9 @@ pub(crate) fn is_own_from(word: u32, last: u8) -> bool
     true
 }
 
-/// Returns whether the same is seen of a word by branches that tell marks from starters: a mark's has BACKWARD_COMBINING
-/// alone.
+/// Returns the same by branches, of which the first is for marks with BACKWARD_COMBINING alone.
 #[inline(always)]
-pub(crate) fn is_told_from(word: u32, last: u8) -> bool
+pub(crate) fn is_own_from_by_branches(word: u32, last: u8) -> bool
     ensures { IsTrue result →
         (is_plain word ≡ true) ⊎ ((is_ordinary_class_form word ≡ true) × (last ≤ low_byte word)) }
 {

@@ -46,8 +46,8 @@ module _ (w last : ℕ) where
   ]
 
   -- a word of a mark, with its flags
-  pub told_from : 0x8000D800 + last ≤ w → w ≤ 0x8000D8FF → (is_ordinary_class_form w ≡ true) × (last ≤ low_byte w)
-  told_from least most = (ordinary w (omega arith) (omega arith), omega (arith, low_is w))
+  pub mark_word_from : 0x8000D800 + last ≤ w → w ≤ 0x8000D8FF → (is_ordinary_class_form w ≡ true) × (last ≤ low_byte w)
+  mark_word_from least most = (ordinary w (omega arith) (omega arith), omega (arith, low_is w))
 
   -- a word with its flags, or how much more it is than the lower one
   pub mark_from : w < 2 ^ 32 → w ≤ 0x8000D8FF → w ≢ 0x8000D800 → 0x4000D800 + last ≤ (w + (2 ^ 32 - 0x40000000)) % 2 ^ 32

@@ -2,7 +2,7 @@ use Rattle.std.proofs.Common.{arith}
 use Rattle.normalizer_sets.proofs.SetLemmas.{has-IsCandidate}
 use Rattle.normalizer_text.proofs.steps.StepBoundaries.{step-some}
 use Rattle.icu_normalizer.proofs.passthrough.RunSteps.{next_class-member, IsRun-longer}
-use Rattle.icu_normalizer.proofs.runs.with_low_or_told.Goals as goal
+use Rattle.icu_normalizer.proofs.runs.with_one_more.Goals as goal
 
 pub with_step-requires : goal.with_step-requires
 with_step-requires g c =
