@@ -1,5 +1,6 @@
 -- Runs of passthrough characters.
 pub mod ClassReadings
+pub mod PassingLemmas
 pub mod PassthroughLemmas
 pub mod RunParts
 pub mod RunSteps

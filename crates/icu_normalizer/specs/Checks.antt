@@ -1,6 +1,7 @@
 -- What calls ensure that compare an input with its form.
-use Rattle.std.specs.Prelude.{◌≡◌, ◌≢◌, ◌↔◌, ◌⊎◌, ℕ, ◌≤◌, Bool, List, [], ◌++◌, length, take, encode_utf8_all}
+use Rattle.std.specs.Prelude.{◌≡◌, ◌≢◌, ◌↔◌, ◌⊎◌, ℕ, ◌≤◌, All, Bool, List, [], ◌++◌, length, take, encode_utf8_all}
 use Rattle.std.specs.Prelude.{chars, Option, MatchOption, Result, IfOk, IsOk, IsOkUnless, IsTrue}
+use Rattle.std.specs.Char.{IsScalar}
 use Rattle.std.specs.Option.{ForSome}
 use Rattle.normal_forms.specs.Cut.{IsCut}
 use Rattle.normal_forms.specs.Forms.{IsNormalized}
@@ -27,6 +28,11 @@ pub record AnswersOf {A : Type 0} (m : MadeForm) (x : List ℕ) (Is : A → Type
 abbrev pub ChecksForm : MadeForm → Encoding → List ℕ → Result Bool NormalizeError → Type 0
 ChecksForm m e units result =
     AnswersOf m (decoded_in e units) (λ yes. IsTrue yes ↔ IsInputNormalized e m.reading m.form units) result
+
+-- true if and only if the units are characters, as UTF-32 encodes them, and the text of them is normalized
+abbrev pub ChecksUtf32 : MadeForm → List ℕ → Result Bool NormalizeError → Type 0
+ChecksUtf32 m units result =
+    AnswersOf m units (λ yes. IsTrue yes ↔ (All IsScalar units × IsNormalized m.reading m.form units)) result
 
 -- the units have a first mismatch, at the place or before it
 abbrev pub HasOffenceWithin : MadeForm → Encoding → List ℕ → ℕ → Type 0

@@ -1,6 +1,9 @@
 -- What the contracts of private functions alone cite.
+pub mod ComposingClasses
 pub mod Kept
 pub mod Offences
+pub mod PassingClasses
 pub mod WriteUnlessOwn
 pub mod PassthroughRuns
+pub mod Utf32
 pub mod WrittenParts

@@ -17,6 +17,7 @@ ghost use Rattle.icu_normalizer.specs.Checks.{
   AnswersOf,
   ChecksForm,
   ChecksText,
+  ChecksUtf32,
   FindsOffence,
   FindsOffenceOfText,
   IsSplitAtCut,
@@ -242,6 +243,17 @@ impl<'a> AnyNormalizerBorrowed<'a> {
         match self {
             AnyNormalizerBorrowed::Decomposing(n) => n.is_normalized_utf16(units),
             AnyNormalizerBorrowed::Composing(n) => n.is_normalized_utf16(units),
+        }
+    }
+
+    /// Returns whether `units` are characters, as UTF-32 encodes them, and the text of them is already in its normal
+    /// form.
+    pub fn is_normalized_utf32(&self, units: &[u32]) -> Result<bool, NormalizeError>
+        ensures { ChecksUtf32 (made_by_borrowed self.now) units.now result }
+    {
+        match self {
+            AnyNormalizerBorrowed::Decomposing(n) => n.is_normalized_utf32(units),
+            AnyNormalizerBorrowed::Composing(n) => n.is_normalized_utf32(units),
         }
     }
 

@@ -9,8 +9,11 @@ ghost use Rattle.normalizer_tables.specs.conditions.PairConditions.{HasOrderedLi
 ghost use Rattle.normalizer_tables.specs.declared.characters.IgnoredCharacters.TheVariants.{Dropped};
 ghost use Rattle.normalizer_iterators.specs.Iterating.{YieldsFormBy};
 ghost use Rattle.icu_normalizer.specs.Serving.{ServesComposing};
+ghost use Rattle.icu_normalizer.specs.inner.ComposingClasses.{composing_class};
+ghost use Rattle.icu_normalizer.specs.inner.PassingClasses.{Say};
 
 use crate::borrowed::NormalizerBorrowed;
+use crate::passing_classes::PassingClasses;
 use normalizer_iterators::composition::composed;
 use normalizer_iterators::{Composition, NormalizeError};
 use normalizer_tables::CanonicalCompositions;
@@ -24,6 +27,8 @@ pub struct ComposingForm<'a> {
     pub(crate) characters: CharacterData<'a>,
     pub(crate) pairs: &'a CanonicalCompositions,
     pub(crate) bounds: Bounds,
+    pub(crate) classes: &'a PassingClasses,
+    ghost says: { Say (composing_class characters bounds pairs.now) classes.now },
     ghost serves: { ServesComposing characters bounds pairs.now },
 }
 

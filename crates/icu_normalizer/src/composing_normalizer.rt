@@ -1,5 +1,5 @@
 //! Composing normalizers over the data of a provider.
-ghost use Rattle.std.specs.Prelude.{◌≡◌, false, IfOk, IfErr};
+ghost use Rattle.std.specs.Prelude.{◌≡◌, ◌⊎◌, false, IfOk, IfErr};
 ghost use Rattle.normalizer_tables.specs.Owned.{characters_owned};
 ghost use Rattle.icu_normalizer.specs.Acceptance.{bounds_of, nfd_data, nfkd_data, AnswersHeld};
 ghost use Rattle.icu_normalizer.specs.ComposingAcceptance.{
@@ -9,10 +9,13 @@ ghost use Rattle.icu_normalizer.specs.ComposingAcceptance.{
 };
 ghost use Rattle.icu_normalizer.specs.Normalizers.{data_of};
 ghost use Rattle.icu_normalizer.specs.Serving.{ServesComposing};
+ghost use Rattle.icu_normalizer.specs.inner.ComposingClasses.{composing_class};
+ghost use Rattle.icu_normalizer.specs.inner.PassingClasses.{Say};
 
 use crate::borrowed::{ComposingNormalizerBorrowed, NormalizerBorrowed};
 use crate::composing_form::ComposingForm;
 use crate::decomposing_normalizer::DecomposingNormalizer;
+use crate::passing_classes::PassingClasses;
 use normalizer_check::check::check;
 use normalizer_check::loaded::LoadedData;
 use normalizer_tables::characters::Purpose;
@@ -22,6 +25,7 @@ use normalizer_tables::{
     CanonicalCompositions, DataError, DataMarkerInfo, DataProvider, NormalizerNfcV1,
     NormalizerNfdDataV1, NormalizerNfdTablesV1, NormalizerNfkdDataV1, NormalizerNfkdTablesV1,
 };
+use std::alloc::AllocError;
 
 /// A normalizer to NFC, or to NFKC over compatibility data. Its data were checked when it was made.
 ///
@@ -30,6 +34,9 @@ use normalizer_tables::{
 pub struct ComposingNormalizer {
     decomposing: DecomposingNormalizer,
     pairs: CanonicalCompositions,
+    classes: PassingClasses,
+    ghost says: { Say (composing_class (data_of decomposing) (bounds_of (data_of decomposing).decompositions) pairs)
+        classes },
     ghost serves: { ServesComposing (data_of decomposing) (bounds_of (data_of decomposing).decompositions) pairs },
 }
 
@@ -44,7 +51,7 @@ impl ComposingNormalizer {
     ///   first.
     /// - `FutureExtension` if the tables have more items than the limit.
     /// - `Invalid`, with the lowest-numbered condition that fails, if the data break one (`docs/CONDITIONS.md`).
-    /// - `Memory` if a load ran out of memory. The check itself takes none.
+    /// - `Memory` if an allocation failed. The check itself makes none.
     ///
     /// # Examples
     /// ```rust
@@ -79,7 +86,7 @@ impl ComposingNormalizer {
     ///   first.
     /// - `FutureExtension` if the tables have more items than the limit.
     /// - `Invalid`, with the lowest-numbered condition that fails, if the data break one (`docs/CONDITIONS.md`).
-    /// - `Memory` if a load ran out of memory. The check itself takes none.
+    /// - `Memory` if an allocation failed. The check itself makes none.
     pub fn try_new_nfkc_unstable<P>(provider: &P) -> Result<Self, DataError>
     where
         P: DataProvider<NormalizerNfkdDataV1>
@@ -112,15 +119,21 @@ impl ComposingNormalizer {
     ) -> Result<Self, DataError>
         ensures ok { IfOk result (λ n. (data_and_pairs_of n ≡ (characters_owned characters false, pairs)) ×
             SuitsComposing (characters_owned characters false, pairs)) }
-        ensures err { IfErr result (RefusesToCompose marker (characters_owned characters false, pairs)) }
+        ensures err { IfErr result (λ e. (e ≡ DataError.Memory)
+            ⊎ RefusesToCompose marker (characters_owned characters false, pairs) e) }
     {
         let borrowed = characters.as_borrowed(Purpose::Forms);
         let bounds = Bounds::of_cap(borrowed.cap());
         let loaded = LoadedData::new(borrowed, bounds, Some(&pairs), None);
         check(&loaded, marker, composing_conditions())?;
+        let decomposing = DecomposingNormalizer { characters, bounds };
+        let Ok(classes) = classes_over(&decomposing, &pairs) else {
+            return Err(DataError::Memory);
+        };
         Ok(ComposingNormalizer {
-            decomposing: DecomposingNormalizer { characters, bounds },
+            decomposing,
             pairs,
+            classes,
         })
     }
 
@@ -144,7 +157,29 @@ impl ComposingNormalizer {
                 characters: characters.with_passthrough_bound(bounds.decomposition),
                 pairs: &self.pairs,
                 bounds,
+                classes: &self.classes,
             },
         }
     }
+}
+
+/// The classes with which characters pass in the composing form over data and pairs.
+fn classes_over(
+    decomposing: &DecomposingNormalizer,
+    pairs: &CanonicalCompositions,
+) -> Result<PassingClasses, AllocError>
+    requires { let s = data_of decomposing.now in ServesComposing s (bounds_of s.decompositions) pairs.now }
+    ensures { let s = data_of decomposing.now in
+        IfOk result (Say (composing_class s (bounds_of s.decompositions) pairs.now)) }
+{
+    let bounds = decomposing.bounds;
+    let characters = decomposing.characters.as_borrowed(Purpose::Forms);
+    let alloc = characters.allocator();
+    let form = ComposingForm {
+        characters: characters.with_passthrough_bound(bounds.decomposition),
+        pairs,
+        bounds,
+        classes: &PassingClasses::none(alloc),
+    };
+    PassingClasses::of(alloc, &form)
 }

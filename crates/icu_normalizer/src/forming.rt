@@ -1,11 +1,11 @@
 //! What the decomposing and the composing form differ in, as one trait: every call on text is written once over it.
-ghost use Rattle.std.specs.Prelude.{◌≡◌, ◌<◌, ◌||◌, ◌∷◌, [], nat_lt, not, ℕ, Bool, true, false, IfOk, IfSome};
-ghost use Rattle.std.specs.Prelude.{◌≤◌, length, IsTrue, IsOk, IsOkUnless, IsErrOf, Option, Some, None};
+ghost use Rattle.std.specs.Prelude.{◌≡◌, ◌↔◌, ◌<◌, ◌||◌, ◌∷◌, [], nat_lt, not, ℕ, Bool, true, false, IfOk, IfSome};
+ghost use Rattle.std.specs.Prelude.{◌≤◌, All, length, IsTrue, IsOk, IsOkUnless, IsErrOf, Option, Some, None};
 ghost use Rattle.std.specs.Prelude.{if◌then◌else◌};
 ghost use Rattle.std.specs.Char.{IsScalar};
 ghost use Rattle.normalizer_sets.specs.CharacterSets.{has};
 ghost use Rattle.normal_forms.specs.Decomposition.{expand};
-ghost use Rattle.normal_forms.specs.ShortRuns.{buffer_limit};
+ghost use Rattle.normal_forms.specs.ShortRuns.{buffer_limit, HasShortRuns};
 ghost use Rattle.normalizer_check.specs.RequiredConditions.{SuitsTexts};
 ghost use Rattle.normalizer_tables.specs.Characters.{class_of, class_of_itself, has_class_form, list_of};
 ghost use Rattle.normalizer_tables.specs.Characters.{reading_of_word, word_of};
@@ -18,7 +18,8 @@ ghost use Rattle.icu_normalizer.specs.BoundaryBefore.{HasBoundaryBefore};
 ghost use Rattle.icu_normalizer.specs.Forms.{composing_by, decomposing_by, form_in, form_of, HasShortUnits, MadeForm};
 ghost use Rattle.icu_normalizer.specs.inner.Offences.{IsFirstOrNone};
 ghost use Rattle.icu_normalizer.specs.inner.PassthroughRuns.{IsSeenSegment, CanFollowMark, CanPassThrough};
-ghost use Rattle.icu_normalizer.specs.inner.PassthroughRuns.{class_in_order, composing_class, IsOwnListOfClass};
+ghost use Rattle.icu_normalizer.specs.inner.ComposingClasses.{composing_class};
+ghost use Rattle.icu_normalizer.specs.inner.PassthroughRuns.{class_in_order, IsOwnListOfClass};
 ghost use Rattle.icu_normalizer.specs.inner.WrittenParts.{NothingOffered, WritesText};
 
 use crate::boundaries::is_taken_as_boundary;
@@ -27,6 +28,8 @@ use crate::decomposing_form::DecomposingForm;
 use crate::kept::{
     SeenSegment, Unseen, composed_list, composed_list_of_two, has_no_second, seen_segment,
 };
+use crate::passing_classes::UNKNOWN;
+use crate::utf32::{Utf32Chars, yields};
 use crate::word_classes::{
     class_if_backward, is_own_from, is_own_from_by_branches, is_unflagged,
     is_unflagged_or_mark_from,
@@ -144,6 +147,14 @@ pub trait Forming {
     fn first_item<U: Units>(&self, units: U) -> Result<Option<char>, NormalizeError>
         ensures first { IfOk result (IsFirstOrNone (form_in (made_form self.now) U.encoding (U.units units))) }
         ensures room { HasShortUnits (made_form self.now) U.encoding (U.units units) → IsOk result }
+        ensures refused { IsOkUnless result NormalizeError.Memory };
+
+    /// Returns whether an iterator over the form of the characters that units are yields exactly these.
+    fn is_own_by_items(&self, units: &[u32]) -> Result<bool, NormalizeError>
+        requires { All IsScalar units.now }
+        ensures own { let m = made_form self.now in IfOk result (λ own. IsTrue own ↔ (form_of m units.now ≡ units.now)) }
+        ensures room { let m = made_form self.now in
+            HasShortRuns m.has_class_form m.reading units.now → IsOk result }
         ensures refused { IsOkUnless result NormalizeError.Memory };
 
     /// Returns the class of a character, if it is its own list.
@@ -291,6 +302,10 @@ impl<'a> Forming for DecomposingForm<'a> {
         first_item(self.items(Chars::new(units))?)
     }
 
+    fn is_own_by_items(&self, units: &[u32]) -> Result<bool, NormalizeError> {
+        yields(self.items(Utf32Chars::new(units))?, units)
+    }
+
     fn passthrough_is_normalized_apart(&self) {}
 
     ghost suits = { λ f. f.serves.laws };
@@ -311,7 +326,7 @@ impl<'a> Forming for ComposingForm<'a> {
         &self.characters
     }
 
-    #[tactic(auto, unfolding(crate::specs::inner::PassthroughRuns::class_if_alone, crate::specs::inner::PassthroughRuns::composing_class))]
+    #[tactic(auto, unfolding(crate::specs::inner::ComposingClasses::class_if_alone, crate::specs::inner::ComposingClasses::composing_class))]
     #[inline(always)]
     fn passthrough_class(&self, character: char) -> Option<u8> {
         let word = self.characters.word_of(character);
@@ -340,6 +355,14 @@ impl<'a> Forming for ComposingForm<'a> {
 
     #[inline(always)]
     fn branched_class(&self, last: u8, character: char) -> Option<u8> {
+        let class = self.classes.class_of(character);
+        if class != UNKNOWN {
+            return if class == 0 || last <= class {
+                Some(class)
+            } else {
+                None
+            };
+        }
         let word = self.characters.word_of(character);
         if is_unflagged(word) {
             return Some(0);
@@ -353,7 +376,7 @@ impl<'a> Forming for ComposingForm<'a> {
         Some(low_byte(word))
     }
 
-    #[tactic(auto, unfolding(crate::specs::inner::PassthroughRuns::composing_class, normalizer_tables::specs::conditions::PairConditions::is_composing_passthrough, normalizer_tables::specs::TableSets::has_no_flag))]
+    #[tactic(auto, unfolding(crate::specs::inner::ComposingClasses::composing_class, normalizer_tables::specs::conditions::PairConditions::is_composing_passthrough, normalizer_tables::specs::TableSets::has_no_flag))]
     fn passing(&self) -> &CharacterSet {
         self.characters.unflagged()
     }
@@ -415,6 +438,10 @@ impl<'a> Forming for ComposingForm<'a> {
 
     fn first_item<U: Units>(&self, units: U) -> Result<Option<char>, NormalizeError> {
         first_item(self.items(Chars::new(units))?)
+    }
+
+    fn is_own_by_items(&self, units: &[u32]) -> Result<bool, NormalizeError> {
+        yields(self.items(Utf32Chars::new(units))?, units)
     }
 
     fn passthrough_is_normalized_apart(&self) {}

@@ -42,7 +42,8 @@ use Rattle.icu_normalizer.specs.Serving.{ServesDecomposing}
 use Rattle.normalizer_iterators.specs.LazyComposing.{SuitsLazyComposing}
 use Rattle.normalizer_iterators.proofs.passthrough.PassthroughItemLemmas.{BeginsAtBoundary-apart}
 use Rattle.icu_normalizer.specs.BoundaryBefore.{HasBoundaryBefore}
-use Rattle.icu_normalizer.specs.inner.PassthroughRuns.{class_if_alone, composing_class, Divides, CanFollowMark, CanPassThrough}
+use Rattle.icu_normalizer.specs.inner.ComposingClasses.{class_if_alone, composing_class}
+use Rattle.icu_normalizer.specs.inner.PassthroughRuns.{Divides, CanFollowMark, CanPassThrough}
 
 -- a starter that reads as itself is normalized apart from what comes after it too
 CanPassThrough-itself : (d : Reading) (c : ℕ) → ReadsAsItself d c → IsStarter d c → CanPassThrough d Decomposing false c

@@ -11,7 +11,8 @@ use Rattle.normalizer_tables.specs.Passthrough.{IsPassthroughBelow}
 use Rattle.normalizer_tables.specs.TableSets.{has_no_flag}
 use Rattle.normalizer_tables.specs.conditions.PairConditions.{is_composing_passthrough}
 use Rattle.normalizer_iterators.specs.LazyComposing.{SuitsLazyComposing}
-use Rattle.icu_normalizer.specs.inner.PassthroughRuns.{class_if_alone, class_in_order, class_of_step, composing_class, next_class, replacement}
+use Rattle.icu_normalizer.specs.inner.ComposingClasses.{class_if_alone, composing_class}
+use Rattle.icu_normalizer.specs.inner.PassthroughRuns.{class_in_order, class_of_step, next_class, replacement}
 use Rattle.icu_normalizer.proofs.passthrough.PassthroughLemmas.{CanPassThrough-passed, low_class, of_itself, or-true}
 use Rattle.icu_normalizer.proofs.passthrough.ClassReadings.{class_of_itself-ordinary, class_of_itself-plain}
 use Rattle.icu_normalizer.proofs.passthrough.WordClassLemmas.{not_backward, plain_low}

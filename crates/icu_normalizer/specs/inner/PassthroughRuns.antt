@@ -9,10 +9,6 @@ use Rattle.normal_forms.specs.Forms.{normal_form, IsNormalized}
 use Rattle.normal_forms.specs.Boundary.{BeginsWithStarter}
 use Rattle.normal_forms.specs.Cut.{IsFront}
 use Rattle.normal_forms.specs.Order.{EndsUpTo}
-use Rattle.normalizer_tables.specs.declared.condition.Bounds.{Bounds}
-use Rattle.normalizer_tables.specs.Characters.{Characters, class_of_itself, reading_of_word}
-use Rattle.normalizer_tables.specs.conditions.PairConditions.{is_composing_passthrough}
-use Rattle.normalizer_tables.specs.Pairs.{Pair, may_be_second}
 use Rattle.normalizer_text.specs.declared.decoding_step.Step.{Step}
 use Rattle.normalizer_text.specs.Encodings.{Encoding, first_in, encoded_in, decoded_in}
 use Rattle.normalizer_text.specs.DecodingSteps.{IsBoundary, IsLastStep}
@@ -46,17 +42,6 @@ pub record CanFollowMark (d : Reading) (form : Form) (c k : ℕ) : Type 0 where
 pub record IsOwnListOfClass (d : Reading) (c k : ℕ) : Type 0 where
   pub itself : ReadsAsItself d c
   pub class : d.class c ≡ k
-
--- the class k of c, if c composes with nothing before it
-unfoldable pub class_if_alone : List Pair → ℕ → ℕ → Option ℕ
-class_if_alone pairs c k = if may_be_second pairs c then None else Some k
-
--- the class with which c passes where text is composed: 0 if a composing loop passes it, else its own, if it is its own
--- list and composes with nothing before it
-unfoldable pub composing_class : Characters → Bounds → List Pair → ℕ → Option ℕ
-composing_class s b pairs c =
-    if is_composing_passthrough s b c then Some 0
-    else option_and_then (class_if_alone pairs c) (class_of_itself (reading_of_word s c))
 
 -- as which errors read
 abbrev pub replacement : ℕ

@@ -1,4 +1,4 @@
-use Rattle.std.proofs.Common.{◌≡◌, Err, refl, rules}
+use Rattle.std.proofs.Common.{◌≡◌, Err, inr, refl, rules}
 use Rattle.std.specs.Prelude.{false}
 use Rattle.normalizer_tables.specs.Owned.{characters_owned}
 use Rattle.normalizer_check.proofs.conditions.LoadedLemmas.{parts_met}
@@ -11,11 +11,14 @@ use Rattle.icu_normalizer.proofs.composing_normalizer.ComposingNormalizer.over.G
 met : (c : In_ok-check) → SuitsComposing (characters_owned c.args.characters false, c.args.pairs)
 met c = let h = c.in_ok-check.ensures.ok.0 refl in rw (c.composing_conditions.ensures, c.new-loaded.ensures, c.of_cap-bounds.ensures, c.cap.ensures, c.as_borrowed-borrowed.ensures) at h
 
-pub invariant_of-result : goal.invariant_of-result
-invariant_of-result c = record { bounded = rw (c.of_cap-bounds.ensures, c.cap.ensures, c.as_borrowed-borrowed.ensures) refl; serves = ServesDecomposing-met _ refl (parts_met _ _ (met c)).0 }
+pub invariant_of-decomposing : goal.invariant_of-decomposing
+invariant_of-decomposing c = record { bounded = rw (c.of_cap-bounds.ensures, c.cap.ensures, c.as_borrowed-borrowed.ensures) refl; serves = ServesDecomposing-met _ refl (parts_met _ _ (met c)).0 }
 
-pub invariant_of-result-2 : goal.invariant_of-result-2
-invariant_of-result-2 c = record { serves = ServesComposing-met _ _ refl (met (goal.at.invariant_of-result-2 c).In_ok-check) }
+pub classes_over-requires : goal.classes_over-requires
+classes_over-requires c = ServesComposing-met _ _ refl (met (goal.at.classes_over-requires c).In_ok-check)
+
+pub invariant_of-result : goal.invariant_of-result
+invariant_of-result c = record { says = c.in-Ok.ensures; serves = ServesComposing-met _ _ refl (met (goal.at.invariant_of-result c).In_ok-check) }
 
 pub returns-clause-ok : goal.returns-clause-ok
 returns-clause-ok c = (refl, met (goal.at.returns-clause-ok c).In_ok-check)
@@ -24,4 +27,4 @@ pub returns-in_err-check-clause-err : goal.returns-in_err-check-clause-err
 returns-in_err-check-clause-err c =
     let is : c.from_residual.result ≡ Err c.in_err-check.field-0.0 = search rules in
     let refused = rw c.in_err-check.was at c.check.ensures.err in
-    rw is (rw (c.composing_conditions.ensures, c.new-loaded.ensures, c.of_cap-bounds.ensures, c.cap.ensures, c.as_borrowed-borrowed.ensures) at refused)
+    rw is (inr (rw (c.composing_conditions.ensures, c.new-loaded.ensures, c.of_cap-bounds.ensures, c.cap.ensures, c.as_borrowed-borrowed.ensures) at refused))

@@ -1,4 +1,4 @@
-use Rattle.std.proofs.Common.{◌≡◌, inl, refl, subst, sym, ap, true, ◌∙◌}
+use Rattle.std.proofs.Common.{◌≡◌, inl, inr, refl, subst, sym, ap, true, ◌∙◌}
 use Rattle.std.specs.Prelude.{Some}
 use Rattle.normalizer_tables.specs.TableSets.{has_no_flag}
 use Rattle.icu_normalizer.specs.inner.PassthroughRuns.{class_in_order}
@@ -22,3 +22,9 @@ pub returns-clause-in_order : goal.returns-clause-in_order
 returns-clause-in_order c =
     let order = own_order _ c.args.character _ c.args.last c.word_of-word.ensures (c.is_own_from_by_branches.ensures c.if-not-is_own_from_by_branches.false) in
     subst (λ k. class_in_order c.args.last k ≡ Some k) (sym c.low_byte.ensures) order
+
+pub returns-then-last-class-clause-in_order : goal.returns-then-last-class-clause-in_order
+returns-then-last-class-clause-in_order c = elim c.if-last-class.either [
+  | inl starter ↦ in_order c.args.last c.class_of-class.result (inl starter)
+  | inr rising ↦ in_order c.args.last c.class_of-class.result (inr rising.1)
+]
