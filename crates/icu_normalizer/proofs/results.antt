@@ -5,3 +5,4 @@ pub mod OwnedLemmas
 pub mod QualifyingLemmas
 pub mod TextAnswers
 pub mod UnorderedLemmas
+pub mod Utf32Lemmas

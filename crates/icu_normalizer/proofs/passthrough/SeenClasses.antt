@@ -2,7 +2,7 @@
 use Rattle.std.proofs.Common.{◌≡◌, ℕ, ◌<◌, ◌≤◌, ◌==◌, ◌||◌, ◌&&◌, ◌⊎◌, inl, inr, true, false, ap, subst, sym, ◌∙◌, arith, List}
 use Rattle.std.specs.Char.{IsScalar}
 use Rattle.std.specs.Prelude.{nat_le, nat_lt, IfSome, Option, Some, None, option_and_then, if◌then◌else◌}
-use Rattle.std.proofs.lemmas.Bool.{cases_Bool, cases_lt, cond-false, cond-true, eq-eqb, le-leb, le-ltb}
+use Rattle.std.proofs.lemmas.Bool.{cases_Bool, cases_lt, cond-false, cond-true, eq-eqb, eqb-true, le-leb, le-ltb, leb-true, or_cases}
 use Rattle.normalizer_text.specs.declared.decoding_step.Step.{Step}
 use Rattle.normalizer_tables.specs.declared.condition.Bounds.{Bounds}
 use Rattle.normalizer_tables.specs.Characters.{Characters, class_of, class_of_itself, reading_of_word, word_of}
@@ -23,6 +23,14 @@ pub in_order : (last k : ℕ) → (k ≡ 0) ⊎ (last ≤ k) → class_in_order 
 unfolding class_in_order
 in_order last k (inl zero) = cond-true ((k == 0) || nat_le last k) (Some k) None (ap (λ b. b || nat_le last k) (eq-eqb k 0 zero))
 in_order last k (inr rising) = cond-true ((k == 0) || nat_le last k) (Some k) None (ap (λ b. (k == 0) || b) (le-leb last k rising) ∙ or-true (k == 0))
+
+-- what is said of one that does
+pub rises : (last k : ℕ) → class_in_order last k ≡ Some k → (k ≡ 0) ⊎ (last ≤ k)
+unfolding class_in_order
+rises last k is = elim (cases_Bool ((k == 0) || nat_le last k)) [
+  | inl goes_on ↦ elim (or_cases (k == 0) (nat_le last k) goes_on) [ inl least ↦ inl (eqb-true k 0 least) | inr rising ↦ inr (leb-true last k rising) ]
+  | inr stops ↦ absurd (let none : None ≡ Some k = sym (cond-false ((k == 0) || nat_le last k) (Some k) None stops) ∙ is in cc)
+]
 
 module _ (passed : ℕ → Option ℕ) (last : ℕ) (s : Step) (right : s.is_error ≡ false) where
   -- the class of its step
