@@ -36,6 +36,7 @@ mod any_normalizer;
 mod borrowed;
 mod boundaries;
 mod by_records;
+mod changing;
 mod checks;
 mod combining_class;
 mod composing_form;

@@ -1,18 +1,18 @@
 //! The forms of text, bytes and 16-bit units, borrowed from the input if it is already normalized.
-ghost use Rattle.std.specs.Prelude.{◌≡◌, ◌<◌, ◌++◌, ◌∷◌, [], chars, drop, string_bytes};
-ghost use Rattle.std.specs.Prelude.{IfOk, IfSome, IsOk, IsOkUnless, IsTrue, OnOk};
+ghost use Rattle.std.specs.Prelude.{◌≡◌, ◌++◌, chars, drop, string_bytes};
+ghost use Rattle.std.specs.Prelude.{IfOk, IfSome, IsOk, IsOkUnless, OnOk};
 ghost use Rattle.std.specs.Cow.{cow_slice_items, cow_str_bytes, IsBorrowedSlice, IsBorrowedStr};
 ghost use Rattle.normalizer_text.specs.Encodings.{Encoding};
 ghost use Rattle.normalizer_text.specs.EncodedForm.{encoded_form};
 ghost use Rattle.normalizer_text.specs.InputCut.{IsInputNormalized, QualifiesForInputCut};
-ghost use Rattle.normal_forms.specs.Forms.{IsNormalized};
 ghost use Rattle.icu_normalizer.specs.Forms.{HasShortUnits};
 ghost use Rattle.icu_normalizer.specs.Owned.{ReturnsForm, ReturnsFormOfText};
 ghost use Rattle.icu_normalizer.specs.inner.Offences.{ChangesUnlessNormalized};
-ghost use Rattle.icu_normalizer.specs.inner.PassthroughRuns.{IsComposite, IsOwnListOfClass};
+ghost use Rattle.icu_normalizer.specs.inner.PassthroughRuns.{IsComposite};
 ghost use Rattle.icu_normalizer.specs.inner.WriteUnlessOwn.{WroteUnlessOwn};
 
 use crate::borrowed::NormalizerBorrowed;
+use crate::changing::{changes_first, has_unordered_marks};
 use crate::forming::Forming;
 use crate::offence::cut_after;
 use crate::runs::{Composite, kept_end};
@@ -56,68 +56,6 @@ impl<'t> Growing<&'t [u16]> for Vec<u16> {
         ensures { OnOk result (self.new.items ≡ self.old.items) }
     {
         self.reserve(len).map_err(|_| SinkError)
-    }
-}
-
-/// Returns the class of a mark that is its own list, and 0 for other characters.
-fn class_of_mark<N: Forming>(normalizer: &N, character: char) -> u8
-    ensures { 0 < result → IsOwnListOfClass (N.made_form normalizer.now).reading character result }
-{
-    normalizer.class_of_itself(character).unwrap_or(0)
-}
-
-/// Whether a mark after the first character is seen to be out of order before another starter comes. If so, the units
-/// aren't normalized.
-fn has_unordered_marks<U: Units, N: Forming>(normalizer: &N, units: U) -> bool
-    ensures { let m = N.made_form normalizer.now in
-        IsTrue result → ¬ IsInputNormalized U.encoding m.reading m.form (U.units units) }
-{
-    let mut last = 0;
-    let mut end = 0;
-    while end < units.len() {
-        let step = units.step_at(end);
-        let class = class_of_mark(normalizer, step.character);
-        if class > 0 && class < last {
-            return true;
-        }
-        if class == 0 && end > 0 {
-            return false;
-        }
-        last = class;
-        end += step.width;
-    }
-    false
-}
-
-/// Whether a character becomes others by itself. If so, no text that has it is normalized.
-fn changes_alone<N: Forming>(normalizer: &N, character: char) -> bool
-    ensures { let m = N.made_form normalizer.now in
-        IsTrue result → ¬ IsNormalized m.reading m.form (character ∷ []) }
-{
-    match normalizer.form_of_one(character) {
-        Some(form) => form.get(0) != Some(character),
-        None => false,
-    }
-}
-
-/// Whether the first character is seen to change: in the segment that becomes one character, or else by itself. If so,
-/// the units aren't normalized.
-fn changes_first<U: Units, N: Forming>(
-    normalizer: &N,
-    units: U,
-    composite: Option<Composite>,
-) -> bool
-    requires { let m = N.made_form normalizer.now in IfSome composite
-        (IsComposite (N.beginning normalizer.now) U.encoding m.reading m.form (U.units units)) }
-    ensures { let m = N.made_form normalizer.now in
-        IsTrue result → ¬ IsInputNormalized U.encoding m.reading m.form (U.units units) }
-{
-    let Some(step) = units.first_step() else {
-        return false;
-    };
-    match composite {
-        Some(composite) => composite.character != step.character,
-        None => changes_alone(normalizer, step.character),
     }
 }
 

@@ -19,15 +19,25 @@ returns-in_err-character-clause-room g c = λ x h.
     absurd (SameSoFar-room c.loop-item.invariant.same _ (rw c.in_err-character.was at c.in-Some.ensures.steps) x h)
 
 pub returns-in_default-clause-same : goal.returns-in_default-clause-same
-returns-in_default-clause-same g c = λ x h.
-    ((λ no. absurd (cc no), λ same. absurd (SameSoFar-other c.loop-item.invariant.same c.in_ok-character.character (rw c.in_ok-character.was at c.in-Some.ensures.steps)
-    (λ rest is. omega (arith, c.in_default.ensures.cases, ap length is)) x h same)), tt)
+returns-in_default-clause-same g c = λ x h. (
+  (
+    λ no. absurd (cc no),
+    λ same. absurd (SameSoFar-other c.loop-item.invariant.same c.in_ok-character.character (rw c.in_ok-character.was at c.in-Some.ensures.steps)
+        (λ rest is. omega (arith, c.in_default.ensures.cases, ap length is)) x h same),
+  ),
+  tt,
+)
 
 pub returns-then-unit-character-clause-same : goal.returns-then-unit-character-clause-same
 returns-then-unit-character-clause-same g c = λ x h.
-    let cases = c.in-Some-split_first.ensures.cases in
-    ((λ no. absurd (cc no), λ same. absurd (SameSoFar-other c.loop-item.invariant.same c.in_ok-character.character (rw c.in_ok-character.was at c.in-Some.ensures.steps)
-    (λ rest is. c.if-unit-character.true (let both : c.in-Some-split_first.unit.now ∷ c.in-Some-split_first.rest.now ≡ c.in_ok-character.character ∷ rest = sym cases.0 ∙ is in cc)) x h same)), tt)
+    let cases = c.in-Some-split_first.ensures.cases in (
+      (
+        λ no. absurd (cc no),
+        λ same. absurd (SameSoFar-other c.loop-item.invariant.same c.in_ok-character.character (rw c.in_ok-character.was at c.in-Some.ensures.steps)
+            (λ rest is. c.if-unit-character.true (let both : c.in-Some-split_first.unit.now ∷ c.in-Some-split_first.rest.now ≡ c.in_ok-character.character ∷ rest = sym cases.0 ∙ is in cc)) x h same),
+      ),
+      tt,
+    )
 
 pub loop-item-preserved : goal.loop-item-preserved
 loop-item-preserved g c = record {

@@ -5,8 +5,11 @@ use Rattle.icu_normalizer.proofs.borrowed.NormalizerBorrowed.is_normalized_utf32
 
 pub returns-then-not-are_characters : goal.returns-then-not-are_characters
 returns-then-not-are_characters g c = record {
-  is = (λ no. absurd (cc no), λ both.
-      let all : true ≡ false = sym (list_all-from_AllPass scalar c.args.units.now both.0) ∙ sym c.are_characters.ensures ∙ c.if-not-are_characters.true in absurd (cc));
+  is = (
+    λ no. absurd (cc no),
+    λ both.
+        let all : true ≡ false = sym (list_all-from_AllPass scalar c.args.units.now both.0) ∙ sym c.are_characters.ensures ∙ c.if-not-are_characters.true in absurd (cc),
+  );
   room = λ _. refl;
   refused = tt;
 }

@@ -1,6 +1,6 @@
 use Rattle.std.proofs.Common.{◌-◌, length}
 use Rattle.icu_normalizer.proofs.results.UnorderedLemmas.{MarksRead}
-use Rattle.icu_normalizer.proofs.owned.has_unordered_marks.Given as goal
+use Rattle.icu_normalizer.proofs.changing.has_unordered_marks.Given as goal
 
 abbrev pub invariant-loop-end : goal.invariant-loop-end
 invariant-loop-end g l = MarksRead (g.N.Forming.made_form l.normalizer).reading g.U.Units.encoding (g.U.Units.units l.units) l.end l.last

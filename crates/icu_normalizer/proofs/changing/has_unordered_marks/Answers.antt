@@ -1,7 +1,7 @@
 use Rattle.std.proofs.Common.{arith}
 use Rattle.normalizer_text.proofs.steps.StepBoundaries.{step-some}
 use Rattle.icu_normalizer.proofs.results.UnorderedLemmas.{MarksRead-none, MarksRead-more, MarksRead-falls}
-use Rattle.icu_normalizer.proofs.owned.has_unordered_marks.Goals as goal
+use Rattle.icu_normalizer.proofs.changing.has_unordered_marks.Goals as goal
 
 pub loop-end-init : goal.loop-end-init
 loop-end-init g c = MarksRead-none _ _ _

@@ -1,6 +1,6 @@
 use Rattle.std.proofs.lemmas.Bool.{eqb-false, not-true}
 use Rattle.icu_normalizer.proofs.results.ChangeLemmas.{alone_changes, composite_changes}
-use Rattle.icu_normalizer.proofs.owned.changes_first.Goals as goal
+use Rattle.icu_normalizer.proofs.changing.changes_first.Goals as goal
 
 pub returns-in-Some-composite : goal.returns-in-Some-composite
 returns-in-Some-composite g c = λ differs.
