@@ -37,9 +37,10 @@ use std::alloc::AllocError;
 #[derive(Drop)]
 pub struct Decomposition<'data, I> {
     pub(crate) characters: CharacterData<'data>,
-    ignored: IgnoredCharacters,
     pub(crate) delegate: I,
     pub(crate) pending: Option<PendingChar>,
+    // Not before `delegate`: seven unused bytes there would be copied each time the iterator is moved.
+    ignored: IgnoredCharacters,
     pub(crate) waiting: WaitingList,
     ghost suits: { SuitsLazyReading (has_class_form characters) (reading_by characters ignored []) },
     ghost at_boundary: { ForSome (character_of pending) (λ c. continues (has_class_form characters)
@@ -69,6 +70,7 @@ impl<'data, I: Iterator<Item = char> + Drop> Decomposition<'data, I> {
     /// # Errors
     /// `Memory` if an allocation failed, now or from an item. None is made unless more than 17 characters are
     /// buffered at a time.
+    #[inline(always)]
     pub fn new(
         delegate: I,
         decompositions: &'data DecompositionData,
