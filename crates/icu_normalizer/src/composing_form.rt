@@ -92,6 +92,7 @@ impl<'a> NormalizerBorrowed<ComposingForm<'a>> {
     /// let form = collected(alloc, normalizer.normalize_iter("a\u{308}b".chars())?)?;
     /// assert_eq!(rt; form.as_slice(), ['\u{E4}', 'b'].as_slice());
     /// ```
+    #[inline(always)]
     pub fn normalize_iter<I: Iterator<Item = char> + Drop>(
         &self,
         iter: I,

@@ -51,6 +51,7 @@ impl<'a> NormalizerBorrowed<DecomposingForm<'a>> {
     /// let form = collected(alloc, normalizer.normalize_iter("\u{E4}b".chars())?)?;
     /// assert_eq!(rt; form.as_slice(), ['a', '\u{308}', 'b'].as_slice());
     /// ```
+    #[inline(always)]
     pub fn normalize_iter<I: Iterator<Item = char> + Drop>(
         &self,
         iter: I,
