@@ -1,8 +1,10 @@
 //! The classes with which characters pass, a byte each: one load says what words and pairs say together.
-ghost use Rattle.std.specs.Prelude.{◌≡◌, ◌+◌, ◌≤◌, ℕ, length, take, IfOk, IsTrue, Option};
+ghost use Rattle.std.specs.Prelude.{◌≡◌, ◌+◌, ◌*◌, ◌<◌, ℕ, true, length, take, IfOk, IsTrue, Option};
+ghost use Rattle.normalizer_sets.specs.CharacterSets.{has};
 ghost use Rattle.icu_normalizer.specs.inner.PassingClasses.{AreOfBlock, IsKnown, IsPut, Say};
 
 use crate::forming::Forming;
+use normalizer_sets::CharacterSet;
 use std::alloc::{AllocError, Global};
 
 /// The byte of a character whose class isn't known.
@@ -13,6 +15,9 @@ const BLOCK: usize = 64;
 
 /// How many blocks there are: those of the first two planes. Of the others no class is known.
 const BLOCKS: usize = 2048;
+
+/// How many of them are of the Basic Multilingual Plane.
+const PLANE: usize = 1024;
 
 /// The class with which each character passes, if it is known.
 #[derive(Drop)]
@@ -47,10 +52,7 @@ impl PassingClasses {
         let mut starts = Vec::with_capacity(alloc, BLOCKS)?;
         let mut bytes = Vec::new(alloc);
         for block in 0..BLOCKS {
-            let start = put_block(
-                &mut bytes,
-                &classes_of_block(normalizer, (block * BLOCK) as u32),
-            )?;
+            let start = put_block(&mut bytes, &classes_of_block(normalizer, block))?;
             let Ok(start) = u16::try_from(start) else {
                 break;
             };
@@ -75,16 +77,45 @@ impl PassingClasses {
     }
 }
 
-/// The classes of 64 code points from the first on.
-fn classes_of_block<N: Forming>(normalizer: &N, first: u32) -> [u8; 64]
-    requires { first + 64 ≤ 0x110000 }
-    ensures { AreOfBlock (N.passthrough_class normalizer.now) first result }
+/// The classes of the 64 code points of a block.
+fn classes_of_block<N: Forming>(normalizer: &N, number: usize) -> [u8; 64]
+    requires { number < 2048 }
+    ensures { AreOfBlock (N.passthrough_class normalizer.now) (64 * number) result }
 {
+    if has_block(normalizer.passing(), number) {
+        return [0; BLOCK];
+    }
     let mut block = [UNKNOWN; BLOCK];
     for place in 0..BLOCK {
-        block[place] = known_class(normalizer, first + place as u32);
+        block[place] = known_class(normalizer, (number * BLOCK + place) as u32);
     }
     block
+}
+
+/// Whether a set has all the code points of a block. None is passed over, so that the loop has no branch.
+fn has_block(set: &CharacterSet, number: usize) -> bool
+    requires { number < 2048 }
+    ensures { IsTrue result → (k : ℕ) → k < 64 → has set.now (64 * number + k) ≡ true }
+{
+    let mut all = true;
+    for place in 0..BLOCK {
+        all = all & has_at(set, number, place as u32);
+    }
+    all
+}
+
+/// Whether a set has the code point at a place of a block.
+#[inline(always)]
+fn has_at(set: &CharacterSet, number: usize, place: u32) -> bool
+    requires block { number < 2048 }
+    requires place { place < 64 }
+    ensures { result ≡ has set.now (64 * number + place) }
+{
+    if number < PLANE {
+        return set.has_at(number, place);
+    }
+    let above = number - PLANE;
+    set.has_above(above / BLOCK, above % BLOCK, place)
 }
 
 /// The class with which a character passes, or `UNKNOWN`.

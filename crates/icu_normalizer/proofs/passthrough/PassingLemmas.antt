@@ -1,11 +1,19 @@
 -- The classes with which characters pass, block by block.
 use Rattle.std.proofs.Common.{◌≡◌, ℕ, ◌+◌, ◌*◌, ◌/◌, ◌%◌, ◌<◌, ◌≤◌, ◌⊎◌, inl, inr, List, [], ◌∷◌, ◌++◌, length, length-append, take, drop, get_or, slice_get, append-nil, arith, sym, ap, subst, ◌∙◌}
 use Rattle.std.specs.Prelude.{Option, Some}
+use Rattle.std.proofs.Math.ListN.{replicate}
 use Rattle.std.proofs.Math.Seq.{drop-append_seam, take-length}
 use Rattle.std.proofs.lemmas.Bool.{cases_lt}
-use Rattle.std.proofs.lemmas.List.{get_or-drop, get_or-take, get_or_append_left, get_or_push, length-drop, length-take, length_push}
+use Rattle.std.proofs.lemmas.List.{get_or-drop, get_or-replicate, get_or-take, get_or_append_left, get_or_push, length-drop, length-replicate, length-take, length_push}
 use Rattle.std.proofs.lemmas.Option.{get_or_from_slice_get, slice_get-get_or, slice_get_within}
 use Rattle.icu_normalizer.specs.inner.PassingClasses.{AreOfBlock, IsPut, SayClasses}
+
+-- 64 characters that pass as starters
+pub AreOfBlock-starters : (passed : ℕ → Option ℕ) (first : ℕ) → ((k : ℕ) → k < 64 → passed (first + k) ≡ Some 0) → AreOfBlock passed first (replicate 64 0)
+AreOfBlock-starters passed first pass = record {
+  long = length-replicate {A = ℕ} 64 0;
+  known = λ k low _. pass k low ∙ ap (λ c. Some c) (sym (get_or-replicate {A = ℕ} 64 k 0 0 low));
+}
 
 -- a block that the bytes begin with, and one that is added
 pub IsPut-first : (bytes block : List ℕ) → take 64 bytes ≡ block → IsPut bytes block bytes 0
