@@ -22,7 +22,7 @@ const PLANE: usize = 1024;
 /// The class with which each character passes, if it is known.
 #[derive(Drop)]
 pub(crate) struct PassingClasses {
-    /// Where the block of each 64 code points begins.
+    /// The beginning of the block of each 64 code points.
     starts: Vec<u16>,
     /// The bytes of blocks. The first one is there once.
     bytes: Vec<u8>,
@@ -131,7 +131,7 @@ fn known_class<N: Forming>(normalizer: &N, number: u32) -> u8
     normalizer.passthrough_class(character).unwrap_or(UNKNOWN)
 }
 
-/// Where a block begins among bytes. It is added, unless they begin with the same.
+/// Returns the place of a block among bytes. It is added, unless they begin with the same.
 fn put_block(bytes: &mut Vec<u8>, block: &[u8]) -> Result<usize, AllocError>
     requires { length block.now ≡ 64 }
     ensures { IfOk result (IsPut bytes.old.items block.now bytes.new.items) }

@@ -1,6 +1,6 @@
-use Rattle.std.proofs.Common.{get_or, sym, subst}
+use Rattle.std.proofs.Common.{get_or}
 use Rattle.std.proofs.lemmas.List.{take_more}
-use Rattle.icu_normalizer.proofs.results.Utf32Lemmas.{PassSoFar, PassSoFar-more, PassSoFar-none}
+use Rattle.icu_normalizer.proofs.results.Utf32Lemmas.{PassSoFar-more, PassSoFar-none}
 use Rattle.icu_normalizer.proofs.utf32.is_seen_to_pass.Goals as goal
 
 pub loop-unit-init : goal.loop-unit-init

@@ -1,4 +1,4 @@
-use Rattle.std.proofs.Common.{◌+◌, ◌*◌, length, arith, ap, sym, subst}
+use Rattle.std.proofs.Common.{length, arith, ap}
 use Rattle.std.proofs.lemmas.List.{length_push}
 use Rattle.icu_normalizer.proofs.passthrough.PassingLemmas.{SayClasses-longer, SayClasses-more}
 use Rattle.icu_normalizer.proofs.passing_classes.PassingClasses.of.Goals as goal
