@@ -20,12 +20,13 @@ typedef struct {
 
 typedef enum { NORMALIZE, MAP, VALIDATE } Call;
 
-/* A text: bytes, or an ASCII str, in UTF-8; any other str in UTF-16. */
+/* A text: bytes, or an ASCII str, in UTF-8; a str with characters beyond U+FFFF in UTF-32, until it is `widened`; any
+   other str in UTF-16. */
 typedef struct {
     PyObject *object;
     const void *units;
     size_t length;
-    bool is_wide;
+    size_t width;   /* the bytes of a unit */
     uint16_t *made; /* the units, if the str hasn't them itself */
     uint16_t own[2 * SHORT];
 } Text;
@@ -160,20 +161,26 @@ static size_t widen(PyObject *str, uint16_t *units) {
     return (size_t)(to - units);
 }
 
-/* The units of a str that hasn't them itself. */
-static bool made_wide(PyObject *str, Text *text) {
-    size_t length = (size_t)PyUnicode_GET_LENGTH(str);
+/* Puts a str that hasn't 16-bit units itself into UTF-16. */
+static bool made_wide(Text *text) {
+    size_t length = (size_t)PyUnicode_GET_LENGTH(text->object);
     uint16_t *units = text->own;
     if (length > SHORT && !(units = text->made = PyMem_RawMalloc(4 * length))) return PyErr_NoMemory(), false;
     text->units = units;
-    text->length = widen(str, units);
+    text->length = widen(text->object, units);
+    text->width = sizeof *units;
     return true;
+}
+
+/* Puts a text in UTF-32 into UTF-16, as each call but the check needs it. */
+static inline bool widened(Text *text) {
+    return text->width != sizeof(Py_UCS4) || made_wide(text);
 }
 
 static inline bool text_of(PyObject *object, Text *text) {
     text->object = object;
     text->made = NULL;
-    text->is_wide = false;
+    text->width = 1;
     if (!PyUnicode_Check(object)) {
         if (!PyBytes_Check(object)) return PyErr_SetString(PyExc_TypeError, "a text is a str or bytes"), false;
         text->units = PyBytes_AS_STRING(object);
@@ -183,16 +190,13 @@ static inline bool text_of(PyObject *object, Text *text) {
     if (!is_ready(object)) return false;
     text->units = PyUnicode_DATA(object);
     text->length = (size_t)PyUnicode_GET_LENGTH(object);
-    text->is_wide = !PyUnicode_IS_ASCII(object);
-    return !text->is_wide || PyUnicode_KIND(object) == PyUnicode_2BYTE_KIND || made_wide(object, text);
+    if (PyUnicode_IS_ASCII(object)) return true;
+    text->width = PyUnicode_KIND(object);
+    return text->width != 1 || made_wide(text);
 }
 
 static inline void release_text(Text *text) {
     if (text->made) PyMem_RawFree(text->made);
-}
-
-static size_t size_of(const Text *text) {
-    return text->is_wide ? sizeof(uint16_t) : 1;
 }
 
 /* How many pairs of surrogates are in well-formed UTF-16. It is counted in parts, so that 16 bits are enough for each. */
@@ -237,19 +241,20 @@ static PyObject *str_of(const uint16_t *units, size_t length) {
 
 static PyObject *object_of(const Text *text, const void *units, size_t length) {
     if (PyBytes_Check(text->object)) return PyBytes_FromStringAndSize(units, (Py_ssize_t)length);
-    return text->is_wide ? str_of(units, length) : PyUnicode_DecodeUTF8(units, (Py_ssize_t)length, NULL);
+    return text->width == 1 ? PyUnicode_DecodeUTF8(units, (Py_ssize_t)length, NULL) : str_of(units, length);
 }
 
 /* The text itself, but for a subclass of str or bytes a copy. */
 static inline PyObject *same(const Text *text) {
     if (PyUnicode_CheckExact(text->object) || PyBytes_CheckExact(text->object)) return Py_NewRef(text->object);
-    return object_of(text, text->units, text->length);
+    if (PyUnicode_Check(text->object)) return PyUnicode_FromObject(text->object);
+    return PyBytes_FromStringAndSize(text->units, (Py_ssize_t)text->length);
 }
 
 static inline icu_normalizer_status call_of(icu_normalizer *handle, Call call, icu_normalizer_form form,
     const Text *text, size_t from, void *output, size_t room, size_t *needed) {
     size_t length = text->length - from;
-    if (text->is_wide) {
+    if (text->width != 1) {
         const uint16_t *units = (const uint16_t *)text->units + from;
         switch (call) {
             case MAP: return icu_normalizer_map_utf16(handle, units, length, output, room, needed);
@@ -266,36 +271,39 @@ static inline icu_normalizer_status call_of(icu_normalizer *handle, Call call, i
 }
 
 static icu_normalizer_status cut_of(icu_normalizer *handle, icu_normalizer_form form, const Text *text, size_t *cut) {
-    if (text->is_wide) return icu_normalizer_split_utf16(handle, form, text->units, text->length, cut);
-    return icu_normalizer_split_utf8(handle, form, text->units, text->length, cut);
+    if (text->width == 1) return icu_normalizer_split_utf8(handle, form, text->units, text->length, cut);
+    return icu_normalizer_split_utf16(handle, form, text->units, text->length, cut);
 }
 
 static icu_normalizer_status check_of(icu_normalizer *handle, icu_normalizer_form form, const Text *text, bool *is) {
-    if (text->is_wide) return icu_normalizer_is_normalized_utf16(handle, form, text->units, text->length, is);
-    return icu_normalizer_is_normalized_utf8(handle, form, text->units, text->length, is);
+    switch (text->width) {
+        case 1: return icu_normalizer_is_normalized_utf8(handle, form, text->units, text->length, is);
+        case 2: return icu_normalizer_is_normalized_utf16(handle, form, text->units, text->length, is);
+        default: return icu_normalizer_is_normalized_utf32(handle, form, text->units, text->length, is);
+    }
 }
 
 static PyObject *short_result(Normalizer *self, Call call, icu_normalizer_form form, const Text *text) {
     uint16_t output[18 * SHORT];
-    size_t needed, room = sizeof output / size_of(text);
+    size_t needed, size = text->width, room = size == 1 ? sizeof output : sizeof output / 2;
     icu_normalizer_status status = call_of(&self->handle, call, form, text, 0, output, room, &needed);
     if (status == ICU_NORMALIZER_BUFFER_TOO_SMALL) return NULL;
     if (status) return failed(status);
-    if (needed == text->length && !memcmp(output, text->units, needed * size_of(text))) return same(text);
+    if (needed == text->length && !memcmp(output, text->units, needed * size)) return same(text);
     return object_of(text, output, needed);
 }
 
 /* The result in memory of its own, or null if the text is already normalized. */
 static icu_normalizer_status long_result(icu_normalizer *handle, Call call, icu_normalizer_form form, const Text *text,
     char **output, size_t *length) {
-    size_t cut = 0, needed = 0, size = size_of(text);
+    size_t cut = 0, needed = 0, size = text->width;
     *output = NULL;
     if (call == NORMALIZE) {
         icu_normalizer_status status = cut_of(handle, form, text, &cut);
         if (status || cut == text->length) return status;
     }
     /* The form is what comes before the cut, followed by the form of the rest. */
-    size_t room = (text->length - cut) * (text->is_wide ? 4 : 3) + 64;
+    size_t room = (text->length - cut) * (size == 1 ? 3 : 4) + 64;
     for (;;) {
         char *larger = PyMem_RawRealloc(*output, (cut + room) * size);
         if (!larger) return ICU_NORMALIZER_OUT_OF_MEMORY;
@@ -308,7 +316,8 @@ static icu_normalizer_status long_result(icu_normalizer *handle, Call call, icu_
     }
 }
 
-static PyObject *result(Normalizer *self, Call call, icu_normalizer_form form, const Text *text) {
+static PyObject *result(Normalizer *self, Call call, icu_normalizer_form form, Text *text) {
+    if (!widened(text)) return NULL;
     if (text->length <= SHORT) {
         PyObject *made = short_result(self, call, form, text);
         if (made || PyErr_Occurred()) return made;
@@ -388,7 +397,7 @@ static PyObject *is_normalized(PyObject *it, PyObject *const *passed, Py_ssize_t
 
 /* How many characters or bytes of the text come before so many units. */
 static Py_ssize_t index_of(const Text *text, size_t units) {
-    if (!text->is_wide || PyUnicode_KIND(text->object) != PyUnicode_4BYTE_KIND) return (Py_ssize_t)units;
+    if (text->width == 1 || PyUnicode_KIND(text->object) != PyUnicode_4BYTE_KIND) return (Py_ssize_t)units;
     const Py_UCS4 *from = PyUnicode_4BYTE_DATA(text->object);
     Py_ssize_t index = 0;
     for (size_t before = 0; before < units; index++) before += from[index] > 0xFFFF ? 2 : 1;
@@ -400,10 +409,10 @@ static PyObject *first_mismatch(PyObject *it, PyObject *const *passed, Py_ssize_
     icu_normalizer_form form;
     Text text;
     icu_normalizer_mismatch mismatch = {0, 0, 0, false};
-    if (!is_passed("first_mismatch", self, passed, count, &form, &text)) return NULL;
-    icu_normalizer_status status = text.is_wide
-        ? icu_normalizer_first_mismatch_utf16(&self->handle, form, text.units, text.length, &mismatch)
-        : icu_normalizer_first_mismatch_utf8(&self->handle, form, text.units, text.length, &mismatch);
+    if (!is_passed("first_mismatch", self, passed, count, &form, &text) || !widened(&text)) return NULL;
+    icu_normalizer_status status = text.width == 1
+        ? icu_normalizer_first_mismatch_utf8(&self->handle, form, text.units, text.length, &mismatch)
+        : icu_normalizer_first_mismatch_utf16(&self->handle, form, text.units, text.length, &mismatch);
     Py_ssize_t offset = index_of(&text, mismatch.offset);
     release_text(&text);
     if (status) return failed(status);
@@ -421,7 +430,7 @@ static PyObject *split(PyObject *it, PyObject *const *passed, Py_ssize_t count) 
     icu_normalizer_form form;
     Text text;
     size_t cut = 0;
-    if (!is_passed("split", self, passed, count, &form, &text)) return NULL;
+    if (!is_passed("split", self, passed, count, &form, &text) || !widened(&text)) return NULL;
     icu_normalizer_status status = cut_of(&self->handle, form, &text, &cut);
     Py_ssize_t index = index_of(&text, cut);
     release_text(&text);

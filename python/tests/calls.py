@@ -20,6 +20,15 @@ TEXTS = [
     "\U0001D15E",
     "x\U0001D15E\U0001D160\xE4\u4E00\U0002F800",
     "\U0001D400\U0001F600b\U0001D15Ey",
+    "\U0001F600\U0001F44D ok",
+    "\U00011099\U000110BA",
+    "\U0001109A",
+    "b\u0301\U0001F600",
+    "b\u0301\u0323\U0001F600",
+    64 * "\U0001F600" + "\u212B",
+    128 * "\U0001F600",
+    129 * "\U0001F600" + "a\u0308",
+    9000 * "\U0001F600 ",
     40 * "a\u0308",
     300 * "\xE4\xBD",
     9000 * "\U0001D15E\xE4",
@@ -59,6 +68,20 @@ def forms():
     assert icu_normalizer.split("NFC", b"ab\xFF") == (b"ab", b"\xFF")
 
 
+def surrogates():
+    """Each reads as U+FFFD, after a text that stays and after one that changes."""
+    for text in ["\uD800", "a\uDC00", "\U0001F600\uD800", "\uDC00\U0001F600a\u0308", 129 * "\U0001F600" + "\uDFFF"]:
+        characters = ["\uFFFD" if "\uD800" <= it <= "\uDFFF" else it for it in text]
+        place = characters.index("\uFFFD")
+        for form in FORMS:
+            for before in ("\U0001F600", "\U0001D15E"):
+                icu_normalizer.normalize(form, before)
+                assert icu_normalizer.normalize(form, text) == unicodedata.normalize(form, "".join(characters)), text
+            assert not icu_normalizer.is_normalized(form, text)
+            assert icu_normalizer.first_mismatch(form, text) == (place, "\uFFFD", "\uFFFD")
+            assert icu_normalizer.split(form, text) == (text[:place], text[place:])
+
+
 def errors():
     for form in ["", "N", "NF", "NFX", "NFK", "NFKX", "NFXC", "NXKC", "nfc", "NFCC", "NFC\0", "NF\xC7", b"NFC", 1]:
         refused(ValueError, icu_normalizer.normalize, form, "a")
@@ -77,7 +100,7 @@ def errors():
     class Text(str):
         pass
 
-    for text in ("a", "\xE4", "\u4E00", "a\U0001F600"):
+    for text in ("", "a", "\xE4", "\u4E00", "a\U0001F600", 129 * "\U0001F600"):
         made = icu_normalizer.normalize("NFC", Text(text))
         assert type(made) is str and made == text
 
@@ -129,6 +152,7 @@ def threads():
 
 
 forms()
+surrogates()
 errors()
 other_data()
 mapping()

@@ -22,6 +22,8 @@ icu_normalizer_status icu_normalizer_is_normalized_utf8_nonnull(icu_normalizer *
     const uint8_t *input, size_t input_length, bool *is_normalized);
 icu_normalizer_status icu_normalizer_is_normalized_utf16_nonnull(icu_normalizer *normalizer, icu_normalizer_form form,
     const uint16_t *input, size_t input_length, bool *is_normalized);
+icu_normalizer_status icu_normalizer_is_normalized_utf32_nonnull(icu_normalizer *normalizer, icu_normalizer_form form,
+    const uint32_t *input, size_t input_length, bool *is_normalized);
 icu_normalizer_status icu_normalizer_split_utf8_nonnull(icu_normalizer *normalizer, icu_normalizer_form form,
     const uint8_t *input, size_t input_length, size_t *cut);
 icu_normalizer_status icu_normalizer_split_utf16_nonnull(icu_normalizer *normalizer, icu_normalizer_form form,
@@ -106,6 +108,12 @@ icu_normalizer_status icu_normalizer_is_normalized_utf8(icu_normalizer *normaliz
 icu_normalizer_status icu_normalizer_is_normalized_utf16(icu_normalizer *normalizer,
     icu_normalizer_form form, const uint16_t *input, size_t input_length, bool *is_normalized) {
     return icu_normalizer_is_normalized_utf16_nonnull(normalizer, form, SOME(input, input_length), input_length,
+        is_normalized);
+}
+
+icu_normalizer_status icu_normalizer_is_normalized_utf32(icu_normalizer *normalizer,
+    icu_normalizer_form form, const uint32_t *input, size_t input_length, bool *is_normalized) {
+    return icu_normalizer_is_normalized_utf32_nonnull(normalizer, form, SOME(input, input_length), input_length,
         is_normalized);
 }
 

@@ -8,8 +8,8 @@
    `tools/install PREFIX` installs the library: `cc prog.c $(pkg-config --cflags --libs icu_normalizer)`. The header
    needs C99 or C++11.
 
-   A pointer with a length is an array of that many units: bytes, or 16-bit units in the order of the machine. For an
-   array of none it may be null. Nothing is read or written outside the arrays.
+   A pointer with a length is an array of that many units: bytes, or units of 16 or 32 bits in the order of the machine.
+   For an array of none it may be null. Nothing is read or written outside the arrays.
 
    What the library can't see, the program must establish:
    - Other pointers are never null. Each pointer is aligned for its type, and an array has at most PTRDIFF_MAX bytes.
@@ -296,6 +296,12 @@ icu_normalizer_status icu_normalizer_is_normalized_utf8(icu_normalizer *normaliz
     icu_normalizer_form form, const uint8_t *input, size_t input_length, bool *is_normalized);
 icu_normalizer_status icu_normalizer_is_normalized_utf16(icu_normalizer *normalizer,
     icu_normalizer_form form, const uint16_t *input, size_t input_length, bool *is_normalized);
+
+/* The same for UTF-32, in which each unit is one character: for char32_t, for wchar_t where it has 32 bits, and for
+   strings of Python. If a unit is no Unicode scalar value, as a surrogate is none, the result is false. There are no
+   other calls for UTF-32: convert the text. */
+icu_normalizer_status icu_normalizer_is_normalized_utf32(icu_normalizer *normalizer,
+    icu_normalizer_form form, const uint32_t *input, size_t input_length, bool *is_normalized);
 
 /* Sets `*cut` to the length of the longest beginning of `input` that is well-formed and that the form begins with,
    followed by the form of the rest. It is `input_length` exactly if `input` is well-formed and normalized. */

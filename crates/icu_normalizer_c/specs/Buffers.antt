@@ -2,7 +2,6 @@
 use Rattle.std.specs.Prelude.{◌≡◌, ◌≢◌, ◌⊎◌, ℕ, ◌<◌, ◌≤◌, ◌-◌, ◌^◌, ◌++◌, ⊤, List, length, take, drop}
 use Rattle.std.specs.Prelude.{Result, IsOk, OnOk, OnErr, IfErr, IsErrOf}
 use Rattle.icu_normalizer.specs.ShortRuns.{HasShortRuns}
-use Rattle.icu_normalizer.specs.Encodings.{Encoding, decoded_in}
 use Rattle.icu_normalizer.specs.Forms.{MadeForm}
 use Rattle.icu_normalizer_c.specs.Overwriting.{overwritten}
 use Rattle.normalizer_handles.specs.declared.fault.Fault.{Fault}
@@ -41,11 +40,12 @@ pub record Writes {X : Type 0} (Left : List X → List X → List X → Result �
   pub left : Left units before after outcome
   pub room : Suffices → ¬ IsErrOf outcome Memory
 
--- A value of this kind is reported. The only fault is `Memory`, which never comes over short runs, and then nothing is.
-pub record Reports {A : Type 0} (m : MadeForm) (e : Encoding) (units : List ℕ) (Is : A → Type 0) (before after : A)
+-- A value of this kind is reported. The only fault is `Memory`, which never comes if the text of the input has short
+-- runs, and then nothing is reported.
+pub record Reports {A : Type 0} (m : MadeForm) (text : List ℕ) (Is : A → Type 0) (before after : A)
     (outcome : Result ⊤ Fault) : Type 0 where
   pub is : OnOk outcome (Is after)
-  pub room : HasShortRuns m.has_class_form m.reading (decoded_in e units) → IsOk outcome
+  pub room : HasShortRuns m.has_class_form m.reading text → IsOk outcome
   pub refused : IfErr outcome (λ fault. fault ≡ Memory)
   pub unreported : OnErr outcome (after ≡ before)
 

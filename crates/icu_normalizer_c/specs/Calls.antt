@@ -1,12 +1,14 @@
 -- What the calls of C do.
 use Rattle.std.specs.Prelude.{◌≡◌, ◌⊎◌, ◌↔◌, ℕ, ◌<◌, ◌-◌, ◌^◌, Bool, List, length, ⊤, Result, Ok, Err, Option, Some}
-use Rattle.std.specs.Prelude.{None, IsTrue}
+use Rattle.std.specs.Prelude.{None, IsTrue, All}
 use Rattle.std.specs.Prelude.{min, IsOk, IsOkUnless, IfOk, OnOk, OnErr}
+use Rattle.std.specs.Char.{IsScalar}
 use Rattle.icu_normalizer.specs.ShortRuns.{HasShortRuns}
 use Rattle.icu_normalizer.specs.IgnoredCharacters.{IgnoredCharacters}
 use Rattle.icu_normalizer.specs.Encodings.{Encoding, encoded_in, decoded_in}
 use Rattle.icu_normalizer.specs.EncodedForm.{encoded_form}
 use Rattle.icu_normalizer.specs.InputCut.{IsInputCut, IsInputNormalized}
+use Rattle.icu_normalizer.specs.NormalForms.{IsNormalized}
 use Rattle.icu_normalizer.specs.Offence.{Offence}
 use Rattle.icu_normalizer.specs.Mapping.{mapped_in}
 use Rattle.icu_normalizer_c.specs.Overwriting.{overwritten}
@@ -71,18 +73,28 @@ pub record Overwrites (m : MadeForm) (e : Encoding) (input before after : List �
 abbrev pub ReportsNormalized : Encoding → (input : List ℕ) → (before after : Bool) → MadeForm → Result ⊤ Fault
     → Type 0
 ReportsNormalized e input before after m outcome =
-    Reports m e input (λ yes. IsTrue yes ↔ IsInputNormalized e m.reading m.form input) before after outcome
+    Reports m (decoded_in e input) (λ yes. IsTrue yes ↔ IsInputNormalized e m.reading m.form input) before after outcome
+
+-- the units are characters, as UTF-32 encodes them, and the text of them is normalized
+abbrev pub IsNormalizedUtf32 : MadeForm → (units : List ℕ) → Type 0
+IsNormalizedUtf32 m units = All IsScalar units × IsNormalized m.reading m.form units
+
+-- it is reported whether that is so
+abbrev pub ReportsNormalizedUtf32 : (input : List ℕ) → (before after : Bool) → MadeForm → Result ⊤ Fault → Type 0
+ReportsNormalizedUtf32 input before after m outcome =
+    Reports m input (λ yes. IsTrue yes ↔ IsNormalizedUtf32 m input) before after outcome
 
 -- the cut of the input is reported
 abbrev pub ReportsCut : Encoding → (input : List ℕ) → (before after : ℕ) → MadeForm → Result ⊤ Fault → Type 0
 ReportsCut e input before after m outcome =
-    Reports m e input (IsInputCut e m.reading m.form input) before after outcome
+    Reports m (decoded_in e input) (IsInputCut e m.reading m.form input) before after outcome
 
 -- the first mismatch of the input is reported, or that it is well-formed and normalized
 abbrev pub ReportsMismatch : Encoding → (input : List ℕ) → (before after : Mismatch) → MadeForm → Result ⊤ Fault
     → Type 0
 ReportsMismatch e input before after m outcome =
-    Reports m e input (λ it. (answer : Option Offence) × (it ≡ mismatch_of answer) × IsLastingOffence m e input answer)
+    Reports m (decoded_in e input)
+    (λ it. (answer : Option Offence) × (it ≡ mismatch_of answer) × IsLastingOffence m e input answer)
     before after outcome
 
 -- a call at the mapper of normalizers, unless they have none

@@ -1,8 +1,9 @@
 //! Whether inputs are normalized, and how far.
 ghost use Rattle.std.specs.Prelude.{◌≡◌, ◌↔◌, IsTrue};
 ghost use Rattle.icu_normalizer.specs.InputCut.{IsInputCut, IsInputNormalized};
-ghost use Rattle.icu_normalizer.specs.Encodings.{Encoding};
-ghost use Rattle.icu_normalizer_c.specs.Calls.{Over, ReportsCut, ReportsNormalized};
+ghost use Rattle.icu_normalizer.specs.Encodings.{Encoding, decoded_in};
+ghost use Rattle.icu_normalizer_c.specs.Calls.{IsNormalizedUtf32, Over, ReportsCut, ReportsNormalized};
+ghost use Rattle.icu_normalizer_c.specs.Calls.{ReportsNormalizedUtf32};
 ghost use Rattle.normalizer_handles.specs.Handles.{held_normalizers};
 ghost use Rattle.normalizer_handles.specs.Status.{IsStatus};
 
@@ -18,9 +19,7 @@ struct IsNormalized<U>(U);
 impl<'a> Question for IsNormalized<&'a [u8]> {
     type Answer = bool;
 
-    ghost encoding = { Encoding.Utf8 };
-
-    ghost units = { λ q. q.0.now };
+    ghost text = { λ q. decoded_in Encoding.Utf8 q.0.now };
 
     ghost is = { λ q m yes. IsTrue yes ↔ IsInputNormalized Encoding.Utf8 m.reading m.form q.0.now };
 
@@ -32,14 +31,24 @@ impl<'a> Question for IsNormalized<&'a [u8]> {
 impl<'a> Question for IsNormalized<&'a [u16]> {
     type Answer = bool;
 
-    ghost encoding = { Encoding.Utf16 };
-
-    ghost units = { λ q. q.0.now };
+    ghost text = { λ q. decoded_in Encoding.Utf16 q.0.now };
 
     ghost is = { λ q m yes. IsTrue yes ↔ IsInputNormalized Encoding.Utf16 m.reading m.form q.0.now };
 
     fn ask(&self, normalizer: &AnyNormalizerBorrowed<'_>) -> Result<bool, NormalizeError> {
         normalizer.is_normalized_utf16(self.0)
+    }
+}
+
+impl<'a> Question for IsNormalized<&'a [u32]> {
+    type Answer = bool;
+
+    ghost text = { λ q. q.0.now };
+
+    ghost is = { λ q m yes. IsTrue yes ↔ IsNormalizedUtf32 m q.0.now };
+
+    fn ask(&self, normalizer: &AnyNormalizerBorrowed<'_>) -> Result<bool, NormalizeError> {
+        normalizer.is_normalized_utf32(self.0)
     }
 }
 
@@ -50,9 +59,7 @@ struct Cut<U>(U);
 impl<'a> Question for Cut<&'a [u8]> {
     type Answer = usize;
 
-    ghost encoding = { Encoding.Utf8 };
-
-    ghost units = { λ q. q.0.now };
+    ghost text = { λ q. decoded_in Encoding.Utf8 q.0.now };
 
     ghost is = { λ q m cut. IsInputCut Encoding.Utf8 m.reading m.form q.0.now cut };
 
@@ -65,9 +72,7 @@ impl<'a> Question for Cut<&'a [u8]> {
 impl<'a> Question for Cut<&'a [u16]> {
     type Answer = usize;
 
-    ghost encoding = { Encoding.Utf16 };
-
-    ghost units = { λ q. q.0.now };
+    ghost text = { λ q. decoded_in Encoding.Utf16 q.0.now };
 
     ghost is = { λ q m cut. IsInputCut Encoding.Utf16 m.reading m.form q.0.now cut };
 
@@ -110,6 +115,25 @@ pub extern "C" fn icu_normalizer_is_normalized_utf16_nonnull(
 ) -> u32
     ensures status { IsStatus result (Over (held_normalizers handle.old) form (reported.new ≡ reported.old)
         (ReportsNormalized Encoding.Utf16 input.now reported.old reported.new)) }
+    ensures kept { held_normalizers handle.new ≡ held_normalizers handle.old }
+{
+    report(alloc, handle, form, &IsNormalized(input), reported)
+}
+
+/// Reports whether the units of `input` are characters, as UTF-32 encodes them, and the text of them is normalized.
+///
+/// # Errors
+/// `NotOpen`, `InUse`, `UnknownForm`, or `Memory`, which never comes over short runs. `reported` is then unchanged.
+#[unsafe(no_mangle)]
+pub extern "C" fn icu_normalizer_is_normalized_utf32_nonnull(
+    alloc: Global,
+    handle: &mut Handle,
+    form: u32,
+    input: &[u32],
+    reported: &mut bool,
+) -> u32
+    ensures status { IsStatus result (Over (held_normalizers handle.old) form (reported.new ≡ reported.old)
+        (ReportsNormalizedUtf32 input.now reported.old reported.new)) }
     ensures kept { held_normalizers handle.new ≡ held_normalizers handle.old }
 {
     report(alloc, handle, form, &IsNormalized(input), reported)

@@ -1,6 +1,6 @@
 //! The first mismatches of inputs.
 ghost use Rattle.std.specs.Prelude.{◌≡◌, Option};
-ghost use Rattle.icu_normalizer.specs.Encodings.{Encoding};
+ghost use Rattle.icu_normalizer.specs.Encodings.{Encoding, decoded_in};
 ghost use Rattle.icu_normalizer_c.specs.Calls.{Over, ReportsMismatch};
 ghost use Rattle.normalizer_handles.specs.Handles.{held_normalizers};
 ghost use Rattle.normalizer_handles.specs.Status.{IsStatus};
@@ -56,9 +56,7 @@ struct FirstMismatch<U>(U);
 impl<'a> Question for FirstMismatch<&'a [u8]> {
     type Answer = Mismatch;
 
-    ghost encoding = { Encoding.Utf8 };
-
-    ghost units = { λ q. q.0.now };
+    ghost text = { λ q. decoded_in Encoding.Utf8 q.0.now };
 
     ghost is = { λ q m it. (answer : Option Offence) × (it ≡ mismatch_of answer) ×
         IsLastingOffence m Encoding.Utf8 q.0.now answer };
@@ -72,9 +70,7 @@ impl<'a> Question for FirstMismatch<&'a [u8]> {
 impl<'a> Question for FirstMismatch<&'a [u16]> {
     type Answer = Mismatch;
 
-    ghost encoding = { Encoding.Utf16 };
-
-    ghost units = { λ q. q.0.now };
+    ghost text = { λ q. decoded_in Encoding.Utf16 q.0.now };
 
     ghost is = { λ q m it. (answer : Option Offence) × (it ≡ mismatch_of answer) ×
         IsLastingOffence m Encoding.Utf16 q.0.now answer };

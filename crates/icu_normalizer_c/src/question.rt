@@ -1,6 +1,5 @@
 //! Questions about inputs.
 ghost use Rattle.std.specs.Prelude.{◌≡◌, ℕ, List};
-ghost use Rattle.icu_normalizer.specs.Encodings.{Encoding, decoded_in};
 ghost use Rattle.icu_normalizer.specs.Checks.{AnswersOf};
 ghost use Rattle.icu_normalizer.specs.Forms.{MadeForm};
 ghost use Rattle.icu_normalizer_c.specs.Buffers.{Reports};
@@ -17,17 +16,14 @@ use std::alloc::Global;
 pub(crate) trait Question {
     type Answer: Copy;
 
-    /// The encoding of the input.
-    ghost encoding: { Encoding };
-
-    /// The units of the input.
-    ghost units: { Self → List ℕ };
+    /// What the input decodes to.
+    ghost text: { Self → List ℕ };
 
     /// Which results are right.
     ghost is: { Self → MadeForm → Self.Answer → Type 0 };
 
     fn ask(&self, normalizer: &AnyNormalizerBorrowed<'_>) -> Result<Self::Answer, NormalizeError>
-        ensures { AnswersOf (made_by_borrowed normalizer.now) (decoded_in encoding (units self.now))
+        ensures { AnswersOf (made_by_borrowed normalizer.now) (text self.now)
             (is self.now (made_by_borrowed normalizer.now)) result };
 }
 
@@ -40,7 +36,7 @@ pub(crate) fn report<Q: Question>(
     reported: &mut Q::Answer,
 ) -> u32
     ensures status { IsStatus result (Over (held_normalizers handle.old) form (reported.new ≡ reported.old) (λ m.
-        Reports m Q.encoding (Q.units question.now) (Q.is question.now m) reported.old reported.new)) }
+        Reports m (Q.text question.now) (Q.is question.now m) reported.old reported.new)) }
     ensures kept { held_normalizers handle.new ≡ held_normalizers handle.old }
 {
     status(report_over(alloc, handle, form, question, reported))
@@ -54,7 +50,7 @@ fn report_over<Q: Question>(
     reported: &mut Q::Answer,
 ) -> Result<(), Fault>
     ensures over { Over (held_normalizers handle.old) form (reported.new ≡ reported.old) (λ m.
-        Reports m Q.encoding (Q.units question.now) (Q.is question.now m) reported.old reported.new) result }
+        Reports m (Q.text question.now) (Q.is question.now m) reported.old reported.new) result }
     ensures kept { held_normalizers handle.new ≡ held_normalizers handle.old }
 {
     let owner = handle.take(alloc)?;
@@ -70,7 +66,7 @@ fn report_at<Q: Question>(
     reported: &mut Q::Answer,
 ) -> Result<(), Fault>
     ensures { AtForm normalizers.now form (reported.new ≡ reported.old) (λ m.
-        Reports m Q.encoding (Q.units question.now) (Q.is question.now m) reported.old reported.new) result }
+        Reports m (Q.text question.now) (Q.is question.now m) reported.old reported.new) result }
 {
     let normalizer = normalizers.numbered(form)?;
     report_by(&normalizer, question, reported)
@@ -81,7 +77,7 @@ fn report_by<Q: Question>(
     question: &Q,
     reported: &mut Q::Answer,
 ) -> Result<(), Fault>
-    ensures { Reports (made_by_borrowed normalizer.now) Q.encoding (Q.units question.now)
+    ensures { Reports (made_by_borrowed normalizer.now) (Q.text question.now)
         (Q.is question.now (made_by_borrowed normalizer.now)) reported.old reported.new result }
 {
     *reported = question.ask(normalizer)?;

@@ -44,6 +44,7 @@ static void closed(icu_normalizer *normalizer) {
     EXPECT(icu_normalizer_normalize_utf8(normalizer, ICU_NORMALIZER_NFC, bytes_of("a"), 1, output, 4, &number)
         == ICU_NORMALIZER_NOT_OPEN);
     EXPECT(icu_normalizer_is_normalized_utf8(normalizer, 9, bytes_of("a"), 1, &is) == ICU_NORMALIZER_NOT_OPEN);
+    EXPECT(icu_normalizer_is_normalized_utf32(normalizer, ICU_NORMALIZER_NFC, NULL, 0, &is) == ICU_NORMALIZER_NOT_OPEN);
     EXPECT(icu_normalizer_split_utf8(normalizer, ICU_NORMALIZER_NFC, bytes_of("a"), 1, &number)
         == ICU_NORMALIZER_NOT_OPEN);
     icu_normalizer_mismatch mismatch = {9, 9, 9, true};
@@ -127,6 +128,46 @@ static void utf16(icu_normalizer *normalizer) {
     EXPECT(unless_refused(icu_normalizer_first_mismatch_utf16(
         normalizer, ICU_NORMALIZER_NFD, text, 4, &mismatch)) == ICU_NORMALIZER_OK);
     EXPECT(mismatch.exists && mismatch.offset == 2 && mismatch.found == 0xFFFD && mismatch.expected == 0xFFFD);
+}
+
+/* Texts of up to three characters, and their forms: NFD, NFC, NFKD and NFKC. */
+static void utf32(icu_normalizer *normalizer) {
+    enum { NONE, D = 1 << ICU_NORMALIZER_NFD, C = 1 << ICU_NORMALIZER_NFC, KD = 1 << ICU_NORMALIZER_NFKD,
+        KC = 1 << ICU_NORMALIZER_NFKC, ALL = D | C | KD | KC };
+    static const struct {
+        size_t length;
+        uint32_t text[3];
+        unsigned forms;
+    } texts[] = {
+        {1, {0x61}, ALL}, {2, {0x61, 0x308}, D | KD}, {1, {0xE4}, C | KC}, {2, {0xE4, 0x323}, NONE},
+        /* U+0301 composes with some characters, not with U+0062. */
+        {2, {0x62, 0x301}, ALL}, {3, {0x62, 0x323, 0x301}, D | KD}, {3, {0x62, 0x301, 0x323}, NONE},
+        {2, {0x1E05, 0x301}, C | KC}, {2, {0x301, 0x301}, ALL}, {1, {0xFB01}, D | C}, {2, {0xAC00, 0x11A8}, NONE},
+        {3, {0x1100, 0x1161, 0x11A8}, D | KD}, {1, {0xAC01}, C | KC}, {3, {0x1F600, 0x20, 0x10FFFF}, ALL},
+        {2, {0x11099, 0x110BA}, D | KD}, {1, {0x1109A}, C | KC}, {1, {0x1D15E}, NONE}, {1, {0x1D400}, D | C},
+        {3, {0xD7FF, 0xE000, 0xFFFD}, ALL}, {1, {0xD800}, NONE}, {2, {0x61, 0xDFFF}, NONE},
+        {2, {0xD834, 0xDD1E}, NONE}, {3, {0x61, 0x301, 0xD800}, NONE}, {1, {0x110000}, NONE},
+        {3, {0x1F600, 0x1F600, 0x110000}, NONE}, {2, {0xFFFFFFFF, 0x61}, NONE},
+    };
+    bool is = false;
+    for (icu_normalizer_form form = 0; form < 4; form++) {
+        for (size_t place = 0; place < sizeof texts / sizeof texts[0]; place++) {
+            EXPECT(unless_refused(icu_normalizer_is_normalized_utf32(
+                normalizer, form, texts[place].text, texts[place].length, &is)) == ICU_NORMALIZER_OK);
+            EXPECT(is == (texts[place].forms >> form & 1));
+        }
+        is = false;
+        EXPECT(icu_normalizer_is_normalized_utf32(normalizer, form, NULL, 0, &is) == ICU_NORMALIZER_OK && is);
+        /* More marks than are kept without an allocation. */
+        uint32_t long_text[41] = {0x62};
+        for (size_t place = 1; place < 41; place++) long_text[place] = 0x301;
+        EXPECT(unless_refused(icu_normalizer_is_normalized_utf32(normalizer, form, long_text, 41, &is))
+            == ICU_NORMALIZER_OK && is);
+        long_text[40] = 0x323;
+        EXPECT(unless_refused(icu_normalizer_is_normalized_utf32(normalizer, form, long_text, 41, &is))
+            == ICU_NORMALIZER_OK && !is);
+    }
+    EXPECT(icu_normalizer_is_normalized_utf32(normalizer, 4, NULL, 0, &is) == ICU_NORMALIZER_UNKNOWN_FORM && !is);
 }
 
 /* A table of IDNA: U+24B6 maps to U+0061, U+00AD is ignored, U+0378 and U+0379 are disallowed, all others are valid. */
@@ -386,6 +427,7 @@ int main(int count, char **words) {
     EXPECT(status == ICU_NORMALIZER_OK);
     utf8(&normalizer);
     utf16(&normalizer);
+    utf32(&normalizer);
     sharing(&normalizer);
     /* What is open stays open if the next data are wrong. */
     EXPECT(icu_normalizer_open_unicode_data(&normalizer, bytes_of("00E4;\n"), 6, NULL, 0) != ICU_NORMALIZER_OK);

@@ -37,7 +37,7 @@ static void *at(enum side side, uint8_t *memory, size_t size) {
     return !size ? NULL : side == FIRST ? memory : memory + ROOM - size;
 }
 
-static uint8_t *inputs, *outputs;
+static uint8_t *inputs, *outputs, *characters;
 
 static void *block(size_t size) {
     void *made = malloc(size);
@@ -120,6 +120,30 @@ static void compare(icu_normalizer *normalizer, icu_normalizer_form form, size_t
     EXPECT(mismatch.offset == (is_same ? 0 : cut));
 }
 
+/* Whether a pair of surrogates is at the place. */
+static bool is_pair(const uint16_t *units, size_t length, size_t place) {
+    return place + 1 < length && units[place] >> 10 == 0x36 && units[place + 1] >> 10 == 0x37;
+}
+
+/* The check of the same text in UTF-32, in which unpaired surrogates stay as they are: its result is that of UTF-16. */
+static void compare_utf32(icu_normalizer *normalizer, icu_normalizer_form form, enum side side, const uint16_t *units,
+    size_t length) {
+    size_t count = length;
+    for (size_t place = 0; place < length; place++) count -= is_pair(units, length, place);
+    uint32_t *input = at(side, characters, 4 * count), *to = input;
+    for (size_t place = 0; place < length; place++)
+        if (is_pair(units, length, place)) {
+            *to++ = 0x10000 + ((units[place] & 0x3FFu) << 10) + (units[place + 1] & 0x3FFu);
+            place++;
+        } else {
+            *to++ = units[place];
+        }
+    bool is = false, is_utf16 = false;
+    EXPECT(icu_normalizer_is_normalized_utf16(normalizer, form, units, length, &is_utf16) == ICU_NORMALIZER_OK);
+    EXPECT(icu_normalizer_is_normalized_utf32(normalizer, form, input, count, &is) == ICU_NORMALIZER_OK);
+    EXPECT(is == is_utf16);
+}
+
 /* The units of a line, at each side. */
 static void compare_line(icu_normalizer *normalizer, char *line) {
     size_t bits = strcmp(strtok(line, " "), "8") == 0 ? 8 : 16, length;
@@ -132,6 +156,7 @@ static void compare_line(icu_normalizer *normalizer, char *line) {
             if (length) memcpy(input, units, length * bits / 8);
             compare(normalizer, form, bits, input, length, wanted, wanted_length);
             compare_rooms(normalizer, form, bits, side, input, length, wanted, wanted_length);
+            if (bits == 16) compare_utf32(normalizer, form, side, units, length);
         }
         free(wanted);
     }
@@ -204,6 +229,7 @@ static void compare_empty(void) {
         for (size_t bits = 8; bits <= 16; bits += 8) {
             compare(&normalizer, form, bits, NULL, 0, NULL, 0);
             compare_rooms(&normalizer, form, bits, LAST, NULL, 0, NULL, 0);
+            compare_utf32(&normalizer, form, LAST, NULL, 0);
         }
     size_t needed = 7;
     EXPECT(icu_normalizer_map_utf8(&normalizer, NULL, 0, NULL, 0, &needed) == ICU_NORMALIZER_OK && needed == 0);
@@ -254,6 +280,7 @@ int main(int count, char **words) {
     EXPECT(count == 3);
     inputs = fenced();
     outputs = fenced();
+    characters = fenced();
     compare_empty();
     open_records();
     compare_mapped();

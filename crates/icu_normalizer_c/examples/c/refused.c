@@ -54,10 +54,11 @@ static const char table[] = "0000..0040 ; valid\n0041 ; mapped ; 0061\n0042..00A
 static void calls(icu_normalizer *normalizer) {
     uint8_t text[161] = {'a'}, output[400];
     uint16_t units[81] = {'a'}, wide[400];
+    uint32_t characters[81] = {'a'};
     for (size_t place = 0; place < 40; place++) {
         memcpy(text + 1 + 4 * place, "\xCC\x88\xCC\xA3", 4);
-        units[1 + 2 * place] = 0x308;
-        units[2 + 2 * place] = 0x323;
+        characters[1 + 2 * place] = units[1 + 2 * place] = 0x308;
+        characters[2 + 2 * place] = units[2 + 2 * place] = 0x323;
     }
     size_t number;
     bool is = true;
@@ -73,6 +74,7 @@ static void calls(icu_normalizer *normalizer) {
             EXPECT(number == (composes ? 80 : 81));
         if (is_done(icu_normalizer_is_normalized_utf8(normalizer, form, text, 161, &is))) EXPECT(!is);
         if (is_done(icu_normalizer_is_normalized_utf16(normalizer, form, units, 81, &is))) EXPECT(!is);
+        if (is_done(icu_normalizer_is_normalized_utf32(normalizer, form, characters, 81, &is))) EXPECT(!is);
         if (is_done(icu_normalizer_split_utf8(normalizer, form, text, 161, &number)))
             EXPECT(number == (composes ? 0 : 1));
         if (is_done(icu_normalizer_split_utf16(normalizer, form, units, 81, &number)))
