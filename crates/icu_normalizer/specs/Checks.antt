@@ -29,10 +29,13 @@ abbrev pub ChecksForm : MadeForm → Encoding → List ℕ → Result Bool Norma
 ChecksForm m e units result =
     AnswersOf m (decoded_in e units) (λ yes. IsTrue yes ↔ IsInputNormalized e m.reading m.form units) result
 
--- true if and only if the units are characters, as UTF-32 encodes them, and the text of them is normalized
+-- the units are characters, as UTF-32 encodes them, and the text of them is normalized
+abbrev pub IsNormalizedUtf32 : MadeForm → List ℕ → Type 0
+IsNormalizedUtf32 m units = All IsScalar units × IsNormalized m.reading m.form units
+
+-- true if and only if they are
 abbrev pub ChecksUtf32 : MadeForm → List ℕ → Result Bool NormalizeError → Type 0
-ChecksUtf32 m units result =
-    AnswersOf m units (λ yes. IsTrue yes ↔ (All IsScalar units × IsNormalized m.reading m.form units)) result
+ChecksUtf32 m units result = AnswersOf m units (λ yes. IsTrue yes ↔ IsNormalizedUtf32 m units) result
 
 -- the units have a first mismatch, at the place or before it
 abbrev pub HasOffenceWithin : MadeForm → Encoding → List ℕ → ℕ → Type 0

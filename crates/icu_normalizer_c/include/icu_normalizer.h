@@ -297,7 +297,7 @@ icu_normalizer_status icu_normalizer_is_normalized_utf8(icu_normalizer *normaliz
 icu_normalizer_status icu_normalizer_is_normalized_utf16(icu_normalizer *normalizer,
     icu_normalizer_form form, const uint16_t *input, size_t input_length, bool *is_normalized);
 
-/* The same for UTF-32, in which each unit is one character: for char32_t, for wchar_t where it has 32 bits, and for
+/* The same for UTF-32, in which each unit is one character: for char32_t, for wchar_t if it has 32 bits, and for
    strings of Python. If a unit is no Unicode scalar value, as a surrogate is none, the result is false. There are no
    other calls for UTF-32: convert the text. */
 icu_normalizer_status icu_normalizer_is_normalized_utf32(icu_normalizer *normalizer,

@@ -1,20 +1,18 @@
 -- What the calls of C do.
 use Rattle.std.specs.Prelude.{◌≡◌, ◌⊎◌, ◌↔◌, ℕ, ◌<◌, ◌-◌, ◌^◌, Bool, List, length, ⊤, Result, Ok, Err, Option, Some}
-use Rattle.std.specs.Prelude.{None, IsTrue, All}
+use Rattle.std.specs.Prelude.{None, IsTrue}
 use Rattle.std.specs.Prelude.{min, IsOk, IsOkUnless, IfOk, OnOk, OnErr}
-use Rattle.std.specs.Char.{IsScalar}
 use Rattle.icu_normalizer.specs.ShortRuns.{HasShortRuns}
 use Rattle.icu_normalizer.specs.IgnoredCharacters.{IgnoredCharacters}
 use Rattle.icu_normalizer.specs.Encodings.{Encoding, encoded_in, decoded_in}
 use Rattle.icu_normalizer.specs.EncodedForm.{encoded_form}
 use Rattle.icu_normalizer.specs.InputCut.{IsInputCut, IsInputNormalized}
-use Rattle.icu_normalizer.specs.NormalForms.{IsNormalized}
 use Rattle.icu_normalizer.specs.Offence.{Offence}
 use Rattle.icu_normalizer.specs.Mapping.{mapped_in}
 use Rattle.icu_normalizer_c.specs.Overwriting.{overwritten}
 use Rattle.icu_normalizer.specs.NormalizeError.{NormalizeError}
 use Rattle.icu_normalizer.specs.NormalizeError.TheVariants.{Memory}
-use Rattle.icu_normalizer.specs.Checks.{IsLastingOffence}
+use Rattle.icu_normalizer.specs.Checks.{IsLastingOffence, IsNormalizedUtf32}
 use Rattle.icu_normalizer.specs.Forms.{MadeForm}
 use Rattle.icu_normalizer.specs.declared.uts46.Uts46Mapper.{Uts46Mapper}
 use Rattle.icu_normalizer.specs.Mappers.{mapper_data_of}
@@ -75,11 +73,7 @@ abbrev pub ReportsNormalized : Encoding → (input : List ℕ) → (before after
 ReportsNormalized e input before after m outcome =
     Reports m (decoded_in e input) (λ yes. IsTrue yes ↔ IsInputNormalized e m.reading m.form input) before after outcome
 
--- the units are characters, as UTF-32 encodes them, and the text of them is normalized
-abbrev pub IsNormalizedUtf32 : MadeForm → (units : List ℕ) → Type 0
-IsNormalizedUtf32 m units = All IsScalar units × IsNormalized m.reading m.form units
-
--- it is reported whether that is so
+-- it is reported whether the input is in UTF-32 and normalized
 abbrev pub ReportsNormalizedUtf32 : (input : List ℕ) → (before after : Bool) → MadeForm → Result ⊤ Fault → Type 0
 ReportsNormalizedUtf32 input before after m outcome =
     Reports m input (λ yes. IsTrue yes ↔ IsNormalizedUtf32 m input) before after outcome

@@ -2,8 +2,8 @@
 ghost use Rattle.std.specs.Prelude.{◌≡◌, ◌↔◌, IsTrue};
 ghost use Rattle.icu_normalizer.specs.InputCut.{IsInputCut, IsInputNormalized};
 ghost use Rattle.icu_normalizer.specs.Encodings.{Encoding, decoded_in};
-ghost use Rattle.icu_normalizer_c.specs.Calls.{IsNormalizedUtf32, Over, ReportsCut, ReportsNormalized};
-ghost use Rattle.icu_normalizer_c.specs.Calls.{ReportsNormalizedUtf32};
+ghost use Rattle.icu_normalizer.specs.Checks.{IsNormalizedUtf32};
+ghost use Rattle.icu_normalizer_c.specs.Calls.{Over, ReportsCut, ReportsNormalized, ReportsNormalizedUtf32};
 ghost use Rattle.normalizer_handles.specs.Handles.{held_normalizers};
 ghost use Rattle.normalizer_handles.specs.Status.{IsStatus};
 
