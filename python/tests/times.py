@@ -47,14 +47,18 @@ TEXTS = {
     "CJK, compatibility": "".join(map(chr, range(0x2F972, 0x2F97C))),
     "Kaithi letters": "".join(map(chr, range(0x11096, 0x110A0))),
     "U+FFFD": "caf\uFFFD na\uFFFDve",
-}
-SLOWER = {
     "Chakma": "\U00011103\U0001110B\U00011134\U0001111F\U00011133\U00011126 \U0001110C\U0001110B\U00011134",
     "Hanifi Rohingya": "".join(map(chr, (0x10D0C, 0x10D17, 0x10D25, 0x10D1D, 0x10D19, 0x10D1A, 0x10D12))) + " 12",
     "Kaithi": "\U00011096\U00011097\U000110B0\U00011099\U000110B9 \U00011096\U00011097\U000110B0\U00011099",
     "marks": "".join(map(chr, range(0x2DE2, 0x2DEC))),
     "marks, Glagolitic": "".join(map(chr, range(0x1E00B, 0x1E015))),
     "U+FFFD alone": 10 * "\uFFFD",
+}
+SLOWER = {
+    "Hangul in parentheses": "".join(map(chr, range(0x320E, 0x3218))),
+    "musical marks": "".join(map(chr, range(0x1D165, 0x1D16F))),
+    "Sogdian": "".join(map(chr, range(0x10F44, 0x10F4E))),
+    "Tirhuta": "".join(map(chr, range(0x114BC, 0x114C6))),
 }
 
 
