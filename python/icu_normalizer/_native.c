@@ -135,19 +135,14 @@ static inline bool widen_four(const Py_UCS4 *from, uint16_t *to) {
     return true;
 }
 
-/* Writes the characters of a str as 16-bit units. Surrogates stay as they are. */
-static size_t widen(PyObject *str, uint16_t *units) {
-    Py_ssize_t length = PyUnicode_GET_LENGTH(str);
+/* Writes characters as 16-bit units. Surrogates stay as they are. */
+static size_t widen(const Py_UCS4 *from, size_t length, uint16_t *units) {
     uint16_t *to = units;
-    if (PyUnicode_KIND(str) == PyUnicode_1BYTE_KIND) {
-        for (const Py_UCS1 *from = PyUnicode_1BYTE_DATA(str), *end = from + length; from < end; from++) *to++ = *from;
-        return (size_t)length;
-    }
-    const Py_UCS4 *from = PyUnicode_4BYTE_DATA(str), *end = from + length;
+    const Py_UCS4 *end = from + length;
     for (; end - from >= 4 && widen_four(from, to); from += 4) to += 8;
     /* If fewer than four are left after others beyond U+FFFF, the last four are widened, some of them again. */
     bool is_last = to > units && from < end && end - from < 4;
-    if (is_last && widen_four(end - 4, units + 2 * length - 8)) return 2 * (size_t)length;
+    if (is_last && widen_four(end - 4, units + 2 * length - 8)) return 2 * length;
     for (; from < end; from++) {
         /* Both units are stored at once, as they may be read. */
         uint32_t pair = Py_UNICODE_HIGH_SURROGATE(*from) | (uint32_t)Py_UNICODE_LOW_SURROGATE(*from) << 16;
@@ -161,18 +156,36 @@ static size_t widen(PyObject *str, uint16_t *units) {
     return (size_t)(to - units);
 }
 
-/* Puts a str that hasn't 16-bit units itself into UTF-16. */
-static bool made_wide(Text *text) {
-    size_t length = (size_t)PyUnicode_GET_LENGTH(text->object);
-    uint16_t *units = text->own;
-    if (length > SHORT && !(units = text->made = PyMem_RawMalloc(4 * length))) return PyErr_NoMemory(), false;
+/* Room for the 16-bit units of a str that hasn't them itself. */
+static inline uint16_t *room_of(Text *text) {
+    if (text->length <= SHORT) return text->own;
+    text->made = PyMem_RawMalloc(4 * text->length);
+    if (!text->made) PyErr_NoMemory();
+    return text->made;
+}
+
+/* Puts a str of Latin-1 into UTF-16. */
+static inline bool widened_latin(Text *text) {
+    const Py_UCS1 *from = text->units;
+    uint16_t *units = room_of(text);
+    if (!units) return false;
+    for (size_t place = 0; place < text->length; place++) units[place] = from[place];
     text->units = units;
-    text->length = widen(text->object, units);
     text->width = sizeof *units;
     return true;
 }
 
-/* Puts a text in UTF-32 into UTF-16, as each call but the check needs it. */
+/* Puts a text in UTF-32 into UTF-16. */
+static bool made_wide(Text *text) {
+    uint16_t *units = room_of(text);
+    if (!units) return false;
+    text->length = widen(text->units, text->length, units);
+    text->units = units;
+    text->width = sizeof *units;
+    return true;
+}
+
+/* Each call but the check needs a text in UTF-8 or UTF-16. */
 static inline bool widened(Text *text) {
     return text->width != sizeof(Py_UCS4) || made_wide(text);
 }
@@ -192,7 +205,7 @@ static inline bool text_of(PyObject *object, Text *text) {
     text->length = (size_t)PyUnicode_GET_LENGTH(object);
     if (PyUnicode_IS_ASCII(object)) return true;
     text->width = PyUnicode_KIND(object);
-    return text->width != 1 || made_wide(text);
+    return text->width != 1 || widened_latin(text);
 }
 
 static inline void release_text(Text *text) {
