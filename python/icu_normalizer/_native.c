@@ -397,6 +397,14 @@ static PyObject *validate(PyObject *self, PyObject *text) {
     return mapped(self, VALIDATE, text);
 }
 
+/* Whether a text in UTF-32 has surrogates: in UTF-16 two of them may be a pair. */
+static bool has_surrogates(const Text *text) {
+    const Py_UCS4 *characters = text->units;
+    for (size_t place = 0; text->width == sizeof *characters && place < text->length; place++)
+        if (Py_UNICODE_IS_SURROGATE(characters[place])) return true;
+    return false;
+}
+
 static PyObject *is_normalized(PyObject *it, PyObject *const *passed, Py_ssize_t count) {
     Normalizer *self = (Normalizer *)it;
     icu_normalizer_form form;
@@ -404,6 +412,10 @@ static PyObject *is_normalized(PyObject *it, PyObject *const *passed, Py_ssize_t
     bool is = false;
     if (!is_passed("is_normalized", self, passed, count, &form, &text)) return NULL;
     icu_normalizer_status status = check_of(&self->handle, form, &text, &is);
+    if (!status && !is && has_surrogates(&text)) {
+        if (!widened(&text)) return NULL;
+        status = check_of(&self->handle, form, &text, &is);
+    }
     release_text(&text);
     return status ? failed(status) : PyBool_FromLong(is);
 }

@@ -80,6 +80,10 @@ def surrogates():
             assert not icu_normalizer.is_normalized(form, text)
             assert icu_normalizer.first_mismatch(form, text) == (place, "\uFFFD", "\uFFFD")
             assert icu_normalizer.split(form, text) == (text[:place], text[place:])
+    pair = "\U0001F600\uD83D\uDE00"  # two that are one character in UTF-16
+    for form in FORMS:
+        assert icu_normalizer.is_normalized(form, pair) and icu_normalizer.normalize(form, pair) == pair
+        assert icu_normalizer.first_mismatch(form, pair) is None
 
 
 def errors():
