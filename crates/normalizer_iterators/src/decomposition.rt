@@ -153,9 +153,9 @@ impl<'data, I: Iterator<Item = char> + Drop> Decomposition<'data, I> {
             (character_of following) e self.new) }
         ensures kept { (self.new.characters ≡ self.old.characters) × (self.new.ignored ≡ self.old.ignored) }
     {
-        if is_whole_chunk(&self.characters, self.ignored, read, following) {
+        if let Some(member) = whole_chunk(&self.characters, self.ignored, read, following) {
             self.pending = following;
-            return Ok(read.character);
+            return Ok(member);
         }
         match read_chunk(
             &self.characters,
@@ -212,20 +212,25 @@ impl<'data, I: Iterator<Item = char> + Drop> Decomposition<'data, I> {
     }
 }
 
-/// Whether a character is known to be its own list, and a boundary follows it.
+/// The member of the list of a character, if that is known to have one, and a boundary follows the character.
 #[inline(always)]
-fn is_whole_chunk(
+fn whole_chunk(
     characters: &CharacterData<'_>,
     ignored: IgnoredCharacters,
     read: PendingChar,
     following: Option<PendingChar>,
-) -> bool
+) -> Option<char>
     requires word { HasOwnWord characters.now read }
     requires words { HasOwnWords characters.now following }
-    ensures { IsTrue result → IsWholeChunk (has_class_form characters.now)
-        (reading_by characters.now ignored []) read.character (character_of following) }
+    ensures { IfSome result (λ member. IsWholeChunk (has_class_form characters.now)
+        (reading_by characters.now ignored []) read.character member (character_of following)) }
 {
-    read.is_plain() && is_at_boundary(characters, ignored, following)
+    let member = read.one_member(characters, ignored)?;
+    if is_at_boundary(characters, ignored, following) {
+        Some(member)
+    } else {
+        None
+    }
 }
 
 /// The first member of the list of a character after a boundary; the others are buffered, with the lists of the

@@ -11,10 +11,15 @@ ghost use Rattle.normalizer_iterators.specs.Reads.{character_of, HasNoFlag, HasO
 use normalizer_tables::characters::{CharacterData, IgnoredCharacters};
 use normalizer_tables::members::Members;
 use normalizer_tables::short_list::ShortList;
-use normalizer_tables::word::{is_backward_combining, is_class_form, is_non_round_trip};
+use normalizer_tables::word::{
+    is_backward_combining, is_class_form, is_non_round_trip, is_special_class_form,
+};
 
 /// The bits of a word that are all 0 if the character is its own list, a starter.
 const PLAIN: u32 = 0x3FFF_FFFF;
+
+/// The bits of a word that are all 0 if its list is neither two characters nor in a table.
+const HIGH: u32 = 0x3FFF_0000;
 
 /// In place of the word of a character that is passthrough: it is plain, as that of such a character.
 const PASSTHROUGH: u32 = 0xC000_0000;
@@ -108,6 +113,33 @@ impl PendingChar {
         characters.class_of_itself(self.character, self.word_by(characters))
     }
 
+    /// The member of the list of the character, if it is seen to have one. `None` says nothing.
+    #[tactic(auto, unfolding(normalizer_tables::specs::ShortLists::text_of))]
+    #[inline(always)]
+    pub(crate) fn one_member(
+        self,
+        characters: &CharacterData<'_>,
+        ignored: IgnoredCharacters,
+    ) -> Option<char>
+        requires { HasOwnWord characters.now self }
+        ensures { IfSome result (λ member.
+            list_of characters.now (ignored_list ignored) self.character ≡ member ∷ []) }
+    {
+        if self.is_plain() {
+            return Some(self.character);
+        }
+        if self.word & HIGH != 0 {
+            return None;
+        }
+        if is_special_class_form(self.word) {
+            return one_of(&self.members(characters, ignored));
+        }
+        match characters.short_list(self.character, self.word_by(characters)) {
+            Some(ShortList::One(member)) => Some(member),
+            _ => None,
+        }
+    }
+
     /// The list of the character, if it is held in registers. `None` says nothing.
     #[inline(always)]
     pub(crate) fn short_list(self, characters: &CharacterData<'_>) -> Option<ShortList>
@@ -135,6 +167,18 @@ impl PendingChar {
             return Members::one(self.character);
         }
         characters.members_by(self.character, self.word_by(characters), ignored)
+    }
+}
+
+/// The member of a list, if there is one.
+#[inline(always)]
+fn one_of(members: &Members<'_>) -> Option<char>
+    ensures { IfSome result (λ member. members.now ≡ member ∷ []) }
+{
+    if members.len() == 1 {
+        Some(members.at(0))
+    } else {
+        None
     }
 }
 

@@ -190,8 +190,26 @@ pub(crate) fn first_of_list(
         return Ok(list.first());
     }
     let members = read.members(characters, ignored);
+    if let Some(list) = short_of(&members) {
+        hold_short(characters, list, waiting)?;
+        return Ok(list.first());
+    }
     hold_others(characters, &members, waiting)?;
     Ok(members.at(0))
+}
+
+/// The members of a list, if there are one, two or three.
+#[tactic(auto, unfolding(normalizer_tables::specs::ShortLists::text_of))]
+#[inline(always)]
+fn short_of(members: &Members<'_>) -> Option<ShortList>
+    ensures { IfSome result (λ list. members.now ≡ text_of list) }
+{
+    match members.len() {
+        1 => Some(ShortList::One(members.at(0))),
+        2 => Some(ShortList::Two(members.at(0), members.at(1))),
+        3 => Some(ShortList::Three(members.at(0), members.at(1), members.at(2))),
+        _ => None,
+    }
 }
 
 /// A character with its class.

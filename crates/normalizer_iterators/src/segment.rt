@@ -80,7 +80,7 @@ impl SegmentBuffers {
         ensures fits { length (expand (reading_by characters.now ignored []) (decoded_in U.encoding (U.units units)))
             ≤ buffer_limit → IsTrue result }
     {
-        if let Some((first, second)) = two_in_order(characters, units) {
+        if let Some((first, second)) = two_in_order(characters, ignored, units) {
             self.text.clear();
             return self.text.push(first) && self.text.push(second);
         }
@@ -116,10 +116,14 @@ impl SegmentBuffers {
     }
 }
 
-/// Returns two characters in canonical order, if the units decode to two, and each is its own list.
+/// Returns two characters in canonical order, if the units decode to two, and the list of each is seen to have one member.
 #[inline(always)]
-fn two_in_order<U: Units>(characters: &CharacterData<'_>, units: U) -> Option<(char, char)>
-    ensures { IfSome result (λ two. (ignored : IgnoredCharacters) →
+fn two_in_order<U: Units>(
+    characters: &CharacterData<'_>,
+    ignored: IgnoredCharacters,
+    units: U,
+) -> Option<(char, char)>
+    ensures { IfSome result (λ two.
         two.0 ∷ two.1 ∷ [] ≡ nfd (reading_by characters.now ignored []) (decoded_in U.encoding (U.units units))) }
 {
     let len = units.len();
@@ -130,27 +134,42 @@ fn two_in_order<U: Units>(characters: &CharacterData<'_>, units: U) -> Option<(c
     if first.width == len {
         return None;
     }
-    let before = class_of_itself(characters, first)?;
+    let before = only_member(characters, ignored, first)?;
     let second = units.step_at(first.width);
     if len - first.width != second.width {
         return None;
     }
-    let after = class_of_itself(characters, second)?;
-    if 0 < after && after < before {
-        Some((second.character, first.character))
+    let after = only_member(characters, ignored, second)?;
+    if 0 < after.class && after.class < before.class {
+        Some((after.character, before.character))
     } else {
-        Some((first.character, second.character))
+        Some((before.character, after.character))
     }
 }
 
-/// Returns the class of the character of a step, if that is its own list.
+/// Returns the member of the list of the character of a step, if that is seen to have one.
 #[inline(always)]
-fn class_of_itself(characters: &CharacterData<'_>, step: Step) -> Option<u8>
-    ensures itself { (ignored : List ℕ) →
-        IfSome result (λ _. list_of characters.now ignored step.character ≡ step.character ∷ []) }
-    ensures class { IfSome result (λ class. class ≡ class_of characters.now step.character) }
+fn only_member(
+    characters: &CharacterData<'_>,
+    ignored: IgnoredCharacters,
+    step: Step,
+) -> Option<ClassedChar>
+    ensures list { IfSome result (λ member.
+        list_of characters.now (ignored_list ignored) step.character ≡ member.character ∷ []) }
+    ensures class { IfSome result (λ member. member.class ≡ class_of characters.now member.character) }
 {
-    PendingChar::new(characters, 0, step.character).class_of_itself(characters)
+    let read = PendingChar::new(characters, 0, step.character);
+    if let Some(class) = read.class_of_itself(characters) {
+        return Some(ClassedChar {
+            character: step.character,
+            class,
+        });
+    }
+    let character = read.one_member(characters, ignored)?;
+    Some(ClassedChar {
+        character,
+        class: characters.class_of(character),
+    })
 }
 
 /// Composes what the units decode to, if each character is its own list, they are in canonical order, and they fit.

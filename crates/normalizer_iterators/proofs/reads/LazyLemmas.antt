@@ -24,18 +24,6 @@ list-reading_by s ignored pairs c = refl
 
 -- ---- what continues
 
-pub continues-class_form : (f : ℕ → Bool) (d : Reading) (c : ℕ) → f c ≡ true → continues f d c ≡ true
-unfolding continues
-continues-class_form f d c form = ap (λ b. b || is_empty (d.list c)) form
-
-pub continues-empty : (f : ℕ → Bool) (d : Reading) (c : ℕ) → d.list c ≡ [] → continues f d c ≡ true
-unfolding continues
-continues-empty f d c none =
-    elim (cases_Bool (f c)) [
-      | inl form ↦ ap (λ b. b || is_empty (d.list c)) form
-      | inr other ↦ ap (λ b. b || is_empty (d.list c)) other ∙ ap is_empty none
-    ]
-
 is_empty-false : (x : List ℕ) → (x ≡ [] → ⊥) → is_empty x ≡ false
 is_empty-false [] some = absurd (some refl)
 is_empty-false (c ∷ x) some = refl

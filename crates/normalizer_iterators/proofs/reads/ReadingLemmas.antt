@@ -193,12 +193,6 @@ module _ {I : Type 0} (from : Source I) where
           );
     }
 
-    pub ReadsAhead-done : (pending : Option ℕ) (now : I) (w new : WaitingList) → ReadsAhead from f d first delegate waiting pending now w → IfSome pending (λ c. continues f d c ≡ false)
-        → ordered_text new ≡ reordered_text d w [] → unordered_text new ≡ [] → (before : I) → HasRead from.next_gives from.remaining before first delegate → ReadsOn from f d before waiting pending now new
-    ReadsAhead-done pending now w new ahead at_boundary text settled before read =
-        let last = ahead.behind before read in
-        ReadSoFar-done from f d before last.0 now waiting w new pending last.1 last.2.step at_boundary text settled ahead.ready last.2.nearer
-
     pub ReadsAhead-refused : (c : ℕ) (now : I) (w : WaitingList) → ReadsAhead from f d first delegate waiting (Some c) now w → continues f d c ≡ true → buffer_limit < item_count w + length (d.list c)
         → (before : I) → HasRead from.next_gives from.remaining before first delegate → DidNotFit from.next_gives f d before waiting
     ReadsAhead-refused c now w ahead continuing long before read =
@@ -224,14 +218,14 @@ ReadsChunk-from from f d c first members delegate next b new pending is there he
   fewer = r.fewer;
 }
 
--- a character that is its own list is a chunk if a boundary follows it
-pub ReadsChunk-alone : {I : Type 0} (from : Source I) (f : ℕ → Bool) (d : Reading) (c : ℕ) (delegate next : I) (following : Option ℕ)
-    (w : WaitingList) → IsWholeChunk f d c following → HasRead from.next_gives from.remaining delegate following next → IsReadyAfter from.can_next from.remaining following next → ordered_text w ≡ [] → unordered_text w ≡ []
-    → ReadsChunk from f d c delegate c following next w
+-- the one member of a list is a chunk if a boundary follows the character
+pub ReadsChunk-alone : {I : Type 0} (from : Source I) (f : ℕ → Bool) (d : Reading) (c member : ℕ) (delegate next : I) (following : Option ℕ)
+    (w : WaitingList) → IsWholeChunk f d c member following → HasRead from.next_gives from.remaining delegate following next → IsReadyAfter from.can_next from.remaining following next → ordered_text w ≡ [] → unordered_text w ≡ []
+    → ReadsChunk from f d c delegate member following next w
 unfolding expand
-ReadsChunk-alone from f d c delegate next following w alone read ready front open_marks = record {
+ReadsChunk-alone from f d c member delegate next following w alone read ready front open_marks = record {
   others = [];
-  members = alone.own;
+  members = alone.list;
   read = [];
   run = (delegate, refl, read.step);
   continuing = All-nil (λ b. continues f d b ≡ true);

@@ -74,9 +74,10 @@ pub record ReadsChunk {I : Type 0} (from : Source I)
   pub fewer : MatchOption pending (length read ≤ size (from.remaining delegate))
       (λ _. size (from.remaining delegate_after) + length read < size (from.remaining delegate))
 
--- a character is its own list, and what was read after it does not continue it
-pub record IsWholeChunk (has_class_form : ℕ → Bool) (d : Reading) (character : ℕ) (following : Option ℕ) : Type 0 where
-  pub own : d.list character ≡ character ∷ []
+-- the list of a character has this one member, and what was read after it does not continue it
+pub record IsWholeChunk (has_class_form : ℕ → Bool) (d : Reading) (character member : ℕ) (following : Option ℕ)
+    : Type 0 where
+  pub list : d.list character ≡ member ∷ []
   pub at_boundary : IfSome following (λ c. continues has_class_form d c ≡ false)
 
 -- the others and the lists of the characters that continue did not fit

@@ -8,16 +8,16 @@ use Rattle.normalizer_iterators.proofs.items.DecompositionLemmas.{at_some, nothi
 use Rattle.normalizer_iterators.proofs.reads.ReadingLemmas.{ReadsChunk-alone}
 use Rattle.normalizer_iterators.proofs.decomposition.Decomposition.next_chunk.Goals as goal
 
-pub returns-then-is_whole_chunk-clause-ok : goal.returns-then-is_whole_chunk-clause-ok
-returns-then-is_whole_chunk-clause-ok g c = λ before read.
+pub returns-in-Some-clause-ok : goal.returns-in-Some-clause-ok
+returns-in-Some-clause-ok g c = λ before read.
     let s = c.args.self.now in
-    ReadsChunk-alone g.I.Iterator (has_class_form s.characters) (reading_by s.characters s.ignored []) c.args.read.character before
-    s.delegate (character_of c.args.following) s.waiting (c.is_whole_chunk.ensures c.if-is_whole_chunk.true) read c.requires.ready c.requires.empty s.settled
+    ReadsChunk-alone g.I.Iterator (has_class_form s.characters) (reading_by s.characters s.ignored []) c.args.read.character _ before
+    s.delegate (character_of c.args.following) s.waiting c.in-Some.ensures read c.requires.ready c.requires.empty s.settled
 
 pub invariant_of-self : goal.invariant_of-self
 invariant_of-self g c =
     let s = c.args.self.now in
-    let alone = c.is_whole_chunk.ensures c.if-is_whole_chunk.true in
+    let alone = c.in-Some.ensures in
     record {
       suits = s.suits;
       at_boundary = at_some (character_of c.args.following) (λ b. continues (has_class_form s.characters) (reading_by s.characters s.ignored []) b ≡ false) alone.at_boundary;
