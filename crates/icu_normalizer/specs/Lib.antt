@@ -22,6 +22,7 @@ pub mod Serving
 pub mod Shapers
 pub mod StepData
 pub mod StepMeaning
+pub mod Utf32
 pub mod Uts46
 pub mod Writing
 pub mod inner

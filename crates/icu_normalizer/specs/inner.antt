@@ -5,5 +5,4 @@ pub mod Offences
 pub mod PassingClasses
 pub mod WriteUnlessOwn
 pub mod PassthroughRuns
-pub mod Utf32
 pub mod WrittenParts

@@ -91,3 +91,4 @@ pub use normalizer_tables::{
 };
 pub use normalizer_text::{Chars, Offence, Step, Units, Utf8Chars, Utf16Chars, sink};
 pub use parts::{forms_of_parts, has_no_line_feed};
+pub use utf32::Utf32Chars;

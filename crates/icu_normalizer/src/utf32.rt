@@ -1,4 +1,4 @@
-//! Whether text in UTF-32 is normalized: text whose units are its characters.
+//! Text in UTF-32, whose units are its characters: its characters, and whether it is normalized.
 ghost use Rattle.std.specs.Prelude.{◌≡◌, ◌↔◌, ℕ, List, All, length, IfOk, IsOk, IsOkUnless, IsTrue};
 ghost use Rattle.std.specs.Char.{IsScalar};
 ghost use Rattle.std.specs.Iterator.{at_most, IsFinite};
@@ -8,16 +8,17 @@ ghost use Rattle.normal_forms.specs.Forms.{IsNormalized};
 ghost use Rattle.normalizer_text.specs.DecodingSteps.{Spells};
 ghost use Rattle.normalizer_iterators.specs.Items.{SpellsOk, SpellsUnless};
 ghost use Rattle.icu_normalizer.specs.Checks.{ChecksUtf32};
-ghost use Rattle.icu_normalizer.specs.inner.Utf32.{TakesUnit};
+ghost use Rattle.icu_normalizer.specs.Utf32.{decoded_utf32, TakesUnit};
 
 use crate::borrowed::NormalizerBorrowed;
 use crate::forming::Forming;
 use normalizer_iterators::NormalizeError;
 use std::marker::Model;
 
-/// An iterator over the characters that units of UTF-32 are.
+/// An iterator over the characters that units decode to, as UTF-32. A unit that isn't a Unicode scalar value reads as
+/// U+FFFD. It takes no memory.
 #[derive(Drop)]
-pub(crate) struct Utf32Chars<'a> {
+pub struct Utf32Chars<'a> {
     units: &'a [u32],
 }
 
@@ -25,15 +26,13 @@ impl<'a> Model for Utf32Chars<'a> {
     ghost Value = { List ℕ };
 
     ghost view = { λ it. it.units.now };
-
-    ghost invariant = { λ it. All IsScalar it.units.now };
 }
 
 impl<'a> Utf32Chars<'a> {
-    /// Makes an iterator over the characters that the units are.
-    pub(crate) fn new(units: &'a [u32]) -> Utf32Chars<'a>
-        requires { All IsScalar units.now }
-        ensures { Spells TakesUnit result units.now }
+    /// Makes an iterator over the characters that `units` decode to.
+    pub fn new(units: &'a [u32]) -> Utf32Chars<'a>
+        ensures left { result ≡ units.now }
+        ensures spells { Spells TakesUnit result (decoded_utf32 units.now) }
     {
         Utf32Chars { units }
     }
@@ -46,11 +45,11 @@ impl<'a> Iterator for Utf32Chars<'a> {
 
     ghost remaining = { λ units. at_most (length units) };
 
+    #[inline(always)]
     fn next(&mut self) -> Option<char> {
         let (first, rest) = self.units.split_first()?;
-        let character = char::from_u32(*first)?;
         self.units = rest;
-        Some(character)
+        Some(char::from_u32(*first).unwrap_or(char::REPLACEMENT_CHARACTER))
     }
 }
 

@@ -1,5 +1,6 @@
 use Rattle.std.proofs.Common.{◌≡◌, ◌==◌, ◌∷◌, length, Err, rules, sym, ap, ◌∙◌, arith}
-use Rattle.icu_normalizer.proofs.results.Utf32Lemmas.{SameSoFar-all, SameSoFar-fault, SameSoFar-left, SameSoFar-more, SameSoFar-none, SameSoFar-other, SameSoFar-room, no_elements}
+use Rattle.icu_normalizer.proofs.results.ItemsSoFar.{CameSoFar-fault, CameSoFar-room}
+use Rattle.icu_normalizer.proofs.results.Utf32Lemmas.{SameSoFar-all, SameSoFar-left, SameSoFar-more, SameSoFar-none, SameSoFar-other, no_elements}
 use Rattle.icu_normalizer.proofs.utf32.yields.Goals as goal
 
 pub loop-item-init : goal.loop-item-init
@@ -12,11 +13,11 @@ loop-item-init g c = record {
 pub returns-in_err-character-clause-same : goal.returns-in_err-character-clause-same
 returns-in_err-character-clause-same g c = λ x h.
     let is : c.from_residual.result ≡ Err c.in_err-character.field-0.0 = search rules in
-    rw is (tt, SameSoFar-fault c.loop-item.invariant.same _ (rw c.in_err-character.was at c.in-Some.ensures.steps) x h)
+    rw is (tt, CameSoFar-fault c.loop-item.invariant.same.came _ (rw c.in_err-character.was at c.in-Some.ensures.steps) x h)
 
 pub returns-in_err-character-clause-room : goal.returns-in_err-character-clause-room
 returns-in_err-character-clause-room g c = λ x h.
-    absurd (SameSoFar-room c.loop-item.invariant.same _ (rw c.in_err-character.was at c.in-Some.ensures.steps) x h)
+    absurd (CameSoFar-room c.loop-item.invariant.same.came _ (rw c.in_err-character.was at c.in-Some.ensures.steps) x h)
 
 pub returns-in_default-clause-same : goal.returns-in_default-clause-same
 returns-in_default-clause-same g c = λ x h. (
