@@ -26,7 +26,7 @@ use crate::boundaries::is_taken_as_boundary;
 use crate::composing_form::ComposingForm;
 use crate::decomposing_form::DecomposingForm;
 use crate::kept::{
-    SeenSegment, Unseen, composed_list, composed_list_of_two, has_no_second, seen_segment,
+    SeenSegment, Unseen, composed_list, composed_list_in_table, has_no_second, seen_segment,
 };
 use crate::passing_classes::UNKNOWN;
 use crate::utf32::{Utf32Chars, yields};
@@ -403,7 +403,7 @@ impl<'a> Forming for ComposingForm<'a> {
         let word = self.characters.word_of(character);
         match self.characters.short_list(character, word) {
             Some(list) => composed_list(self, list),
-            None => composed_list_of_two(self, character, word),
+            None => composed_list_in_table(self, character, word),
         }
     }
 

@@ -384,9 +384,9 @@ pub(crate) fn composed_list(form: &ComposingForm<'_>, list: ShortList) -> Option
     }
 }
 
-/// Returns what the list of a character composes to, if the word says that it may have two members in a table, and it
-/// has.
-pub(crate) fn composed_list_of_two(
+/// Returns what the list of a character composes to, if the word says that it may have two or four members in a table,
+/// and it has, and what they compose to is known.
+pub(crate) fn composed_list_in_table(
     form: &ComposingForm<'_>,
     character: char,
     word: u32,
@@ -395,22 +395,51 @@ pub(crate) fn composed_list_of_two(
     ensures { IfSome result (λ made. compose (reading_by form.now.characters Dropped form.now.pairs.now)
         (list_of form.now.characters [] character) ≡ text_of made) }
 {
-    if !may_have_two_members(word) {
+    if !may_have_two_or_four_members(word) {
         return None;
     }
     let members = form
         .characters
         .members_by(character, word, IgnoredCharacters::Dropped);
-    if members.len() != 2 {
-        return None;
+    match members.len() {
+        2 => composed_two(form, members.at(0), members.at(1)),
+        4 => composed_middle(
+            form,
+            members.at(0),
+            members.at(1),
+            members.at(2),
+            members.at(3),
+        ),
+        _ => None,
     }
-    composed_two(form, members.at(0), members.at(1))
 }
 
-/// Returns whether a list in a table may have two members, by the word.
+/// Returns whether a list in a table may have two or four members, by the word.
 #[inline(always)]
-fn may_have_two_members(word: u32) -> bool {
-    word & LENGTH_BITS == 0
+fn may_have_two_or_four_members(word: u32) -> bool {
+    matches!(word & LENGTH_BITS, 0 | 2)
+}
+
+/// Returns what four characters compose to, if only the two in the middle do, as a syllable in parentheses.
+#[tactic(auto, unfolding(normalizer_tables::specs::ShortLists::text_of))]
+fn composed_middle(
+    form: &ComposingForm<'_>,
+    first: char,
+    second: char,
+    third: char,
+    fourth: char,
+) -> Option<ShortList>
+    ensures { IfSome result (λ made. compose (reading_by form.now.characters Dropped form.now.pairs.now)
+        (first ∷ second ∷ third ∷ fourth ∷ []) ≡ text_of made) }
+{
+    if may_be_second(form.pairs, second) || may_be_second(form.pairs, fourth) {
+        return None;
+    }
+    if form.characters.class_of(second) != 0 {
+        return None;
+    }
+    let composite = compose(form.pairs, second, third)?;
+    Some(ShortList::Three(first, composite, fourth))
 }
 
 /// Returns what two characters compose to, unless they compose and the first is no starter.

@@ -1,6 +1,6 @@
 -- Lists in which nothing composes: no member after the first is the second of a pair.
-use Rattle.std.proofs.Common.{◌≡◌, ℕ, zero, suc, List, [], ◌∷◌, ◌++◌, None, Some, false, refl, sym, subst, ap, ◌∙◌, append-nil, append_assoc, slice_get}
-use Rattle.std.proofs.lemmas.Bool.{cond-true, cond_both}
+use Rattle.std.proofs.Common.{◌≡◌, ℕ, zero, suc, arith, length, List, [], ◌∷◌, ◌++◌, None, Some, false, refl, sym, subst, ap, ◌∙◌, append-nil, append_assoc, slice_get}
+use Rattle.std.proofs.lemmas.Bool.{and_right, cond-false, cond-true, cond_both, not_from_true, or_left}
 use Rattle.normal_forms.proofs.composing.ComposeLemmas.{is_starter-true}
 use Rattle.std.specs.Prelude.{◌&&◌, not}
 use Rattle.std.specs.Char.{IsScalar}
@@ -77,6 +77,36 @@ module _ (d : Reading) (first second : ℕ) where
   pub compose-no_two : d.pair first second ≡ None → compose d (first ∷ second ∷ []) ≡ first ∷ second ∷ []
   unfolding compose compose_from visit
   compose-no_two none = rw (joined-none d first [] second none, visit) refl
+
+-- four do in the middle, if the second is a starter that joins nothing, and the fourth joins nothing
+module _ (d : Reading) (first second third composite : ℕ) (starter : IsStarter d second) (pair : d.pair second third ≡ Some composite) where
+  visit-second : visit d (first ∷ second ∷ []) third ≡ first ∷ composite ∷ []
+  unfolding visit joined is_blocked
+  visit-second =
+      let is = is_starter-true d second starter in
+      let blocked : joined d first (second ∷ []) third ≡ None =
+      cond-false (is_starter d first && not (is_blocked d (second ∷ []) third)) (d.pair first third) None
+      (and_right (is_starter d first) _ (not_from_true _ (or_left _ _ (or_left _ _ is)))) in
+      let joins : joined d second [] third ≡ Some composite = cond-true (is_starter d second && not (is_blocked d [] third)) (d.pair second third) None (ap (λ b. b && not (is_blocked d [] third)) is) ∙ pair in
+      rw (blocked, visit) (rw (joins, visit) refl)
+
+  pub compose-middle : (fourth : ℕ) → ((a : ℕ) → d.pair a second ≡ None) → ((a : ℕ) → d.pair a fourth ≡ None)
+      → compose d (first ∷ second ∷ third ∷ fourth ∷ []) ≡ first ∷ composite ∷ fourth ∷ []
+  unfolding compose compose_from visit
+  compose-middle fourth second_none fourth_none =
+      ap (λ l. visit d (visit d l third) fourth) (visit-none d second second_none (first ∷ []))
+      ∙ ap (λ l. visit d l fourth) visit-second
+      ∙ visit-none d fourth fourth_none (first ∷ composite ∷ [])
+
+-- a list of four, by its members
+pub four : (x : List ℕ) (a b c e : ℕ) → length x ≡ 4 → slice_get x 0 ≡ Some a → slice_get x 1 ≡ Some b → slice_get x 2 ≡ Some c → slice_get x 3 ≡ Some e
+    → x ≡ a ∷ b ∷ c ∷ e ∷ []
+four [] a b c e len first second third fourth = absurd (omega (arith, len))
+four (p ∷ []) a b c e len first second third fourth = absurd (omega (arith, len))
+four (p ∷ q ∷ []) a b c e len first second third fourth = absurd (omega (arith, len))
+four (p ∷ q ∷ r ∷ []) a b c e len first second third fourth = absurd (omega (arith, len))
+four (p ∷ q ∷ r ∷ s ∷ []) a b c e len first second third fourth = cc
+four (p ∷ q ∷ r ∷ s ∷ t ∷ x) a b c e len first second third fourth = absurd (omega (arith, len))
 
 -- a character whose list is such a one becomes that list
 pub form_of_apart : (s : Characters) (b : Bounds) (pairs : List Pair) → ServesComposing s b pairs → (c : ℕ) → IsScalar c → HasNoSecond pairs (list_of s [] c)

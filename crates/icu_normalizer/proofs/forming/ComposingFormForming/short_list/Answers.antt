@@ -15,5 +15,5 @@ returns-in-Some c =
 
 pub returns-in-None : goal.returns-in-None
 returns-in-None c =
-    subst (λ x. IfSome c.composed_list_of_two.result (λ list. x ≡ text_of list))
-    (sym (form_of_list _ _ _ c.args.self.now.serves c.args.character c.ranges.character.0)) c.composed_list_of_two.ensures
+    subst (λ x. IfSome c.composed_list_in_table.result (λ list. x ≡ text_of list))
+    (sym (form_of_list _ _ _ c.args.self.now.serves c.args.character c.ranges.character.0)) c.composed_list_in_table.ensures
