@@ -1,4 +1,4 @@
-//! What is seen to change: then a text isn't normalized, and needs not be written to tell.
+//! Texts that are seen to change, so that a check of them writes nothing.
 ghost use Rattle.std.specs.Prelude.{◌<◌, ◌∷◌, [], IfSome, IsTrue};
 ghost use Rattle.normalizer_text.specs.InputCut.{IsInputNormalized};
 ghost use Rattle.normal_forms.specs.Forms.{IsNormalized};
@@ -39,7 +39,7 @@ pub(crate) fn has_unordered_marks<U: Units, N: Forming>(normalizer: &N, units: U
 }
 
 /// Whether a character becomes others by itself. If so, no text that has it is normalized.
-fn changes_alone<N: Forming>(normalizer: &N, character: char) -> bool
+pub(crate) fn changes_alone<N: Forming>(normalizer: &N, character: char) -> bool
     ensures { let m = N.made_form normalizer.now in
         IsTrue result → ¬ IsNormalized m.reading m.form (character ∷ []) }
 {

@@ -13,7 +13,7 @@ use crate::borrowed::NormalizerBorrowed;
 use crate::changing::{changes_first, has_unordered_marks};
 use crate::forming::Forming;
 use crate::offence::{cut_after, offence_of};
-use crate::runs::{Passed, kept_from, passthrough_end};
+use crate::runs::{Passed, SHORT, is_own_if_seen, kept_from, passthrough_end};
 use normalizer_iterators::NormalizeError;
 use normalizer_text::Offence;
 use normalizer_text::check_sink::Expected;
@@ -22,6 +22,12 @@ use normalizer_text::check_sink::Expected;
 fn is_own_form<U: Expected, N: Forming>(normalizer: &N, units: U) -> Result<bool, NormalizeError>
     ensures { ChecksForm (N.made_form normalizer.now) U.encoding (U.units units) result }
 {
+    // In a decomposing form most characters that don't pass change by themselves.
+    if !normalizer.holds_back() && units.len() <= SHORT {
+        if let Some(own) = is_own_if_seen(normalizer, units) {
+            return Ok(own);
+        }
+    }
     let passed = passthrough_end(normalizer, units, false);
     if passed.end == units.len() {
         return Ok(true);

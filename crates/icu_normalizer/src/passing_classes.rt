@@ -1,4 +1,4 @@
-//! The classes with which characters pass, a byte each: one load says what words and pairs say together.
+//! The classes with which characters pass, a byte each: two loads say what words and pairs say together.
 ghost use Rattle.std.specs.Prelude.{◌≡◌, ◌+◌, ◌*◌, ◌<◌, ℕ, true, length, take, IfOk, IsTrue, Option};
 ghost use Rattle.normalizer_sets.specs.CharacterSets.{has};
 ghost use Rattle.icu_normalizer.specs.inner.PassingClasses.{AreOfBlock, IsKnown, IsPut, Say};

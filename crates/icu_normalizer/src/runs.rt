@@ -1,11 +1,13 @@
 //! The ends of runs of characters that are passed on as they are, and of the segments between them.
 ghost use Rattle.std.specs.Prelude.{◌≡◌, ◌≢◌, ◌+◌, ◌^◌, ◌<◌, drop, length};
-ghost use Rattle.std.specs.Prelude.{IfSome, MatchOption, MatchResult, None, Some};
+ghost use Rattle.std.specs.Prelude.{◌↔◌, IfSome, IsTrue, MatchOption, MatchResult, None, Some};
 ghost use Rattle.normalizer_text.specs.Encodings.{first_in};
 ghost use Rattle.normalizer_text.specs.DecodingSteps.{IsBoundary};
+ghost use Rattle.normalizer_text.specs.InputCut.{IsInputNormalized};
 ghost use Rattle.icu_normalizer.specs.inner.PassthroughRuns.{next_class, IsBeforeLast, IsComposite, IsKeptTo, IsPassedFront};
 ghost use Rattle.icu_normalizer.specs.inner.PassthroughRuns.{GoesOn, IsRun, IsRunEnd, IsRunSoFar, IsSegmentEnd};
 
+use crate::changing::changes_alone;
 use crate::forming::Forming;
 use crate::kept::Unseen;
 use normalizer_text::{Chars, Step, Units};
@@ -128,7 +130,7 @@ const NEAR: u8 = 28;
 const UNKNOWN: u8 = 32;
 
 /// Up to so many units are a short text: what comes after its first mark is looked at one by one.
-const SHORT: usize = 40;
+pub(crate) const SHORT: usize = 40;
 
 /// Returns the sum of the counts of units between marks, each 7/8 of the one after it, after one more count.
 #[inline(always)]
@@ -586,6 +588,25 @@ fn short_passthrough_end<U: Units, N: Forming>(normalizer: &N, units: U) -> Pass
         };
     }
     passthrough_end_after(normalizer, units, run.marks, run.end, run.last)
+}
+
+/// Returns whether a text is well-formed and normalized, if that is seen: it passes, or the character that ends what
+/// passes changes by itself. The text is looked at as a short one.
+#[inline(never)]
+pub(crate) fn is_own_if_seen<U: Units, N: Forming>(normalizer: &N, units: U) -> Option<bool>
+    ensures { let m = N.made_form normalizer.now in IfSome result (λ own.
+        IsTrue own ↔ IsInputNormalized U.encoding m.reading m.form (U.units units)) }
+{
+    normalizer.passthrough_is_normalized_apart();
+    let run = with_few(normalizer, units, first_few(normalizer, units));
+    if run.end == units.len() {
+        return Some(true);
+    }
+    let step = units.step_at(run.end);
+    if changes_alone(normalizer, step.character) {
+        return Some(false);
+    }
+    None
 }
 
 /// Returns the same end, if a part of the run is known. It isn't inlined, so that the loop over what is seen to pass has
