@@ -18,6 +18,8 @@ icu_normalizer_status icu_normalizer_normalize_utf8_nonnull(icu_normalizer *norm
     const uint8_t *input, size_t input_length, uint8_t *output, size_t output_length, size_t *needed);
 icu_normalizer_status icu_normalizer_normalize_utf16_nonnull(icu_normalizer *normalizer, icu_normalizer_form form,
     const uint16_t *input, size_t input_length, uint16_t *output, size_t output_length, size_t *needed);
+icu_normalizer_status icu_normalizer_normalize_utf32_nonnull(icu_normalizer *normalizer, icu_normalizer_form form,
+    const uint32_t *input, size_t input_length, uint32_t *output, size_t output_length, size_t *needed);
 icu_normalizer_status icu_normalizer_is_normalized_utf8_nonnull(icu_normalizer *normalizer, icu_normalizer_form form,
     const uint8_t *input, size_t input_length, bool *is_normalized);
 icu_normalizer_status icu_normalizer_is_normalized_utf16_nonnull(icu_normalizer *normalizer, icu_normalizer_form form,
@@ -96,6 +98,12 @@ icu_normalizer_status icu_normalizer_normalize_utf8(icu_normalizer *normalizer, 
 icu_normalizer_status icu_normalizer_normalize_utf16(icu_normalizer *normalizer, icu_normalizer_form form,
     const uint16_t *input, size_t input_length, uint16_t *output, size_t output_length, size_t *needed) {
     return icu_normalizer_normalize_utf16_nonnull(normalizer, form, SOME(input, input_length), input_length,
+        SOME(output, output_length), output_length, needed);
+}
+
+icu_normalizer_status icu_normalizer_normalize_utf32(icu_normalizer *normalizer, icu_normalizer_form form,
+    const uint32_t *input, size_t input_length, uint32_t *output, size_t output_length, size_t *needed) {
+    return icu_normalizer_normalize_utf32_nonnull(normalizer, form, SOME(input, input_length), input_length,
         SOME(output, output_length), output_length, needed);
 }
 

@@ -280,7 +280,7 @@ icu_normalizer_status icu_normalizer_open_prepared(icu_normalizer *normalizer,
    Nothing is allocated, unless more than 17 characters are buffered at a time, as in a longer run of marks.
 
    With Unicode's own data a form in UTF-8 has at most 3 times the bytes of the input for NFC and NFD, and 11 times for
-   NFKC and NFKD; in UTF-16 3 times the units for NFC, 4 times for NFD and 18 times for NFKC and NFKD. */
+   NFKC and NFKD; in UTF-16 and UTF-32 3 times the units for NFC, 4 times for NFD and 18 times for NFKC and NFKD. */
 
 /* Writes the form of `input` to `output`, as it is made. Each maximal ill-formed subpart of UTF-8, and each unpaired
    surrogate of UTF-16, reads as U+FFFD. `*needed` is how many units the form has: on success, and on BUFFER_TOO_SMALL.
@@ -291,15 +291,20 @@ icu_normalizer_status icu_normalizer_normalize_utf8(icu_normalizer *normalizer, 
 icu_normalizer_status icu_normalizer_normalize_utf16(icu_normalizer *normalizer, icu_normalizer_form form,
     const uint16_t *input, size_t input_length, uint16_t *output, size_t output_length, size_t *needed);
 
+/* The same for UTF-32, in which each unit is one character: for char32_t, for wchar_t if it has 32 bits, and for
+   strings of Python. A unit that isn't a Unicode scalar value, such as a surrogate, reads as U+FFFD. It is meant for
+   short texts: a long one takes less time in UTF-8 or UTF-16. */
+icu_normalizer_status icu_normalizer_normalize_utf32(icu_normalizer *normalizer, icu_normalizer_form form,
+    const uint32_t *input, size_t input_length, uint32_t *output, size_t output_length, size_t *needed);
+
 /* Sets `*is_normalized` to whether `input` is well-formed and already normalized. */
 icu_normalizer_status icu_normalizer_is_normalized_utf8(icu_normalizer *normalizer,
     icu_normalizer_form form, const uint8_t *input, size_t input_length, bool *is_normalized);
 icu_normalizer_status icu_normalizer_is_normalized_utf16(icu_normalizer *normalizer,
     icu_normalizer_form form, const uint16_t *input, size_t input_length, bool *is_normalized);
 
-/* The same for UTF-32, in which each unit is one character: for char32_t, for wchar_t if it has 32 bits, and for
-   strings of Python. If a unit is no Unicode scalar value, as a surrogate is none, the result is false. There are no
-   other calls for UTF-32: convert the text. */
+/* The same for UTF-32. If a unit isn't a Unicode scalar value, the result is false. There are no other calls for
+   UTF-32: convert the text. */
 icu_normalizer_status icu_normalizer_is_normalized_utf32(icu_normalizer *normalizer,
     icu_normalizer_form form, const uint32_t *input, size_t input_length, bool *is_normalized);
 

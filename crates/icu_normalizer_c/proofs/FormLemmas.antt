@@ -1,18 +1,20 @@
 -- From what a sink over a buffer took to what the buffer has.
-use Rattle.std.proofs.Common.{◌≡◌, ℕ, ◌<◌, ◌≤◌, List, [], ◌++◌, length, take, drop, Result, Ok, Err, refl, sym, ap, ◌∙◌}
+use Rattle.std.proofs.Common.{◌≡◌, ℕ, ◌<◌, ◌≤◌, ◌-◌, ◌^◌, List, [], ◌++◌, length, take, drop, Result, Ok, Err, refl, sym, ap, ◌∙◌}
 use Rattle.std.proofs.Common.{arith, inl, inr}
-use Rattle.std.specs.Prelude.{⊤}
+use Rattle.std.specs.Prelude.{⊤, min, Option, None, Some}
 use mathlib.Core.Bool.{false≢true}
 use Rattle.std.proofs.lemmas.List.{take-append-le}
 use Rattle.std.proofs.Math.Seq.{take-length}
 use Rattle.std.proofs.lemmas.List.{append-nil, length-append, length-drop}
 use Rattle.icu_normalizer.specs.Encodings.{Encoding, encoded_in, decoded_in}
 use Rattle.icu_normalizer.specs.EncodedForm.{encoded_form}
+use Rattle.icu_normalizer.specs.Items.{SpellsOk, SpellsUnless}
 use Rattle.icu_normalizer.specs.Sinks.{TakesNothing}
 use Rattle.icu_normalizer.proofs.EncodingLemmas.{encoded_in-append}
+use Rattle.icu_normalizer.proofs.results.ItemsSoFar.{CameSoFar, CameSoFar-end, CameSoFar-fault, CameSoFar-room}
 use Rattle.icu_normalizer.specs.NormalizeError.{NormalizeError}
 use Rattle.icu_normalizer.specs.NormalizeError.TheVariants as error
-use Rattle.icu_normalizer.specs.Forms.{MadeForm}
+use Rattle.icu_normalizer.specs.Forms.{MadeForm, HasShortUnits}
 use Rattle.icu_normalizer.specs.Writing.{WritesForm as WritesFormTo}
 use Rattle.icu_normalizer_c.specs.declared.sink.Buffer.{Buffer}
 use Rattle.icu_normalizer_c.specs.Taken.{taken_by, count_of}
@@ -20,55 +22,112 @@ use Rattle.icu_normalizer_c.specs.Overwriting.{overwritten}
 use Rattle.icu_normalizer_c.proofs.BufferLemmas.{taken-reference, taken-overwrites, taken-count}
 use Rattle.normalizer_handles.specs.declared.fault.Fault.{Fault}
 use Rattle.normalizer_handles.specs.declared.fault.Fault.TheVariants as fault
-use Rattle.icu_normalizer_c.specs.Buffers.{HasBeginning, ReportsCount}
-use Rattle.icu_normalizer_c.specs.Calls.{NeedsNoMemory, Overwrites, WritesForm}
+use Rattle.icu_normalizer_c.specs.Buffers.{HasBeginning, LeavesBeginning, Overwrites, ReportsCount, Writes}
 
-module _ (m : MadeForm) (e : Encoding) (input before after : List ℕ) where
-  abbrev form : List ℕ
-  form = encoded_form e m.reading m.form input
+-- units overwrote the buffer, all of them or a beginning, or nothing was written
+module _ (units : List ℕ) (Short : Type 0) (before after : List ℕ) where
+  overwrites-all : (n : ℕ) → after ≡ overwritten before units → n ≡ min (length units) (2 ^ 64 - 1)
+      → Overwrites units Short before after (Ok n)
+  overwrites-all n is counts = record { form = is; count = counts; begun = tt; room = λ short. refl; refused = tt }
 
-  -- a sink over a buffer took the form, or a beginning of it
-  module _ (old new : Buffer ℕ) (had : old.history.units ≡ before) (room : length old.units.now ≡ length before)
-      (ends : new.units.ghost_name ≡ old.units.ghost_name → after ≡ new.units.now) where
+  overwrites-beginning : (front rest : List ℕ) (wrong : NormalizeError) → units ≡ front ++ rest
+      → after ≡ overwritten before front → (Short → ⊥) → wrong ≡ error.Memory
+      → Overwrites units Short before after (Err wrong)
+  overwrites-beginning front rest wrong parts is none memory = record {
+    form = tt;
+    count = tt;
+    begun = (front, rest, parts, is);
+    room = λ short. absurd (none short);
+    refused = memory;
+  }
+
+  pub overwrites-nothing : (wrong : NormalizeError) → after ≡ before → (Short → ⊥) → wrong ≡ error.Memory
+      → Overwrites units Short before after (Err wrong)
+  overwrites-nothing wrong same none memory =
+      overwrites-beginning [] units wrong refl (same ∙ sym (take-length before)) none memory
+
+  -- less is enough
+  pub Overwrites-if : (Suffices : Type 0) (result : Result ℕ NormalizeError) → (Short → Suffices)
+      → Overwrites units Suffices before after result → Overwrites units Short before after result
+  Overwrites-if Suffices result suffices w = record {
+    form = w.form;
+    count = w.count;
+    begun = w.begun;
+    room = λ short. w.room (suffices short);
+    refused = w.refused;
+  }
+
+-- a sink over a buffer took units
+module _ (before after : List ℕ) (old new : Buffer ℕ) (had : old.history.units ≡ before)
+    (room : length old.units.now ≡ length before)
+    (ends : new.units.ghost_name ≡ old.units.ghost_name → after ≡ new.units.now) where
+  abbrev Took : List ℕ → Type 0
+  Took front = taken_by new ≡ taken_by old ++ front
+
+  after-taken : (front : List ℕ) → Took front → after ≡ overwritten before front
+  after-taken front took =
+      ends (taken-reference old new before front took had room) ∙ taken-overwrites old new before front took had room
+
+  pub overwrites-taken : (units : List ℕ) (Short : Type 0) (n : ℕ) → Took units → n ≡ count_of new
+      → Overwrites units Short before after (Ok n)
+  overwrites-taken units Short n took is =
+      overwrites-all units Short before after n (after-taken units took) (is ∙ taken-count old new before units took had room)
+
+  pub overwrites-begun : (units : List ℕ) (Short : Type 0) (front rest : List ℕ) (wrong : NormalizeError) → Took front
+      → units ≡ front ++ rest → (Short → ⊥) → wrong ≡ error.Memory → Overwrites units Short before after (Err wrong)
+  overwrites-begun units Short front rest wrong took parts none memory =
+      overwrites-beginning units Short before after front rest wrong parts (after-taken front took) none memory
+
+  -- a form, or a beginning of it
+  module _ (m : MadeForm) (e : Encoding) (input : List ℕ) where
+    abbrev form : List ℕ
+    form = encoded_form e m.reading m.form input
+
+    abbrev Short : Type 0
+    Short = HasShortUnits m e input
+
     pub overwrites-ok : (done : ⊤) (n : ℕ)
         → WritesFormTo e taken_by (λ s t. ⊥) (TakesNothing taken_by) m (decoded_in e input) old (Ok done) new
-        → n ≡ count_of new → Overwrites m e input before after (Ok n)
-    overwrites-ok done n w is = record {
-      form = ends (taken-reference old new before form w.written had room)
-          ∙ taken-overwrites old new before form w.written had room;
-      count = is ∙ taken-count old new before form w.written had room;
-      begun = tt;
-      room = λ short. refl;
-      refused = tt;
-    }
+        → n ≡ count_of new → Overwrites form Short before after (Ok n)
+    overwrites-ok done n w is = overwrites-taken form Short n w.written is
 
     overwrites-err : (wrong : NormalizeError)
         → WritesFormTo e taken_by (λ s t. ⊥) (TakesNothing taken_by) m (decoded_in e input) old (Err wrong) new
-        → Overwrites m e input before after (Err wrong)
+        → Overwrites form Short before after (Err wrong)
     overwrites-err error.Sink w = absurd (w.fault refl)
     overwrites-err error.Memory w =
         let b = w.begun (λ s t left. left) in
-        let y = encoded_in e b.front in
-        let parts : form ≡ y ++ encoded_in e b.rest = ap (encoded_in e) b.parts ∙ encoded_in-append e b.front b.rest in
-        let is : after ≡ overwritten before y =
-        ends (taken-reference old new before y b.took had room) ∙ taken-overwrites old new before y b.took had room in
-        record {
-          form = tt;
-          count = tt;
-          begun = (y, encoded_in e b.rest, parts, is);
-          room = λ short. absurd (w.room short refl);
-          refused = refl;
-        }
+        overwrites-begun form Short (encoded_in e b.front) (encoded_in e b.rest) error.Memory b.took
+        (ap (encoded_in e) b.parts ∙ encoded_in-append e b.front b.rest) (λ short. w.room short refl) refl
 
     -- the same, if this was returned and passed on
     pub overwrites-fault : (wrong : NormalizeError) (took : Result ⊤ NormalizeError) → took ≡ Err wrong
         → WritesFormTo e taken_by (λ s t. ⊥) (TakesNothing taken_by) m (decoded_in e input) old took new
-        → (result : Result ℕ NormalizeError) → result ≡ Err wrong → Overwrites m e input before after result
+        → (result : Result ℕ NormalizeError) → result ≡ Err wrong → Overwrites form Short before after result
     overwrites-fault wrong took is w result same = rw same (overwrites-err wrong (rw is at w))
 
+  -- the characters that an iterator yields, or a beginning of them
+  module _ {I : Type 0} {gives : I → Option (Result ℕ NormalizeError) → I → Type 0} {start items next : I}
+      (front : List ℕ) (took : Took front) (came : CameSoFar gives start front items) where
+    pub overwrites-items : (n : ℕ) → n ≡ count_of new → gives items None next → (x : List ℕ)
+        → SpellsUnless gives error.Memory start x → Overwrites x (SpellsOk gives start x) before after (Ok n)
+    overwrites-items n is step x h =
+        let all : x ≡ front = CameSoFar-end came step x h in
+        overwrites-taken x (SpellsOk gives start x) n (rw all took) is
+
+    pub overwrites-items_fault : (wrong : NormalizeError) → gives items (Some (Err wrong)) next → (x : List ℕ)
+        → SpellsUnless gives error.Memory start x → Overwrites x (SpellsOk gives start x) before after (Err wrong)
+    overwrites-items_fault wrong step x h =
+        let so_far = came.came x h in
+        overwrites-begun x (SpellsOk gives start x) front so_far.0 wrong took so_far.1 (CameSoFar-room came wrong step x)
+        (CameSoFar-fault came wrong step x h)
+
+-- what overwrote the buffer was written, if there was room
+module _ (form : List ℕ) (Short : Type 0) (before after : List ℕ) where
   module _ (count_before count : ℕ) where
     abbrev WritesAs : Result ⊤ Fault → Type 0
-    WritesAs outcome = WritesForm e input before after count_before count m outcome
+    WritesAs outcome =
+        Writes LeavesBeginning before after count_before count (Short × (length form < 2 ^ 64 - 1)) form outcome
 
     writes-whole : (n : ℕ) (done : ⊤) → n ≡ length form → n ≤ length before → count ≡ n
         → after ≡ overwritten before form → WritesAs (Ok done)
@@ -110,7 +169,7 @@ module _ (m : MadeForm) (e : Encoding) (input before after : List ℕ) where
         }
 
     -- memory was refused, or the form has more units than can be counted
-    writes-no_more : HasBeginning form before after → (NeedsNoMemory e input m → ⊥) → count ≡ count_before
+    writes-no_more : HasBeginning form before after → (Short × (length form < 2 ^ 64 - 1) → ⊥) → count ≡ count_before
         → WritesAs (Err fault.Memory)
     writes-no_more begun needs counted = record {
       fills = record {
@@ -126,24 +185,24 @@ module _ (m : MadeForm) (e : Encoding) (input before after : List ℕ) where
     }
 
     -- the count is reported
-    pub WritesForm-count : (n : ℕ) (outcome : Result ⊤ Fault) → Overwrites m e input before after (Ok n)
+    pub Writes-count : (n : ℕ) (outcome : Result ⊤ Fault) → Overwrites form Short before after (Ok n)
         → ReportsCount n (length before) count_before count outcome → WritesAs outcome
-    WritesForm-count n (Ok done) w r =
+    Writes-count n (Ok done) w r =
         let n_is : n ≡ length form = (let c = w.count in let l = r.done.0 in omega (arith, c, l)) in
         writes-whole n done n_is r.done.1.0 r.done.1.1 w.form
-    WritesForm-count n (Err wrong) w r = elim r.small [
+    Writes-count n (Err wrong) w r = elim r.small [
       | inl s ↦
           let n_is : n ≡ length form = (let c = w.count in let l = s.1.0 in omega (arith, c, l)) in
           rw s.0 (writes-beginning n n_is s.1.1.0 s.1.1.1 w.form)
       | inr s ↦
-          let none : NeedsNoMemory e input m → ⊥ =
+          let none : Short × (length form < 2 ^ 64 - 1) → ⊥ =
           (λ needs. let c = w.count in let l = s.1.0 in let f = needs.1 in absurd (omega (arith, c, l, f))) in
           rw s.0 (writes-no_more (form, [], sym (append-nil form), w.form) none s.1.1)
     ]
 
     -- an allocation was refused
-    pub WritesForm-memory : (wrong : NormalizeError) → Overwrites m e input before after (Err wrong)
+    pub Writes-memory : (wrong : NormalizeError) → Overwrites form Short before after (Err wrong)
         → count ≡ count_before
         → WritesAs (Err fault.Memory)
-    WritesForm-memory wrong w counted =
+    Writes-memory wrong w counted =
         writes-no_more w.begun (λ needs. absurd (false≢true (w.room needs.0))) counted

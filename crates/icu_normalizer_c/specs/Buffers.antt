@@ -1,8 +1,10 @@
 -- What a call leaves in the buffers that it was passed.
-use Rattle.std.specs.Prelude.{◌≡◌, ◌≢◌, ◌⊎◌, ℕ, ◌<◌, ◌≤◌, ◌-◌, ◌^◌, ◌++◌, ⊤, List, length, take, drop}
-use Rattle.std.specs.Prelude.{Result, IsOk, OnOk, OnErr, IfErr, IsErrOf}
+use Rattle.std.specs.Prelude.{◌≡◌, ◌≢◌, ◌⊎◌, ℕ, ◌<◌, ◌≤◌, ◌-◌, ◌^◌, ◌++◌, ⊤, List, length, take, drop, min}
+use Rattle.std.specs.Prelude.{Result, IsOk, IsOkUnless, OnOk, OnErr, IfOk, IfErr, IsErrOf}
 use Rattle.icu_normalizer.specs.ShortRuns.{HasShortRuns}
 use Rattle.icu_normalizer.specs.Forms.{MadeForm}
+use Rattle.icu_normalizer.specs.NormalizeError.{NormalizeError}
+use Rattle.icu_normalizer.specs.NormalizeError.TheVariants.{Memory as NoMemory}
 use Rattle.icu_normalizer_c.specs.Overwriting.{overwritten}
 use Rattle.normalizer_handles.specs.declared.fault.Fault.{Fault}
 use Rattle.normalizer_handles.specs.declared.fault.Fault.TheVariants.{BufferTooSmall, Memory}
@@ -32,6 +34,17 @@ HasBeginning {X} units before after =
 pub record LeavesBeginning {X : Type 0} (units before after : List X) (outcome : Result ⊤ Fault) : Type 0 where
   pub full : IsErrOf outcome BufferTooSmall → after ≡ take (length before) units
   pub begun : OnErr outcome (HasBeginning units before after)
+
+-- The units overwrote the buffer from its beginning, as far as there is room, and their number was returned, or the
+-- greatest number of 64 bits if there are more. `Memory` is the only error, and never comes if memory suffices. After it
+-- a beginning of the units overwrote the beginning.
+pub record Overwrites {X : Type 0} (units : List X) (Suffices : Type 0) (before after : List X)
+    (result : Result ℕ NormalizeError) : Type 0 where
+  pub form : OnOk result (after ≡ overwritten before units)
+  pub count : IfOk result (λ n. n ≡ min (length units) (2 ^ 64 - 1))
+  pub begun : OnErr result (HasBeginning units before after)
+  pub room : Suffices → IsOk result
+  pub refused : IsOkUnless result NoMemory
 
 -- The units are written, or what is left after a fault, which isn't `Memory` if memory suffices.
 pub record Writes {X : Type 0} (Left : List X → List X → List X → Result ⊤ Fault → Type 0) (before after : List X)

@@ -1,7 +1,6 @@
 -- What the calls of C do.
 use Rattle.std.specs.Prelude.{◌≡◌, ◌⊎◌, ◌↔◌, ℕ, ◌<◌, ◌-◌, ◌^◌, Bool, List, length, ⊤, Result, Ok, Err, Option, Some}
 use Rattle.std.specs.Prelude.{None, IsTrue}
-use Rattle.std.specs.Prelude.{min, IsOk, IsOkUnless, IfOk, OnOk, OnErr}
 use Rattle.icu_normalizer.specs.ShortRuns.{HasShortRuns}
 use Rattle.icu_normalizer.specs.IgnoredCharacters.{IgnoredCharacters}
 use Rattle.icu_normalizer.specs.Encodings.{Encoding, encoded_in, decoded_in}
@@ -9,19 +8,17 @@ use Rattle.icu_normalizer.specs.EncodedForm.{encoded_form}
 use Rattle.icu_normalizer.specs.InputCut.{IsInputCut, IsInputNormalized}
 use Rattle.icu_normalizer.specs.Offence.{Offence}
 use Rattle.icu_normalizer.specs.Mapping.{mapped_in}
-use Rattle.icu_normalizer_c.specs.Overwriting.{overwritten}
-use Rattle.icu_normalizer.specs.NormalizeError.{NormalizeError}
-use Rattle.icu_normalizer.specs.NormalizeError.TheVariants.{Memory}
 use Rattle.icu_normalizer.specs.Checks.{IsLastingOffence, IsNormalizedUtf32}
-use Rattle.icu_normalizer.specs.Forms.{MadeForm}
+use Rattle.icu_normalizer.specs.Forms.{MadeForm, form_of}
 use Rattle.icu_normalizer.specs.declared.uts46.Uts46Mapper.{Uts46Mapper}
 use Rattle.icu_normalizer.specs.Mappers.{mapper_data_of}
+use Rattle.icu_normalizer.specs.Utf32.{decoded_utf32}
 use Rattle.icu_normalizer.specs.Uts46.{MapperData}
 use Rattle.normalizer_handles.specs.declared.fault.Fault.{Fault}
 use Rattle.normalizer_handles.specs.declared.fault.Fault.TheVariants.{UnknownForm, NoMapper}
 use Rattle.icu_normalizer_c.specs.declared.mismatch.Mismatch.{Mismatch}
 use Rattle.normalizer_handles.specs.declared.normalizers.Normalizers.{Normalizers}
-use Rattle.icu_normalizer_c.specs.Buffers.{HasBeginning, LeavesAll, LeavesBeginning, Reports, Writes}
+use Rattle.icu_normalizer_c.specs.Buffers.{LeavesAll, LeavesBeginning, Reports, Writes}
 use Rattle.normalizer_handles.specs.FormNumbers.{last_form}
 use Rattle.normalizer_handles.specs.Made.{IsNumbered}
 use Rattle.icu_normalizer_c.specs.Mismatches.{mismatch_of}
@@ -56,16 +53,20 @@ WritesForm e input before after count_before count m outcome =
     Writes LeavesBeginning before after count_before count (NeedsNoMemory e input m)
     (encoded_form e m.reading m.form input) outcome
 
--- The encoded form of the input overwrote the buffer from its beginning, as far as there is room, and the number of its
--- units was returned, or the greatest number of 64 bits if it has more. `Memory` is the only error, and never comes
--- over short runs. After it a beginning of the form overwrote the beginning.
-pub record Overwrites (m : MadeForm) (e : Encoding) (input before after : List ℕ) (result : Result ℕ NormalizeError)
-    : Type 0 where
-  pub form : OnOk result (after ≡ overwritten before (encoded_form e m.reading m.form input))
-  pub count : IfOk result (λ n. n ≡ min (length (encoded_form e m.reading m.form input)) (2 ^ 64 - 1))
-  pub begun : OnErr result (HasBeginning (encoded_form e m.reading m.form input) before after)
-  pub room : HasShortRuns m.has_class_form m.reading (decoded_in e input) → IsOk result
-  pub refused : IsOkUnless result Memory
+-- the text of the input in UTF-32 has short runs
+abbrev pub HasShortUtf32 : (input : List ℕ) → MadeForm → Type 0
+HasShortUtf32 input m = HasShortRuns m.has_class_form m.reading (decoded_utf32 input)
+
+-- the input in UTF-32 needs no memory: it has short runs, and the units of its form can be counted in 64 bits
+abbrev pub NeedsNoMemoryUtf32 : (input : List ℕ) → MadeForm → Type 0
+NeedsNoMemoryUtf32 input m = HasShortUtf32 input m × (length (form_of m (decoded_utf32 input)) < 2 ^ 64 - 1)
+
+-- the form of the input in UTF-32 goes to the buffer
+abbrev pub WritesFormUtf32 : (input before after : List ℕ) → (count_before count : ℕ) → MadeForm → Result ⊤ Fault
+    → Type 0
+WritesFormUtf32 input before after count_before count m outcome =
+    Writes LeavesBeginning before after count_before count (NeedsNoMemoryUtf32 input m)
+    (form_of m (decoded_utf32 input)) outcome
 
 -- it is reported whether the input is well-formed and normalized
 abbrev pub ReportsNormalized : Encoding → (input : List ℕ) → (before after : Bool) → MadeForm → Result ⊤ Fault

@@ -1,5 +1,5 @@
 //! A sink over a buffer of a caller.
-ghost use Rattle.std.specs.Prelude.{◌≡◌, ◌≤◌, ◌-◌, ◌++◌, ◌^◌, length, drop, min, take};
+ghost use Rattle.std.specs.Prelude.{◌≡◌, ◌≤◌, ◌-◌, ◌∷◌, ◌++◌, ◌^◌, [], length, drop, min, take};
 ghost use Rattle.std.specs.Char.{encode_utf8};
 ghost use Rattle.std.specs.Char.Escape.{encode_utf16};
 ghost use Rattle.icu_normalizer_c.specs.Overwriting.{overwritten};
@@ -129,6 +129,18 @@ impl<'a> Buffer<'a, u16> {
             (0xD800 + rest / 0x400) as u16,
             (0xDC00 + rest % 0x400) as u16,
         ]);
+    }
+}
+
+impl<'a> Buffer<'a, u32> {
+    /// Takes a character in UTF-32.
+    #[inline(always)]
+    pub(crate) fn take_in_utf32(&mut self, c: char)
+        ensures same_reference { self.new.units.ghost_name ≡ self.old.units.ghost_name }
+        ensures room { length self.new.units.now ≡ length self.old.units.now }
+        ensures history { self.new.history.units ≡ self.old.history.units ++ c ∷ [] }
+    {
+        self.take([c as u32]);
     }
 }
 

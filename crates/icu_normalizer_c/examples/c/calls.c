@@ -44,6 +44,8 @@ static void closed(icu_normalizer *normalizer) {
     EXPECT(icu_normalizer_normalize_utf8(normalizer, ICU_NORMALIZER_NFC, bytes_of("a"), 1, output, 4, &number)
         == ICU_NORMALIZER_NOT_OPEN);
     EXPECT(icu_normalizer_is_normalized_utf8(normalizer, 9, bytes_of("a"), 1, &is) == ICU_NORMALIZER_NOT_OPEN);
+    EXPECT(icu_normalizer_normalize_utf32(normalizer, ICU_NORMALIZER_NFC, NULL, 0, NULL, 0, &number)
+        == ICU_NORMALIZER_NOT_OPEN);
     EXPECT(icu_normalizer_is_normalized_utf32(normalizer, ICU_NORMALIZER_NFC, NULL, 0, &is) == ICU_NORMALIZER_NOT_OPEN);
     EXPECT(icu_normalizer_split_utf8(normalizer, ICU_NORMALIZER_NFC, bytes_of("a"), 1, &number)
         == ICU_NORMALIZER_NOT_OPEN);
@@ -150,14 +152,23 @@ static void utf32(icu_normalizer *normalizer) {
         {3, {0x1F600, 0x1F600, 0x110000}, NONE}, {2, {0xFFFFFFFF, 0x61}, NONE},
     };
     bool is = false;
+    uint32_t output[41];
+    size_t number = 7;
     for (icu_normalizer_form form = 0; form < 4; form++) {
         for (size_t place = 0; place < sizeof texts / sizeof texts[0]; place++) {
-            EXPECT(unless_refused(icu_normalizer_is_normalized_utf32(
-                normalizer, form, texts[place].text, texts[place].length, &is)) == ICU_NORMALIZER_OK);
+            const uint32_t *text = texts[place].text;
+            size_t length = texts[place].length;
+            EXPECT(unless_refused(icu_normalizer_is_normalized_utf32(normalizer, form, text, length, &is))
+                == ICU_NORMALIZER_OK);
             EXPECT(is == (texts[place].forms >> form & 1));
+            EXPECT(unless_refused(icu_normalizer_normalize_utf32(normalizer, form, text, length, output, 41, &number))
+                == ICU_NORMALIZER_OK);
+            EXPECT((number == length && memcmp(output, text, 4 * number) == 0) == is);
         }
         is = false;
         EXPECT(icu_normalizer_is_normalized_utf32(normalizer, form, NULL, 0, &is) == ICU_NORMALIZER_OK && is);
+        EXPECT(icu_normalizer_normalize_utf32(normalizer, form, NULL, 0, NULL, 0, &number) == ICU_NORMALIZER_OK);
+        EXPECT(number == 0);
         /* More marks than are kept without an allocation. */
         uint32_t long_text[41] = {0x62};
         for (size_t place = 1; place < 41; place++) long_text[place] = 0x301;
@@ -166,7 +177,21 @@ static void utf32(icu_normalizer *normalizer) {
         long_text[40] = 0x323;
         EXPECT(unless_refused(icu_normalizer_is_normalized_utf32(normalizer, form, long_text, 41, &is))
             == ICU_NORMALIZER_OK && !is);
+        EXPECT(unless_refused(icu_normalizer_normalize_utf32(normalizer, form, long_text, 41, output, 40, &number))
+            == (form == ICU_NORMALIZER_NFC || form == ICU_NORMALIZER_NFKC ? ICU_NORMALIZER_OK
+                                                                          : ICU_NORMALIZER_BUFFER_TOO_SMALL));
+        EXPECT(number == (form == ICU_NORMALIZER_NFC || form == ICU_NORMALIZER_NFKC ? 40 : 41));
+        EXPECT(output[0] == (number == 40 ? 0x1E05 : 0x62) && output[39] == 0x301);
     }
+    /* A diaeresis composes with the letter before it, not with U+FFFD. */
+    static const uint32_t ill_formed[] = {0xD800, 0x308, 0x110000, 0x61, 0x308, 0xFFFFFFFF};
+    EXPECT(unless_refused(icu_normalizer_normalize_utf32(
+        normalizer, ICU_NORMALIZER_NFC, ill_formed, 6, output, 41, &number)) == ICU_NORMALIZER_OK);
+    EXPECT(number == 5 && output[0] == 0xFFFD && output[1] == 0x308 && output[2] == 0xFFFD && output[3] == 0xE4);
+    EXPECT(output[4] == 0xFFFD);
+    number = 7;
+    EXPECT(icu_normalizer_normalize_utf32(normalizer, 4, NULL, 0, NULL, 0, &number) == ICU_NORMALIZER_UNKNOWN_FORM);
+    EXPECT(number == 7);
     EXPECT(icu_normalizer_is_normalized_utf32(normalizer, 4, NULL, 0, &is) == ICU_NORMALIZER_UNKNOWN_FORM && !is);
 }
 

@@ -80,8 +80,11 @@ static void *units_of(const char *word, size_t bits, size_t *count) {
 
 static icu_normalizer_status normalize(icu_normalizer *normalizer, icu_normalizer_form form, size_t bits,
     const void *input, size_t length, void *output, size_t room, size_t *needed) {
-    return bits == 8 ? icu_normalizer_normalize_utf8(normalizer, form, input, length, output, room, needed)
-                     : icu_normalizer_normalize_utf16(normalizer, form, input, length, output, room, needed);
+    switch (bits) {
+        case 8: return icu_normalizer_normalize_utf8(normalizer, form, input, length, output, room, needed);
+        case 16: return icu_normalizer_normalize_utf16(normalizer, form, input, length, output, room, needed);
+        default: return icu_normalizer_normalize_utf32(normalizer, form, input, length, output, room, needed);
+    }
 }
 
 /* Buffers of all sizes: what is needed is written as far as there is room for it, and nothing else. */
@@ -125,12 +128,14 @@ static bool is_pair(const uint16_t *units, size_t length, size_t place) {
     return place + 1 < length && units[place] >> 10 == 0x36 && units[place + 1] >> 10 == 0x37;
 }
 
-/* The check of the same text in UTF-32, in which unpaired surrogates stay as they are: its result is that of UTF-16. */
-static void compare_utf32(icu_normalizer *normalizer, icu_normalizer_form form, enum side side, const uint16_t *units,
-    size_t length) {
+/* How many units the same text has in UTF-32, in which unpaired surrogates stay as they are. */
+static size_t count_utf32(const uint16_t *units, size_t length) {
     size_t count = length;
     for (size_t place = 0; place < length; place++) count -= is_pair(units, length, place);
-    uint32_t *input = at(side, characters, 4 * count), *to = input;
+    return count;
+}
+
+static void put_utf32(const uint16_t *units, size_t length, uint32_t *to) {
     for (size_t place = 0; place < length; place++)
         if (is_pair(units, length, place)) {
             *to++ = 0x10000 + ((units[place] & 0x3FFu) << 10) + (units[place + 1] & 0x3FFu);
@@ -138,6 +143,17 @@ static void compare_utf32(icu_normalizer *normalizer, icu_normalizer_form form, 
         } else {
             *to++ = units[place];
         }
+}
+
+/* The same text in UTF-32, and its form: what is written is that of UTF-16, and so is the result of the check. */
+static void compare_utf32(icu_normalizer *normalizer, icu_normalizer_form form, enum side side, const uint16_t *units,
+    size_t length, const uint16_t *wanted, size_t wanted_length) {
+    size_t count = count_utf32(units, length), wanted_count = count_utf32(wanted, wanted_length);
+    uint32_t *input = at(side, characters, 4 * count), *expected = block(4 * (wanted_count + 1));
+    put_utf32(units, length, input);
+    put_utf32(wanted, wanted_length, expected);
+    compare_rooms(normalizer, form, 32, side, input, count, expected, wanted_count);
+    free(expected);
     bool is = false, is_utf16 = false;
     EXPECT(icu_normalizer_is_normalized_utf16(normalizer, form, units, length, &is_utf16) == ICU_NORMALIZER_OK);
     EXPECT(icu_normalizer_is_normalized_utf32(normalizer, form, input, count, &is) == ICU_NORMALIZER_OK);
@@ -156,7 +172,7 @@ static void compare_line(icu_normalizer *normalizer, char *line) {
             if (length) memcpy(input, units, length * bits / 8);
             compare(normalizer, form, bits, input, length, wanted, wanted_length);
             compare_rooms(normalizer, form, bits, side, input, length, wanted, wanted_length);
-            if (bits == 16) compare_utf32(normalizer, form, side, units, length);
+            if (bits == 16) compare_utf32(normalizer, form, side, units, length, wanted, wanted_length);
         }
         free(wanted);
     }
@@ -229,7 +245,7 @@ static void compare_empty(void) {
         for (size_t bits = 8; bits <= 16; bits += 8) {
             compare(&normalizer, form, bits, NULL, 0, NULL, 0);
             compare_rooms(&normalizer, form, bits, LAST, NULL, 0, NULL, 0);
-            compare_utf32(&normalizer, form, LAST, NULL, 0);
+            compare_utf32(&normalizer, form, LAST, NULL, 0, NULL, 0);
         }
     size_t needed = 7;
     EXPECT(icu_normalizer_map_utf8(&normalizer, NULL, 0, NULL, 0, &needed) == ICU_NORMALIZER_OK && needed == 0);

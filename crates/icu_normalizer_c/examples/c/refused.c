@@ -54,7 +54,7 @@ static const char table[] = "0000..0040 ; valid\n0041 ; mapped ; 0061\n0042..00A
 static void calls(icu_normalizer *normalizer) {
     uint8_t text[161] = {'a'}, output[400];
     uint16_t units[81] = {'a'}, wide[400];
-    uint32_t characters[81] = {'a'};
+    uint32_t characters[81] = {'a'}, long_wide[400];
     for (size_t place = 0; place < 40; place++) {
         memcpy(text + 1 + 4 * place, "\xCC\x88\xCC\xA3", 4);
         characters[1 + 2 * place] = units[1 + 2 * place] = 0x308;
@@ -71,6 +71,8 @@ static void calls(icu_normalizer *normalizer) {
         else
             EXPECT((output[0] == 0xAA || output[0] == 'a') && output[1] == 0xAA && output[399] == 0xAA);
         if (is_done(icu_normalizer_normalize_utf16(normalizer, form, units, 81, wide, 400, &number)))
+            EXPECT(number == (composes ? 80 : 81));
+        if (is_done(icu_normalizer_normalize_utf32(normalizer, form, characters, 81, long_wide, 400, &number)))
             EXPECT(number == (composes ? 80 : 81));
         if (is_done(icu_normalizer_is_normalized_utf8(normalizer, form, text, 161, &is))) EXPECT(!is);
         if (is_done(icu_normalizer_is_normalized_utf16(normalizer, form, units, 81, &is))) EXPECT(!is);

@@ -1,4 +1,4 @@
-// Normalizers over std::string and std::u16string, by the calls of icu_normalizer.h.
+// Normalizers over std::string, std::u16string and std::u32string, by the calls of icu_normalizer.h.
 #ifndef NORMALIZER_HPP
 #define NORMALIZER_HPP
 
@@ -61,6 +61,10 @@ public:
         return written<std::u16string, uint16_t>(icu_normalizer_normalize_utf16, input, number(form));
     }
 
+    std::u32string normalize(NormalForm form, std::u32string_view input) {
+        return written<std::u32string, uint32_t>(icu_normalizer_normalize_utf32, input, number(form));
+    }
+
     // The input mapped by Unicode Technical Standard #46, in NFC.
     std::string map(std::string_view input) {
         return written<std::string, uint8_t>(icu_normalizer_map_utf8, input);
@@ -88,6 +92,12 @@ public:
     bool is_normalized(NormalForm form, std::u16string_view input) {
         bool is = false;
         check(icu_normalizer_is_normalized_utf16(&handle, number(form), units<uint16_t>(input), input.size(), &is));
+        return is;
+    }
+
+    bool is_normalized(NormalForm form, std::u32string_view input) {
+        bool is = false;
+        check(icu_normalizer_is_normalized_utf32(&handle, number(form), units<uint32_t>(input), input.size(), &is));
         return is;
     }
 
