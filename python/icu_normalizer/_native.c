@@ -15,13 +15,14 @@ typedef struct {
     PyObject_HEAD icu_normalizer handle;
     PyObject *read;     /* returns the data of the files, with which the first call opens the handle */
     PyObject *mismatch; /* the type of mismatches */
+    PyObject *words[4]; /* by form: the last str that named it, so that the same one is known at once */
     bool changes[4];    /* by form: whether the last text changed, as the next one is likely to */
 } Normalizer;
 
 typedef enum { NORMALIZE, MAP, VALIDATE } Call;
 
 /* A text: bytes, or an ASCII str, in UTF-8; a str with characters beyond U+FFFF in UTF-32, until it is `widened`; any
-   other str in UTF-16. */
+   other str in UTF-16. A short text that has no surrogates is decomposed in UTF-32 too. */
 typedef struct {
     PyObject *object;
     const void *units;
@@ -106,7 +107,7 @@ static inline bool is_ready(PyObject *str) {
     return true;
 }
 
-static inline bool form_of(PyObject *word, icu_normalizer_form *form) {
+static bool named_form(PyObject *word, icu_normalizer_form *form) {
     if (PyUnicode_Check(word) && is_ready(word) && PyUnicode_IS_ASCII(word)) {
         const Py_UCS1 *name = PyUnicode_1BYTE_DATA(word);
         Py_ssize_t length = PyUnicode_GET_LENGTH(word);
@@ -118,6 +119,15 @@ static inline bool form_of(PyObject *word, icu_normalizer_form *form) {
     }
     if (!PyErr_Occurred()) PyErr_SetString(PyExc_ValueError, "the form is not NFC, NFD, NFKC or NFKD");
     return false;
+}
+
+static inline bool form_of(Normalizer *self, PyObject *word, icu_normalizer_form *form) {
+    for (*form = 0; *form < 4; ++*form)
+        if (word == self->words[*form]) return true;
+    if (!named_form(word, form)) return false;
+    Py_INCREF(word);
+    Py_XSETREF(self->words[*form], word);
+    return true;
 }
 
 typedef uint32_t Four __attribute__((vector_size(16)));
@@ -185,9 +195,17 @@ static bool made_wide(Text *text) {
     return true;
 }
 
-/* Each call but the check needs a text in UTF-8 or UTF-16. */
+/* Most calls need a text in UTF-8 or UTF-16. */
 static inline bool widened(Text *text) {
     return text->width != sizeof(Py_UCS4) || made_wide(text);
+}
+
+/* Whether a text in UTF-32 has surrogates: in UTF-16 two of them may be a pair. */
+static bool has_surrogates(const Text *text) {
+    const Py_UCS4 *characters = text->units;
+    for (size_t place = 0; text->width == sizeof *characters && place < text->length; place++)
+        if (Py_UNICODE_IS_SURROGATE(characters[place])) return true;
+    return false;
 }
 
 static inline bool text_of(PyObject *object, Text *text) {
@@ -252,9 +270,23 @@ static PyObject *str_of(const uint16_t *units, size_t length) {
     return made;
 }
 
+/* The str of characters. */
+static PyObject *str_of_characters(const Py_UCS4 *characters, size_t length) {
+    Py_UCS4 bits = 0;
+    for (size_t place = 0; place < length; place++) bits |= characters[place];
+    if (bits <= 0xFFFF) return PyUnicode_FromKindAndData(PyUnicode_4BYTE_KIND, characters, (Py_ssize_t)length);
+    PyObject *made = PyUnicode_New((Py_ssize_t)length, 0x10FFFF);
+    if (made) memcpy(PyUnicode_4BYTE_DATA(made), characters, length * sizeof *characters);
+    return made;
+}
+
 static PyObject *object_of(const Text *text, const void *units, size_t length) {
     if (PyBytes_Check(text->object)) return PyBytes_FromStringAndSize(units, (Py_ssize_t)length);
-    return text->width == 1 ? PyUnicode_DecodeUTF8(units, (Py_ssize_t)length, NULL) : str_of(units, length);
+    switch (text->width) {
+        case 1: return PyUnicode_DecodeUTF8(units, (Py_ssize_t)length, NULL);
+        case 2: return str_of(units, length);
+        default: return str_of_characters(units, length);
+    }
 }
 
 /* The text itself, but for a subclass of str or bytes a copy. */
@@ -267,6 +299,8 @@ static inline PyObject *same(const Text *text) {
 static inline icu_normalizer_status call_of(icu_normalizer *handle, Call call, icu_normalizer_form form,
     const Text *text, size_t from, void *output, size_t room, size_t *needed) {
     size_t length = text->length - from;
+    if (text->width == sizeof(Py_UCS4))
+        return icu_normalizer_normalize_utf32(handle, form, text->units, length, output, room, needed);
     if (text->width != 1) {
         const uint16_t *units = (const uint16_t *)text->units + from;
         switch (call) {
@@ -297,9 +331,9 @@ static icu_normalizer_status check_of(icu_normalizer *handle, icu_normalizer_for
 }
 
 static PyObject *short_result(Normalizer *self, Call call, icu_normalizer_form form, const Text *text) {
-    uint16_t output[18 * SHORT];
-    size_t needed, size = text->width, room = size == 1 ? sizeof output : sizeof output / 2;
-    icu_normalizer_status status = call_of(&self->handle, call, form, text, 0, output, room, &needed);
+    Py_UCS4 output[18 * SHORT];
+    size_t needed, size = text->width;
+    icu_normalizer_status status = call_of(&self->handle, call, form, text, 0, output, sizeof output / size, &needed);
     if (status == ICU_NORMALIZER_BUFFER_TOO_SMALL) return NULL;
     if (status) return failed(status);
     if (needed == text->length && !memcmp(output, text->units, needed * size)) return same(text);
@@ -329,11 +363,18 @@ static icu_normalizer_status long_result(icu_normalizer *handle, Call call, icu_
     }
 }
 
+/* Whether the text stays in UTF-32, if it is. A short text is decomposed there in less time than UTF-16 takes. */
+static inline bool is_made_in_utf32(Call call, icu_normalizer_form form, const Text *text) {
+    bool decomposes = form == ICU_NORMALIZER_NFD || form == ICU_NORMALIZER_NFKD;
+    return call == NORMALIZE && decomposes && text->length <= SHORT && !has_surrogates(text);
+}
+
 static PyObject *result(Normalizer *self, Call call, icu_normalizer_form form, Text *text) {
-    if (!widened(text)) return NULL;
+    if (!is_made_in_utf32(call, form, text) && !widened(text)) return NULL;
     if (text->length <= SHORT) {
         PyObject *made = short_result(self, call, form, text);
         if (made || PyErr_Occurred()) return made;
+        if (!widened(text)) return NULL;
     }
     char *output;
     size_t length = 0;
@@ -368,7 +409,7 @@ static inline bool is_passed(const char *name, Normalizer *self, PyObject *const
         PyErr_Format(PyExc_TypeError, "%s() takes a form and a text", name);
         return false;
     }
-    return form_of(passed[0], form) && is_open(self) && text_of(passed[1], text);
+    return form_of(self, passed[0], form) && is_open(self) && text_of(passed[1], text);
 }
 
 /* Whether a short text is in the form, if that is likely. Seeing it takes less time than writing the form. */
@@ -395,14 +436,6 @@ static PyObject *map(PyObject *self, PyObject *text) {
 
 static PyObject *validate(PyObject *self, PyObject *text) {
     return mapped(self, VALIDATE, text);
-}
-
-/* Whether a text in UTF-32 has surrogates: in UTF-16 two of them may be a pair. */
-static bool has_surrogates(const Text *text) {
-    const Py_UCS4 *characters = text->units;
-    for (size_t place = 0; text->width == sizeof *characters && place < text->length; place++)
-        if (Py_UNICODE_IS_SURROGATE(characters[place])) return true;
-    return false;
 }
 
 static PyObject *is_normalized(PyObject *it, PyObject *const *passed, Py_ssize_t count) {
@@ -502,6 +535,7 @@ static void release(PyObject *it) {
     icu_normalizer_close(&self->handle);
     Py_XDECREF(self->read);
     Py_XDECREF(self->mismatch);
+    for (size_t form = 0; form < 4; form++) Py_XDECREF(self->words[form]);
     ((freefunc)PyType_GetSlot(type, Py_tp_free))(it);
     Py_DECREF(type);
 }

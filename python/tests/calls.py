@@ -68,6 +68,18 @@ def forms():
     assert icu_normalizer.split("NFC", b"ab\xFF") == (b"ab", b"\xFF")
 
 
+def rows():
+    """All characters that `unicodedata` knows: ten in a row, and a row that is longer than texts that are called short."""
+    known = [it for it in map(chr, range(0x110000)) if unicodedata.category(it) not in ("Cn", "Cs", "Co")]
+    for place in range(0, len(known), 10):
+        row = "".join(known[place : place + 10])
+        for form in FORMS:
+            for text in (row, row[::-1], 14 * row):
+                wanted = unicodedata.normalize(form, text)
+                assert icu_normalizer.normalize(form, text) == wanted, (form, row)
+                assert icu_normalizer.is_normalized(form, text) == (wanted == text), (form, row)
+
+
 def surrogates():
     """Each reads as U+FFFD, after a text that stays and after one that changes."""
     for text in ["\uD800", "a\uDC00", "\U0001F600\uD800", "\uDC00\U0001F600a\u0308", 129 * "\U0001F600" + "\uDFFF"]:
@@ -156,6 +168,7 @@ def threads():
 
 
 forms()
+rows()
 surrogates()
 errors()
 other_data()

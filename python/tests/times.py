@@ -1,6 +1,6 @@
 """Times `normalize` beside that of `unicodedata`, on strings of 10 characters: a ratio for each text and form.
 
-times.py [--most RATIO]: the status is 1 if a ratio of TEXTS is greater than that. SLOWER has what takes longer."""
+times.py [--most RATIO]: the status is 1 if a ratio is greater than that."""
 import argparse
 import statistics
 import sys
@@ -53,12 +53,13 @@ TEXTS = {
     "marks": "".join(map(chr, range(0x2DE2, 0x2DEC))),
     "marks, Glagolitic": "".join(map(chr, range(0x1E00B, 0x1E015))),
     "U+FFFD alone": 10 * "\uFFFD",
-}
-SLOWER = {
     "Hangul in parentheses": "".join(map(chr, range(0x320E, 0x3218))),
     "musical marks": "".join(map(chr, range(0x1D165, 0x1D16F))),
     "Sogdian": "".join(map(chr, range(0x10F44, 0x10F4E))),
     "Tirhuta": "".join(map(chr, range(0x114BC, 0x114C6))),
+    "mathematical digits": "".join(map(chr, range(0x1D7D2, 0x1D7DC))),
+    "letters in parentheses": "".join(map(chr, range(0x1F119, 0x1F123))),
+    "ideographs in brackets": "".join(map(chr, (0x1F23A, 0x1F23B, *range(0x1F240, 0x1F248)))),
 }
 
 
@@ -71,27 +72,20 @@ def ratio(form, text, samples=51, number=5000):
     return statistics.median(own.timeit(number) / other.timeit(number) for _ in range(samples))
 
 
-def greatest_of(texts):
-    """Prints the ratios of texts, and returns the greatest."""
-    greatest = 0
-    for name, text in texts.items():
-        ratios = [ratio(form, text) for form in FORMS]
-        greatest = max(greatest, *ratios)
-        print(f"{name:22}" + "".join(f"{it:7.2f}" for it in ratios), flush=True)
-    return greatest
-
-
 def main():
     parser = argparse.ArgumentParser(description=__doc__)
     parser.add_argument("--most", type=float)
     most = parser.parse_args().most
     print(f"{'':22}" + "".join(f"{form:>7}" for form in FORMS))
-    greatest = greatest_of(TEXTS)
-    slower = greatest_of(SLOWER)
+    greatest = 0
+    for name, text in TEXTS.items():
+        ratios = [ratio(form, text) for form in FORMS]
+        greatest = max(greatest, *ratios)
+        print(f"{name:22}" + "".join(f"{it:7.2f}" for it in ratios), flush=True)
     verdict = f"`normalize` takes at most {greatest:.2f} times as long as `unicodedata` on 10 characters"
     if most and greatest > most:
         sys.exit(verdict)
-    print(f"{verdict}, and {slower:.2f} times on what is slower")
+    print(verdict)
 
 
 if __name__ == "__main__":
