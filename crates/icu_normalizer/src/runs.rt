@@ -397,7 +397,7 @@ fn run_end<U: Units, N: Forming>(normalizer: &N, units: U, known: RunSoFar) -> R
 }
 
 /// Returns the run with the step after it, if that is seen to pass, and with the low letters after it, if it is low
-/// itself or the form is a decomposing one. Low letters aren't looked up.
+/// itself. Low letters aren't looked up.
 #[inline(always)]
 fn with_one_more<U: Units, N: Forming>(
     normalizer: &N,
@@ -416,12 +416,7 @@ fn with_one_more<U: Units, N: Forming>(
         return Some(with_low(normalizer, units, with_step(run, step, 0)));
     }
     let class = branched_class(normalizer, run.last, step)?;
-    let longer = with_step(run, step, class);
-    // In a composing form a mark that passes is mostly followed by what isn't low.
-    if normalizer.holds_back() {
-        return Some(longer);
-    }
-    Some(with_low(normalizer, units, longer))
+    Some(with_step(run, step, class))
 }
 
 /// Returns the step at a place. Sequences of two bytes are decoded apart, which takes fewer instructions.

@@ -20,26 +20,17 @@ pub returns-then-step-first_missing-clause-end : goal.returns-then-step-first_mi
 returns-then-step-first_missing-clause-end g c =
     omega (arith, c.with_step.ensures.end, c.with_low.ensures.1, step-some g.U.Units.encoding (g.U.Units.units c.args.units) c.args.run.end c.args.step c.requires.some c.requires.step)
 
-pub with_step-longer-requires : goal.with_step-longer-requires
-with_step-longer-requires g c =
+pub with_step-requires-2 : goal.with_step-requires-2
+with_step-requires-2 g c =
     omega (arith, c.requires.fits, step-some g.U.Units.encoding (g.U.Units.units c.args.units) c.args.run.end c.args.step c.requires.some c.requires.step)
 
-pub returns-then-holds_back-clause-passes : goal.returns-then-holds_back-clause-passes
-returns-then-holds_back-clause-passes g c = (
-  IsRun-longer _ _ _ _ _ c.requires.step c.requires.some _ _ _ _ _ _ c.requires.run c.in_ok-class.ensures c.with_step-longer.ensures.end
-      c.with_step-longer.ensures.last c.with_step-longer.ensures.starter c.with_step-longer.ensures.mark,
-  omega (arith, c.with_step-longer.ensures.end),
+pub returns-clause-passes : goal.returns-clause-passes
+returns-clause-passes g c = (
+  IsRun-longer _ _ _ _ _ c.requires.step c.requires.some _ _ _ _ _ _ c.requires.run c.in_ok-class.ensures c.with_step-2.ensures.end
+      c.with_step-2.ensures.last c.with_step-2.ensures.starter c.with_step-2.ensures.mark,
+  omega (arith, c.with_step-2.ensures.end),
 )
-
-pub returns-then-holds_back-clause-end : goal.returns-then-holds_back-clause-end
-returns-then-holds_back-clause-end g c =
-    omega (arith, c.with_step-longer.ensures.end, step-some g.U.Units.encoding (g.U.Units.units c.args.units) c.args.run.end c.args.step c.requires.some c.requires.step)
-
-pub with_low-requires-2 : goal.with_low-requires-2
-with_low-requires-2 g c =
-    IsRun-longer _ _ _ _ _ c.requires.step c.requires.some _ _ _ _ _ _ c.requires.run c.in_ok-class.ensures c.with_step-longer.ensures.end
-    c.with_step-longer.ensures.last c.with_step-longer.ensures.starter c.with_step-longer.ensures.mark
 
 pub returns-clause-end : goal.returns-clause-end
 returns-clause-end g c =
-    omega (arith, c.with_step-longer.ensures.end, c.with_low-2.ensures.1, step-some g.U.Units.encoding (g.U.Units.units c.args.units) c.args.run.end c.args.step c.requires.some c.requires.step)
+    omega (arith, c.with_step-2.ensures.end, step-some g.U.Units.encoding (g.U.Units.units c.args.units) c.args.run.end c.args.step c.requires.some c.requires.step)
