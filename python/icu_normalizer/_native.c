@@ -263,7 +263,8 @@ static PyObject *str_of(const uint16_t *units, size_t length) {
     if (pairs) {
         join_pairs(units, length, PyUnicode_4BYTE_DATA(made));
     } else if (bits < 0x100) {
-        for (size_t place = 0; place < length; place++) PyUnicode_1BYTE_DATA(made)[place] = (Py_UCS1)units[place];
+        Py_UCS1 *to = PyUnicode_1BYTE_DATA(made);
+        for (size_t place = 0; place < length; place++) to[place] = (Py_UCS1)units[place];
     } else {
         memcpy(PyUnicode_2BYTE_DATA(made), units, length * sizeof(uint16_t));
     }
@@ -274,9 +275,17 @@ static PyObject *str_of(const uint16_t *units, size_t length) {
 static PyObject *str_of_characters(const Py_UCS4 *characters, size_t length) {
     Py_UCS4 bits = 0;
     for (size_t place = 0; place < length; place++) bits |= characters[place];
-    if (bits <= 0xFFFF) return PyUnicode_FromKindAndData(PyUnicode_4BYTE_KIND, characters, (Py_ssize_t)length);
-    PyObject *made = PyUnicode_New((Py_ssize_t)length, 0x10FFFF);
-    if (made) memcpy(PyUnicode_4BYTE_DATA(made), characters, length * sizeof *characters);
+    PyObject *made = PyUnicode_New((Py_ssize_t)length, bits > 0xFFFF ? 0x10FFFF : bits);
+    if (!made || !length) return made;
+    if (bits > 0xFFFF) {
+        memcpy(PyUnicode_4BYTE_DATA(made), characters, length * sizeof *characters);
+    } else if (bits >= 0x100) {
+        Py_UCS2 *to = PyUnicode_2BYTE_DATA(made);
+        for (size_t place = 0; place < length; place++) to[place] = (Py_UCS2)characters[place];
+    } else {
+        Py_UCS1 *to = PyUnicode_1BYTE_DATA(made);
+        for (size_t place = 0; place < length; place++) to[place] = (Py_UCS1)characters[place];
+    }
     return made;
 }
 

@@ -58,6 +58,13 @@ TEXTS = {
     "Sogdian": "".join(map(chr, range(0x10F44, 0x10F4E))),
     "Tirhuta": "".join(map(chr, range(0x114BC, 0x114C6))),
     "mathematical digits": "".join(map(chr, range(0x1D7D2, 0x1D7DC))),
+    "numbers in parentheses": "".join(map(chr, range(0x2478, 0x2482))),
+    "words in a circle": 10 * "\u327D",
+    "two marks": 10 * "\u0344",
+    "two vowels": 10 * "\u0F75",
+    "modifier letters": 10 * "\U000107BA",
+    "CJK, one ideograph": 10 * "\U0002F943",
+    "CJK, to beyond U+FFFF": 10 * "\uFAD1",
     "letters in parentheses": "".join(map(chr, range(0x1F119, 0x1F123))),
     "ideographs in brackets": "".join(map(chr, (0x1F23A, 0x1F23B, *range(0x1F240, 0x1F248)))),
 }

@@ -1,5 +1,6 @@
 -- What the contracts of private functions alone cite.
 pub mod ComposingClasses
+pub mod FormsOfOne
 pub mod Kept
 pub mod Offences
 pub mod PassingClasses

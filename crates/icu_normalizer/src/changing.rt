@@ -43,11 +43,8 @@ pub(crate) fn changes_alone<N: Forming>(normalizer: &N, character: char) -> bool
     ensures { let m = N.made_form normalizer.now in
         IsTrue result → ¬ IsNormalized m.reading m.form (character ∷ []) }
 {
-    if let Some(list) = normalizer.short_list(character) {
-        return list.first() != character;
-    }
     match normalizer.form_of_one(character) {
-        Some(form) => form.get(0) != Some(character),
+        Some(form) => form.first() != Some(character),
         None => false,
     }
 }

@@ -9,7 +9,6 @@ ghost use Rattle.normal_forms.specs.ShortRuns.{buffer_limit, HasShortRuns};
 ghost use Rattle.normalizer_check.specs.RequiredConditions.{SuitsTexts};
 ghost use Rattle.normalizer_tables.specs.Characters.{class_of, class_of_itself, has_class_form, list_of};
 ghost use Rattle.normalizer_tables.specs.Characters.{reading_of_word, word_of};
-ghost use Rattle.normalizer_tables.specs.ShortLists.{text_of};
 ghost use Rattle.normalizer_tables.specs.conditions.PairConditions.{is_taken_as_boundary};
 ghost use Rattle.normalizer_text.specs.Encodings.{decoded_in, first_in};
 ghost use Rattle.normalizer_iterators.specs.CharactersLeft.{characters_left};
@@ -19,15 +18,15 @@ ghost use Rattle.icu_normalizer.specs.Forms.{composing_by, decomposing_by, form_
 ghost use Rattle.icu_normalizer.specs.inner.Offences.{IsFirstOrNone};
 ghost use Rattle.icu_normalizer.specs.inner.PassthroughRuns.{IsSeenSegment, CanFollowMark, CanPassThrough};
 ghost use Rattle.icu_normalizer.specs.inner.ComposingClasses.{composing_class};
+ghost use Rattle.icu_normalizer.specs.inner.FormsOfOne.{text_of_one};
 ghost use Rattle.icu_normalizer.specs.inner.PassthroughRuns.{class_in_order, IsOwnListOfClass};
 ghost use Rattle.icu_normalizer.specs.inner.WrittenParts.{NothingOffered, WritesText};
 
 use crate::boundaries::is_taken_as_boundary;
 use crate::composing_form::ComposingForm;
 use crate::decomposing_form::DecomposingForm;
-use crate::kept::{
-    SeenSegment, Unseen, composed_list, composed_list_in_table, has_no_second, seen_segment,
-};
+use crate::form_of_one::{FormOfOne, composed_list_of_one, list_of_one};
+use crate::kept::{SeenSegment, Unseen, seen_segment};
 use crate::passing_classes::UNKNOWN;
 use crate::utf32::{Utf32Chars, yields};
 use crate::word_classes::{
@@ -39,8 +38,6 @@ use normalizer_iterators::{MarkRun, NormalizeError, SegmentBuffers};
 use normalizer_sets::CharacterSet;
 use normalizer_tables::characters::{CharacterData, IgnoredCharacters};
 use normalizer_tables::may_be_second;
-use normalizer_tables::members::Members;
-use normalizer_tables::short_list::ShortList;
 use normalizer_tables::word::{is_ordinary_class_form, is_plain, low_byte};
 use normalizer_text::output::Output;
 use normalizer_text::{Chars, Step, Units};
@@ -108,13 +105,9 @@ pub trait Forming {
         ensures { let m = made_form self.now in IfOk result (λ seen. IsSeenSegment (beginning self.now)
             U.encoding m.reading m.form (U.units units) seen.end seen.becomes) };
 
-    /// The form of a character alone, if it is held in registers. `None` says nothing.
-    fn short_list(&self, character: char) -> Option<ShortList>
-        ensures { IfSome result (λ list. form_of (made_form self.now) (character ∷ []) ≡ text_of list) };
-
-    /// The form of a character alone, if its list is that.
-    fn form_of_one(&self, character: char) -> Option<Members<'_>>
-        ensures { IfSome result (λ members. members ≡ form_of (made_form self.now) (character ∷ [])) };
+    /// The form of a character alone, if its list is that, or it is seen to have up to four characters.
+    fn form_of_one(&self, character: char) -> Option<FormOfOne<'_>>
+        ensures { IfSome result (λ form. form_of (made_form self.now) (character ∷ []) ≡ text_of_one form) };
 
     /// Makes the form of what the units decode to in the buffers. Returns whether it fits: whether the lists of the
     /// characters have at most `places` members together.
@@ -269,17 +262,8 @@ impl<'a> Forming for DecomposingForm<'a> {
     }
 
     #[inline(always)]
-    fn short_list(&self, character: char) -> Option<ShortList> {
-        let word = self.characters.word_of(character);
-        self.characters.short_list(character, word)
-    }
-
-    #[inline(always)]
-    fn form_of_one(&self, character: char) -> Option<Members<'_>> {
-        Some(
-            self.characters
-                .members(character, IgnoredCharacters::Dropped),
-        )
+    fn form_of_one(&self, character: char) -> Option<FormOfOne<'_>> {
+        Some(list_of_one(&self.characters, character))
     }
 
     fn short_form<U: Units>(&self, units: U, buffers: &mut SegmentBuffers) -> bool {
@@ -399,23 +383,8 @@ impl<'a> Forming for ComposingForm<'a> {
     }
 
     #[inline(always)]
-    fn short_list(&self, character: char) -> Option<ShortList> {
-        let word = self.characters.word_of(character);
-        match self.characters.short_list(character, word) {
-            Some(list) => composed_list(self, list),
-            None => composed_list_in_table(self, character, word),
-        }
-    }
-
-    fn form_of_one(&self, character: char) -> Option<Members<'_>> {
-        let members = self
-            .characters
-            .members(character, IgnoredCharacters::Dropped);
-        if has_no_second(self.pairs, &members) {
-            Some(members)
-        } else {
-            None
-        }
+    fn form_of_one(&self, character: char) -> Option<FormOfOne<'_>> {
+        composed_list_of_one(self, character)
     }
 
     fn short_form<U: Units>(&self, units: U, buffers: &mut SegmentBuffers) -> bool {

@@ -1,27 +1,21 @@
 //! Segments of the composing form that stay as they are, or become one character.
 ghost use Rattle.std.specs.Prelude.{◌≡◌, ◌≢◌, ◌<◌, ◌≤◌, ◌∷◌, [], drop, length, true, IfOk, IfSome, IsTrue, None, Some};
 ghost use Rattle.normalizer_text.specs.Encodings.{first_in};
-ghost use Rattle.normal_forms.specs.Composition.{compose};
 ghost use Rattle.normal_forms.specs.declared.Form.TheVariants.{Composing};
-ghost use Rattle.normalizer_tables.specs.Characters.{list_of, word_of};
+ghost use Rattle.normalizer_tables.specs.Characters.{word_of};
 ghost use Rattle.normalizer_tables.specs.conditions.PairConditions.{is_composing_passthrough, is_taken_as_boundary};
 ghost use Rattle.normalizer_tables.specs.Readings.{reading_by};
-ghost use Rattle.normalizer_tables.specs.ShortLists.{text_of};
 ghost use Rattle.normalizer_tables.specs.declared.characters.IgnoredCharacters.TheVariants.{Dropped};
-ghost use Rattle.icu_normalizer.specs.inner.Kept.{HasNoSecond, IsFirstOfTwo, IsKeptCharacter, IsKeptStarter};
+ghost use Rattle.icu_normalizer.specs.inner.Kept.{IsFirstOfTwo, IsKeptCharacter, IsKeptStarter};
 ghost use Rattle.icu_normalizer.specs.inner.Kept.{IsMarkAfter, JoinsStarter};
 ghost use Rattle.icu_normalizer.specs.inner.PassthroughRuns.{IsSeenSegment};
 
 use crate::composing_form::ComposingForm;
 use crate::forming::Forming;
 use normalizer_tables::characters::IgnoredCharacters;
+use normalizer_tables::compose;
 use normalizer_tables::members::Members;
-use normalizer_tables::short_list::ShortList;
-use normalizer_tables::{CanonicalCompositions, compose, may_be_second};
 use normalizer_text::{Step, Units};
-
-/// The bits of the word of a list in a table that say how many members it has.
-const LENGTH_BITS: u32 = 0xF;
 
 /// The bits of a word that are 0 if its list is neither two characters nor in a table.
 const HIGH_BITS: u32 = 0x3FFF_0000;
@@ -344,113 +338,4 @@ fn staying_mark(class: u8) -> Option<Mark>
         class,
         joined: None,
     })
-}
-
-/// Returns whether no member of a list after the first is the second of a pair.
-pub(crate) fn has_no_second(pairs: &CanonicalCompositions, members: &Members<'_>) -> bool
-    ensures { IsTrue result → HasNoSecond pairs.now members.now }
-{
-    let mut place = 1;
-    while place < members.len() {
-        if may_be_second(pairs, members.at(place)) {
-            return false;
-        }
-        place += 1;
-    }
-    true
-}
-
-/// Returns what a short list composes to, if no member after the first is the second of a pair, or if there are two.
-#[tactic(auto, unfolding(normalizer_tables::specs::ShortLists::text_of))]
-#[inline(always)]
-pub(crate) fn composed_list(form: &ComposingForm<'_>, list: ShortList) -> Option<ShortList>
-    ensures { IfSome result (λ made. compose (reading_by form.now.characters Dropped form.now.pairs.now) (text_of list)
-        ≡ text_of made) }
-{
-    match list {
-        ShortList::One(_) => Some(list),
-        ShortList::Two(first, second) => {
-            if may_be_second(form.pairs, second) {
-                return composed_two(form, first, second);
-            }
-            Some(list)
-        }
-        ShortList::Three(_, second, third) => {
-            if may_be_second(form.pairs, second) || may_be_second(form.pairs, third) {
-                return None;
-            }
-            Some(list)
-        }
-    }
-}
-
-/// Returns what the list of a character composes to, if the word says that it may have two or four members in a table,
-/// and it has, and what they compose to is known.
-pub(crate) fn composed_list_in_table(
-    form: &ComposingForm<'_>,
-    character: char,
-    word: u32,
-) -> Option<ShortList>
-    requires { word ≡ word_of form.now.characters character }
-    ensures { IfSome result (λ made. compose (reading_by form.now.characters Dropped form.now.pairs.now)
-        (list_of form.now.characters [] character) ≡ text_of made) }
-{
-    if !may_have_two_or_four_members(word) {
-        return None;
-    }
-    let members = form
-        .characters
-        .members_by(character, word, IgnoredCharacters::Dropped);
-    match members.len() {
-        2 => composed_two(form, members.at(0), members.at(1)),
-        4 => composed_middle(
-            form,
-            members.at(0),
-            members.at(1),
-            members.at(2),
-            members.at(3),
-        ),
-        _ => None,
-    }
-}
-
-/// Returns whether a list in a table may have two or four members, by the word.
-#[inline(always)]
-fn may_have_two_or_four_members(word: u32) -> bool {
-    matches!(word & LENGTH_BITS, 0 | 2)
-}
-
-/// Returns what four characters compose to, if only the two in the middle do, as a syllable in parentheses.
-#[tactic(auto, unfolding(normalizer_tables::specs::ShortLists::text_of))]
-fn composed_middle(
-    form: &ComposingForm<'_>,
-    first: char,
-    second: char,
-    third: char,
-    fourth: char,
-) -> Option<ShortList>
-    ensures { IfSome result (λ made. compose (reading_by form.now.characters Dropped form.now.pairs.now)
-        (first ∷ second ∷ third ∷ fourth ∷ []) ≡ text_of made) }
-{
-    if may_be_second(form.pairs, second) || may_be_second(form.pairs, fourth) {
-        return None;
-    }
-    if form.characters.class_of(second) != 0 {
-        return None;
-    }
-    let composite = compose(form.pairs, second, third)?;
-    Some(ShortList::Three(first, composite, fourth))
-}
-
-/// Returns what two characters compose to, unless they compose and the first is no starter.
-#[tactic(auto, unfolding(normalizer_tables::specs::ShortLists::text_of))]
-fn composed_two(form: &ComposingForm<'_>, first: char, second: char) -> Option<ShortList>
-    ensures { IfSome result (λ made. compose (reading_by form.now.characters Dropped form.now.pairs.now)
-        (first ∷ second ∷ []) ≡ text_of made) }
-{
-    match compose(form.pairs, first, second) {
-        None => Some(ShortList::Two(first, second)),
-        Some(composite) if form.characters.class_of(first) == 0 => Some(ShortList::One(composite)),
-        Some(_) => None,
-    }
 }

@@ -45,6 +45,7 @@ mod composition;
 mod decomposing_form;
 mod decomposing_normalizer;
 mod decomposition;
+mod form_of_one;
 mod forming;
 pub mod harfbuzz;
 mod held_forms;

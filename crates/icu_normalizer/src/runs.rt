@@ -645,12 +645,12 @@ fn passed_by<U: Units, N: Forming>(normalizer: &N, units: U, run: Run) -> Passed
     }
 }
 
-/// Returns what is seen of what comes after a run.
+/// Returns what is seen of what comes after a run. In a decomposing form only the order of marks is told.
 #[inline(always)]
 fn seen_after<N: Forming>(normalizer: &N, run: Run) -> Next {
     match run.next {
         _ if run.is_unordered => Next::Unordered,
-        Some(next) if normalizer.begins(next.character) => Next::Changed,
+        Some(next) if normalizer.holds_back() && normalizer.begins(next.character) => Next::Changed,
         _ => Next::Unknown,
     }
 }

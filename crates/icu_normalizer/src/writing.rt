@@ -7,11 +7,13 @@ ghost use Rattle.normalizer_text.specs.Encodings.{first_in};
 ghost use Rattle.normalizer_iterators.specs.Items.{SpellsOk, SpellsUnless};
 ghost use Rattle.normalizer_iterators.specs.CharactersLeft.{characters_left};
 ghost use Rattle.icu_normalizer.specs.Forms.{form_in, HasShortUnits};
+ghost use Rattle.icu_normalizer.specs.inner.FormsOfOne.{text_of_one};
 ghost use Rattle.icu_normalizer.specs.inner.Offences.{IsFirstOrNone};
 ghost use Rattle.icu_normalizer.specs.inner.PassthroughRuns.{IsComposite, IsSegmentEnd};
 ghost use Rattle.icu_normalizer.specs.Writing.{TellsLengthFirst};
 ghost use Rattle.icu_normalizer.specs.inner.WrittenParts.{NothingOffered, WritesPart, WritesText, WritesUnits};
 
+use crate::form_of_one::FormOfOne;
 use crate::forming::Forming;
 use crate::runs::{Composite, Kept, Segment, first_step, front_segment, kept_end};
 use normalizer_iterators::{MarkRun, NormalizeError, SegmentBuffers};
@@ -52,6 +54,25 @@ where
         Some(Ok(first)) => Ok(Some(first)),
         Some(Err(fault)) => Err(fault),
         None => Ok(None),
+    }
+}
+
+/// Writes the form of one character.
+#[tactic(auto, unfolding(crate::specs::inner::FormsOfOne::text_of_one))]
+#[inline(always)]
+fn write_form_of_one<U: Units, O: Output<U>>(
+    form: FormOfOne<'_>,
+    output: &mut O,
+) -> Result<(), NormalizeError>
+    ensures text { WritesText U.encoding O.Output NothingOffered (text_of_one form.entry) output.old result output.new }
+    ensures room { ¬ IsErrOf result NormalizeError.Memory }
+{
+    match form {
+        FormOfOne::Short(list) => write_short::<U, O>(list, output),
+        FormOfOne::Four(first, second, third, fourth) => {
+            write_text::<U, O>(&[first, second, third, fourth], output)
+        }
+        FormOfOne::Listed(members) => write_members::<U, O>(&members, output),
     }
 }
 
@@ -166,11 +187,8 @@ fn write_segment<U: Units, N: Forming, O: Output<U>>(
         return write_text::<U, O>(&[character], output);
     }
     if first.width == units.len() {
-        if let Some(list) = normalizer.short_list(first.character) {
-            return write_short::<U, O>(list, output);
-        }
-        if let Some(members) = normalizer.form_of_one(first.character) {
-            return write_members::<U, O>(&members, output);
+        if let Some(form) = normalizer.form_of_one(first.character) {
+            return write_form_of_one::<U, O>(form, output);
         }
     }
     if normalizer.short_form(units, buffers) {

@@ -1,3 +1,4 @@
+pub mod BufferRoom
 pub mod ByClass
 pub mod Composing
 pub mod ComposingInPlace

@@ -1,18 +1,21 @@
 //! Decomposing text character by character (The Unicode Standard, D118 and D119).
-ghost use Rattle.std.specs.Prelude.{◌≡◌, ℕ, List, [], None, false, Ok, IfOk, IfErr, IfSome, OnOk, OnErr, IsOk};
+ghost use Rattle.std.specs.Prelude.{◌≡◌, ℕ, List, [], None, Some, drop, slice_get, false, Ok, IfOk, IfErr, IfSome, OnOk, OnErr, IsOk};
 ghost use Rattle.std.specs.Prelude.{IsTrue, length, ◌≤◌};
 ghost use Rattle.std.specs.Option.{ForSome};
 ghost use Rattle.std.specs.Iterator.{at_most, IsFinite, MakesProgress};
 ghost use Rattle.normal_forms.specs.Forms.{nfd};
 ghost use Rattle.normal_forms.specs.ShortRuns.{continues};
-ghost use Rattle.normalizer_tables.specs.Characters.{class_of, has_class_form, characters_from};
+ghost use Rattle.normal_forms.specs.Order.{order};
+ghost use Rattle.normal_forms.specs.Reading.{Reading};
+ghost use Rattle.normalizer_tables.specs.Characters.{class_of, has_class_form, characters_from, list_of};
+ghost use Rattle.normalizer_tables.specs.Ignored.{ignored_list};
 ghost use Rattle.normalizer_tables.specs.conditions.NfdData.{IsSoundNfdData};
 ghost use Rattle.normalizer_tables.specs.Readings.{reading_by};
 ghost use Rattle.normalizer_tables.specs.declared.characters.IgnoredCharacters.TheVariants.{Dropped};
 ghost use Rattle.normalizer_text.specs.DecodingSteps.{Spells};
 ghost use Rattle.normalizer_iterators.specs.Delegate.{HasRead, IsReadyAfter, MayYield};
 ghost use Rattle.normalizer_iterators.specs.Iterating.{YieldsFormBy};
-ghost use Rattle.normalizer_iterators.specs.LazyReading.{SuitsLazyReading};
+ghost use Rattle.normalizer_iterators.specs.LazyReading.{HasClassesFrom, SuitsLazyReading};
 ghost use Rattle.normalizer_iterators.specs.NextItem.{IsFormOfSource};
 ghost use Rattle.normalizer_iterators.specs.WaitingList.{AgreesWith, ordered_text, unordered_text};
 ghost use Rattle.normalizer_iterators.specs.Waiting.{HasClassesOf};
@@ -23,7 +26,7 @@ ghost use Rattle.normalizer_iterators.specs.ComposingInPlace.{ComposesInPlace};
 
 use crate::error::NormalizeError;
 use crate::pending::{PendingChar, read_from};
-use crate::reading::{first_of_list, is_at_boundary, read_on};
+use crate::reading::{first_of_list, hold_short, is_at_boundary, read_on, short_of};
 use crate::waiting::{ClassedChar, WaitingList};
 use normalizer_tables::characters::{CharacterData, IgnoredCharacters, Purpose};
 use normalizer_tables::condition::GREATEST_BOUNDS;
@@ -157,6 +160,11 @@ impl<'data, I: Iterator<Item = char> + Drop> Decomposition<'data, I> {
             self.pending = following;
             return Ok(member);
         }
+        let (characters, waiting) = (&self.characters, &mut self.waiting);
+        if let Some(first) = short_chunk(characters, self.ignored, read, following, waiting) {
+            self.pending = following;
+            return Ok(first);
+        }
         match read_chunk(
             &self.characters,
             self.ignored,
@@ -231,6 +239,68 @@ fn whole_chunk(
     } else {
         None
     }
+}
+
+/// The first member of a list of one or two in a table, if a boundary follows its character; the other one is buffered, in
+/// place of what is. If there is none, what is buffered is unspecified.
+#[inline(always)]
+fn short_chunk(
+    characters: &CharacterData<'_>,
+    ignored: IgnoredCharacters,
+    read: PendingChar,
+    following: Option<PendingChar>,
+    waiting: &mut WaitingList,
+) -> Option<char>
+    requires word { HasOwnWord characters.now read }
+    requires words { HasOwnWords characters.now following }
+    ensures first { IfSome result (λ c.
+        Some c ≡ slice_get (list_of characters.now (ignored_list ignored) read.character) 0) }
+    ensures text { IfSome result (λ _. (d : Reading) → HasClassesFrom characters.now d → ordered_text waiting.new
+        ≡ order d (drop 1 (list_of characters.now (ignored_list ignored) read.character))) }
+    ensures settled { IfSome result (λ _. unordered_text waiting.new ≡ []) }
+    ensures classes { IfSome result (λ _. AgreesWith (reading_by characters.now ignored []) waiting.new) }
+    ensures at_boundary { IfSome result (λ _. IfSome (character_of following) (λ c.
+        continues (has_class_form characters.now) (reading_by characters.now ignored []) c ≡ false)) }
+{
+    if read.has_short_list_in_table() {
+        listed_chunk(characters, ignored, read, following, waiting)
+    } else {
+        None
+    }
+}
+
+/// The same of a list that may be longer. It isn't inlined, so that the loop over other characters stays short.
+#[inline(never)]
+fn listed_chunk(
+    characters: &CharacterData<'_>,
+    ignored: IgnoredCharacters,
+    read: PendingChar,
+    following: Option<PendingChar>,
+    waiting: &mut WaitingList,
+) -> Option<char>
+    requires word { HasOwnWord characters.now read }
+    requires words { HasOwnWords characters.now following }
+    ensures first { IfSome result (λ c.
+        Some c ≡ slice_get (list_of characters.now (ignored_list ignored) read.character) 0) }
+    ensures text { IfSome result (λ _. (d : Reading) → HasClassesFrom characters.now d → ordered_text waiting.new
+        ≡ order d (drop 1 (list_of characters.now (ignored_list ignored) read.character))) }
+    ensures settled { IfSome result (λ _. unordered_text waiting.new ≡ []) }
+    ensures classes { IfSome result (λ _. AgreesWith (reading_by characters.now ignored []) waiting.new) }
+    ensures at_boundary { IfSome result (λ _. IfSome (character_of following) (λ c.
+        continues (has_class_form characters.now) (reading_by characters.now ignored []) c ≡ false)) }
+{
+    if !is_at_boundary(characters, ignored, following) {
+        return None;
+    }
+    let members = read.members(characters, ignored);
+    let list = short_of(&members)?;
+    let Ok(()) = hold_short(characters, list, waiting) else {
+        return None;
+    };
+    let Ok(()) = waiting.put_in_order() else {
+        return None;
+    };
+    Some(list.first())
 }
 
 /// The first member of the list of a character after a boundary; the others are buffered, with the lists of the

@@ -21,6 +21,9 @@ const PLAIN: u32 = 0x3FFF_FFFF;
 /// The bits of a word that are all 0 if its list is neither two characters nor in a table.
 const HIGH: u32 = 0x3FFF_0000;
 
+/// The bits of a word that are all 0 if its list is in a table and as short as one can be there.
+const LOW: u32 = 0xFFFF;
+
 /// In place of the word of a character that is passthrough: it is plain, as that of such a character.
 const PASSTHROUGH: u32 = 0xC000_0000;
 
@@ -138,6 +141,12 @@ impl PendingChar {
             Some(ShortList::One(member)) => Some(member),
             _ => None,
         }
+    }
+
+    /// Whether its word says that its list is in a table, and has one or two members. It says nothing of other lists.
+    #[inline(always)]
+    pub(crate) fn has_short_list_in_table(self) -> bool {
+        self.word & LOW == 0 && self.word & HIGH != 0
     }
 
     /// The list of the character, if it is held in registers. `None` says nothing.

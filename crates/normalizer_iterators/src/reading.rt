@@ -140,7 +140,7 @@ fn hold_others(
 /// Buffers the characters of a list after the first, in place of what is buffered.
 #[tactic(auto, unfolding(normalizer_tables::specs::ShortLists::text_of, crate::specs::WaitingList::reordered_text))]
 #[inline(always)]
-fn hold_short(
+pub(crate) fn hold_short(
     characters: &CharacterData<'_>,
     list: ShortList,
     waiting: &mut WaitingList,
@@ -201,7 +201,7 @@ pub(crate) fn first_of_list(
 /// The members of a list, if there are one, two or three.
 #[tactic(auto, unfolding(normalizer_tables::specs::ShortLists::text_of))]
 #[inline(always)]
-fn short_of(members: &Members<'_>) -> Option<ShortList>
+pub(crate) fn short_of(members: &Members<'_>) -> Option<ShortList>
     ensures { IfSome result (λ list. members.now ≡ text_of list) }
 {
     match members.len() {

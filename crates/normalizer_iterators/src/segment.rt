@@ -28,8 +28,11 @@ use normalizer_text::{Step, Units};
 mod ordered_text;
 mod short_text;
 
+/// How many characters the buffers hold.
+pub(crate) const ROOM: usize = 32;
+
 /// Buffers for the normal forms of short texts, which are used again for each text. A form fits if it is made of lists
-/// that have at most 17 characters together. No memory is taken.
+/// that have at most 17 characters together, and mostly up to 32. No memory is taken.
 #[derive(Drop)]
 pub struct SegmentBuffers {
     ordered: OrderedText,

@@ -218,23 +218,31 @@ ReadsChunk-from from f d c first members delegate next b new pending is there he
   fewer = r.fewer;
 }
 
--- the one member of a list is a chunk if a boundary follows the character
-pub ReadsChunk-alone : {I : Type 0} (from : Source I) (f : ℕ → Bool) (d : Reading) (c member : ℕ) (delegate next : I) (following : Option ℕ)
-    (w : WaitingList) → IsWholeChunk f d c member following → HasRead from.next_gives from.remaining delegate following next → IsReadyAfter from.can_next from.remaining following next → ordered_text w ≡ [] → unordered_text w ≡ []
-    → ReadsChunk from f d c delegate member following next w
+-- a list alone is a chunk if a boundary follows the character
+pub ReadsChunk-list : {I : Type 0} (from : Source I) (f : ℕ → Bool) (d : Reading) (c first : ℕ) (members : List ℕ) (delegate next : I) (following : Option ℕ)
+    (w : WaitingList) → members ≡ d.list c → Some first ≡ slice_get members 0 → IfSome following (λ b. continues f d b ≡ false)
+    → HasRead from.next_gives from.remaining delegate following next → IsReadyAfter from.can_next from.remaining following next → ordered_text w ≡ order d (drop 1 members) → unordered_text w ≡ []
+    → ReadsChunk from f d c delegate first following next w
 unfolding expand
-ReadsChunk-alone from f d c member delegate next following w alone read ready front open_marks = record {
-  others = [];
-  members = alone.list;
+ReadsChunk-list from f d c first members delegate next following w is there at_boundary read ready front open_marks = record {
+  others = drop 1 members;
+  members = sym is ∙ drop_member members 0 first there;
   read = [];
   run = (delegate, refl, read.step);
   continuing = All-nil (λ b. continues f d b ≡ true);
-  at_boundary = alone.at_boundary;
-  text = front ∙ sym (order-nil d);
+  at_boundary = at_boundary;
+  text = front ∙ ap (order d) (sym (append-nil (drop 1 members)));
   settled = open_marks;
   ready = ready;
   fewer = nearer_end following (size (from.remaining next)) 0 (size (from.remaining delegate)) (size (from.remaining delegate)) (omega arith) read.nearer;
 }
+
+-- the one member of a list is one
+pub ReadsChunk-alone : {I : Type 0} (from : Source I) (f : ℕ → Bool) (d : Reading) (c member : ℕ) (delegate next : I) (following : Option ℕ)
+    (w : WaitingList) → IsWholeChunk f d c member following → HasRead from.next_gives from.remaining delegate following next → IsReadyAfter from.can_next from.remaining following next → ordered_text w ≡ [] → unordered_text w ≡ []
+    → ReadsChunk from f d c delegate member following next w
+ReadsChunk-alone from f d c member delegate next following w alone read ready front open_marks =
+    ReadsChunk-list from f d c member (member ∷ []) delegate next following w (sym alone.list) refl alone.at_boundary read ready (front ∙ sym (order-nil d)) open_marks
 
 pub ChunkDidNotFit-members : {I : Type 0} (gives : I → Option ℕ → I → Type 0) (f : ℕ → Bool) (d : Reading) (c : ℕ) (members : List ℕ) (delegate : I) → members ≡ d.list c
     → buffer_limit + 1 < length members → ChunkDidNotFit gives f d c delegate

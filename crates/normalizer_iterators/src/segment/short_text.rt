@@ -5,23 +5,24 @@ ghost use Rattle.std.specs.Prelude.{IfSome, IsTrue, None, Some};
 ghost use Rattle.std.specs.Option.{ForSome};
 ghost use Rattle.normal_forms.specs.Reading.{Reading};
 ghost use Rattle.normal_forms.specs.CompositionByStarters.{compose_by_starters};
-ghost use Rattle.normal_forms.specs.ShortRuns.{buffer_limit};
+ghost use Rattle.normalizer_iterators.specs.BufferRoom.{buffer_room};
 
 use crate::pairs::compose;
-use crate::waiting::{BUFFER_LIMIT, ClassedChar};
+use crate::segment::ROOM;
+use crate::waiting::ClassedChar;
 use normalizer_tables::CanonicalCompositions;
 
-/// A text of at most `BUFFER_LIMIT` characters.
+/// A text of at most `ROOM` characters.
 #[derive(Drop)]
 pub(crate) struct ShortText {
-    characters: [char; BUFFER_LIMIT],
+    characters: [char; ROOM],
     len: usize,
     /// The place of the last starter, if one was added.
     starter: Option<usize>,
     /// The lowest class that no mark after that starter blocks (D115).
     unblocked: u16,
-    ghost whole: { length characters ≡ buffer_limit },
-    ghost within: { len ≤ buffer_limit },
+    ghost whole: { length characters ≡ buffer_room },
+    ghost within: { len ≤ buffer_room },
     ghost starter_within: { ForSome starter (λ place. place < len) },
 }
 
@@ -34,7 +35,7 @@ impl ShortText {
         ensures { so_far result ≡ [] }
     {
         ShortText {
-            characters: ['\0'; BUFFER_LIMIT],
+            characters: ['\0'; ROOM],
             len: 0,
             starter: None,
             unblocked: 0,
@@ -69,10 +70,10 @@ impl ShortText {
         ensures text { IsTrue result → so_far self.new ≡ so_far self.old ++ character ∷ [] }
         ensures starter { self.new.starter ≡ self.old.starter }
         ensures unblocked { self.new.unblocked ≡ self.old.unblocked }
-        ensures room { self.old.len < buffer_limit → IsTrue result }
+        ensures room { self.old.len < buffer_room → IsTrue result }
         ensures len { IsTrue result → self.new.len ≡ self.old.len + 1 }
     {
-        if self.len >= BUFFER_LIMIT {
+        if self.len >= ROOM {
             return false;
         }
         self.characters[self.len] = character;
@@ -88,7 +89,7 @@ impl ShortText {
             given.character d → BlocksBelow d self.old → Adds d given.character self.old self.new }
         ensures blocking { IsTrue result → (d : Reading) → given.class ≡ d.class given.character →
             BlocksBelow d self.old → BlocksBelow d self.new }
-        ensures room { self.old.len < buffer_limit → IsTrue result }
+        ensures room { self.old.len < buffer_room → IsTrue result }
         ensures len { IsTrue result → self.new.len ≤ self.old.len + 1 }
     {
         match self.joined(pairs, given) {
@@ -122,7 +123,7 @@ impl ShortText {
             join_last d self.old given.character ≡ None → Adds d given.character self.old self.new }
         ensures blocking { IsTrue result → (d : Reading) → given.class ≡ d.class given.character →
             BlocksBelow d self.old → BlocksBelow d self.new }
-        ensures room { self.old.len < buffer_limit → IsTrue result }
+        ensures room { self.old.len < buffer_room → IsTrue result }
         ensures len { IsTrue result → self.new.len ≤ self.old.len + 1 }
     {
         let place = self.len;

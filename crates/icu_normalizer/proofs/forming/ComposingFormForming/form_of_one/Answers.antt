@@ -1,10 +1,10 @@
-use Rattle.std.proofs.Common.{subst, sym, ◌∙◌}
-use Rattle.icu_normalizer.specs.inner.Kept.{HasNoSecond}
-use Rattle.icu_normalizer.proofs.segments.ApartLemmas.{form_of_apart}
+use Rattle.std.proofs.Common.{◌≡◌, subst, sym}
+use Rattle.std.specs.Prelude.{IfSome}
+use Rattle.icu_normalizer.specs.inner.FormsOfOne.{text_of_one}
+use Rattle.icu_normalizer.proofs.segments.ApartLemmas.{form_of_list}
 use Rattle.icu_normalizer.proofs.forming.ComposingFormForming.form_of_one.Goals as goal
 
-pub returns-then-has_no_second : goal.returns-then-has_no_second
-returns-then-has_no_second c =
-    c.members-members.ensures
-    ∙ sym (form_of_apart _ _ _ c.args.self.now.serves c.args.character c.ranges.character.0
-    (subst (HasNoSecond c.args.self.now.pairs.now) c.members-members.ensures (c.has_no_second.ensures c.if-has_no_second.true)))
+pub returns : goal.returns
+returns c =
+    subst (λ x. IfSome c.composed_list_of_one.result (λ form. x ≡ text_of_one form))
+    (sym (form_of_list _ _ _ c.args.self.now.serves c.args.character c.ranges.character.0)) c.composed_list_of_one.ensures

@@ -1,7 +1,7 @@
 use Rattle.std.proofs.Common.{◌≡◌, ℕ, suc, ◌<◌, ◌-◌, Some, length, slice_get}
 use Rattle.std.specs.Prelude.{false}
 use Rattle.normalizer_tables.specs.Pairs.{may_be_second}
-use Rattle.icu_normalizer.proofs.kept.has_no_second.Given as goal
+use Rattle.icu_normalizer.proofs.form_of_one.has_no_second.Given as goal
 
 abbrev pub invariant-loop-place : goal.invariant-loop-place
 invariant-loop-place l = (0 < l.place) × ((i c : ℕ) → suc i < l.place → slice_get l.members (suc i) ≡ Some c → may_be_second l.pairs c ≡ false)

@@ -2,7 +2,7 @@ use Rattle.std.proofs.Common.{◌≡◌, suc, Some, arith, ap, sym, inl, inr, �
 use Rattle.std.proofs.lemmas.Bool.{cases_lt}
 use Rattle.std.proofs.lemmas.Option.{slice_get_within}
 use Rattle.normalizer_tables.specs.Pairs.{may_be_second}
-use Rattle.icu_normalizer.proofs.kept.has_no_second.Goals as goal
+use Rattle.icu_normalizer.proofs.form_of_one.has_no_second.Goals as goal
 
 pub loop-place-init : goal.loop-place-init
 loop-place-init c = (omega arith, λ i m less. absurd (omega (arith, less)))
