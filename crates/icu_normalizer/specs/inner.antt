@@ -2,6 +2,7 @@
 pub mod ComposingClasses
 pub mod FormsOfOne
 pub mod Kept
+pub mod KeptClasses
 pub mod Offences
 pub mod PassingClasses
 pub mod WriteUnlessOwn

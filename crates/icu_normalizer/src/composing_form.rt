@@ -10,7 +10,7 @@ ghost use Rattle.normalizer_tables.specs.declared.characters.IgnoredCharacters.T
 ghost use Rattle.normalizer_iterators.specs.Iterating.{YieldsFormBy};
 ghost use Rattle.icu_normalizer.specs.Serving.{ServesComposing};
 ghost use Rattle.icu_normalizer.specs.inner.ComposingClasses.{composing_class};
-ghost use Rattle.icu_normalizer.specs.inner.PassingClasses.{Say};
+ghost use Rattle.icu_normalizer.specs.inner.KeptClasses.{Say};
 
 use crate::borrowed::NormalizerBorrowed;
 use crate::passing_classes::PassingClasses;

@@ -10,7 +10,7 @@ ghost use Rattle.icu_normalizer.specs.ComposingAcceptance.{
 ghost use Rattle.icu_normalizer.specs.Normalizers.{data_of};
 ghost use Rattle.icu_normalizer.specs.Serving.{ServesComposing};
 ghost use Rattle.icu_normalizer.specs.inner.ComposingClasses.{composing_class};
-ghost use Rattle.icu_normalizer.specs.inner.PassingClasses.{Say};
+ghost use Rattle.icu_normalizer.specs.inner.KeptClasses.{Say};
 
 use crate::borrowed::{ComposingNormalizerBorrowed, NormalizerBorrowed};
 use crate::composing_form::ComposingForm;
@@ -175,11 +175,12 @@ fn classes_over(
     let bounds = decomposing.bounds;
     let characters = decomposing.characters.as_borrowed(Purpose::Forms);
     let alloc = characters.allocator();
+    let unknown = PassingClasses::unknown(alloc)?;
     let form = ComposingForm {
         characters: characters.with_passthrough_bound(bounds.decomposition),
         pairs,
         bounds,
-        classes: &PassingClasses::none(alloc),
+        classes: &unknown,
     };
     PassingClasses::of(alloc, &form)
 }

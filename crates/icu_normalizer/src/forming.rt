@@ -27,7 +27,6 @@ use crate::composing_form::ComposingForm;
 use crate::decomposing_form::DecomposingForm;
 use crate::form_of_one::{FormOfOne, composed_list_of_one, list_of_one};
 use crate::kept::{SeenSegment, Unseen, seen_segment};
-use crate::passing_classes::UNKNOWN;
 use crate::utf32::{Utf32Chars, yields};
 use crate::word_classes::{
     class_if_backward, is_own_from, is_own_from_by_branches, is_unflagged,
@@ -339,8 +338,7 @@ impl<'a> Forming for ComposingForm<'a> {
 
     #[inline(always)]
     fn branched_class(&self, last: u8, character: char) -> Option<u8> {
-        let class = self.classes.class_of(character);
-        if class != UNKNOWN {
+        if let Some(class) = self.classes.class_of(character) {
             return if class == 0 || last <= class {
                 Some(class)
             } else {

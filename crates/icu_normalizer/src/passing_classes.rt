@@ -1,14 +1,15 @@
 //! The classes with which characters pass, a byte each: two loads say what words and pairs say together.
-ghost use Rattle.std.specs.Prelude.{◌≡◌, ◌+◌, ◌*◌, ◌<◌, ℕ, true, length, take, IfOk, IsTrue, Option};
+ghost use Rattle.std.specs.Prelude.{◌≡◌, ◌+◌, ◌*◌, ◌^◌, ◌<◌, ◌≤◌, ℕ, true, length, take, slice_get};
+ghost use Rattle.std.specs.Prelude.{IfOk, IfSome, IsTrue, Option, Some};
 ghost use Rattle.normalizer_sets.specs.CharacterSets.{has};
-ghost use Rattle.icu_normalizer.specs.inner.PassingClasses.{AreOfBlock, IsKnown, IsPut, Say};
+ghost use Rattle.icu_normalizer.specs.inner.PassingClasses.{AreOfBlock, IsKnown, IsPut};
 
 use crate::forming::Forming;
 use normalizer_sets::CharacterSet;
 use std::alloc::{AllocError, Global};
 
 /// The byte of a character whose class isn't known.
-pub(crate) const UNKNOWN: u8 = 255;
+const UNKNOWN: u8 = 255;
 
 /// How many code points have their bytes in one block.
 const BLOCK: usize = 64;
@@ -23,20 +24,27 @@ const PLANE: usize = 1024;
 #[derive(Drop)]
 pub(crate) struct PassingClasses {
     /// The beginning of the block of each 64 code points.
-    starts: Vec<u16>,
+    starts: Vec<u32>,
     /// The bytes of blocks. The first one is there once.
     bytes: Vec<u8>,
+    ghost all: { length starts.items ≡ 2048 },
+    ghost within: { (k start : ℕ) → slice_get starts.items k ≡ Some start → start + 64 ≤ length bytes.items },
 }
 
 impl PassingClasses {
+    ghost use Rattle.icu_normalizer.specs.inner.KeptClasses.{Say};
+
     /// Makes the classes of no character.
-    pub(crate) fn none(alloc: Global) -> PassingClasses
-        ensures { (passed : ℕ → Option ℕ) → Say passed result }
+    ///
+    /// # Errors
+    /// If an allocation failed.
+    pub(crate) fn unknown(alloc: Global) -> Result<PassingClasses, AllocError>
+        ensures { IfOk result (λ made. (passed : ℕ → Option ℕ) → Say passed made) }
     {
-        PassingClasses {
-            starts: Vec::new(alloc),
-            bytes: Vec::new(alloc),
-        }
+        Ok(PassingClasses {
+            starts: Vec::from_elem(alloc, 0, BLOCKS)?,
+            bytes: Vec::from_elem(alloc, UNKNOWN, BLOCK)?,
+        })
     }
 
     /// Makes the classes with which characters pass in a form.
@@ -53,27 +61,24 @@ impl PassingClasses {
         let mut bytes = Vec::new(alloc);
         for block in 0..BLOCKS {
             let start = put_block(&mut bytes, &classes_of_block(normalizer, block))?;
-            let Ok(start) = u16::try_from(start) else {
-                break;
-            };
             starts.push(start)?;
         }
         Ok(PassingClasses { starts, bytes })
     }
 
-    /// Returns the class with which a character passes, or `UNKNOWN`.
+    /// Returns the class with which a character passes, if it is known.
     #[inline(always)]
-    pub(crate) fn class_of(&self, character: char) -> u8
-        ensures { (passed : ℕ → Option ℕ) → Say passed self.now → IsKnown passed character result }
+    pub(crate) fn class_of(&self, character: char) -> Option<u8>
+        ensures { (passed : ℕ → Option ℕ) → Say passed self.now →
+            IfSome result (λ class. passed character ≡ Some class) }
     {
         let number = character as usize;
-        let Some(start) = self.starts.get(number / BLOCK) else {
-            return UNKNOWN;
-        };
-        match self.bytes.get(*start as usize + number % BLOCK) {
-            Some(class) => *class,
-            None => UNKNOWN,
+        if number >= BLOCK * BLOCKS {
+            return None;
         }
+        let start = self.starts[number / BLOCK] as usize;
+        let class = self.bytes[start + number % BLOCK];
+        if class == UNKNOWN { None } else { Some(class) }
     }
 }
 
@@ -132,14 +137,15 @@ fn known_class<N: Forming>(normalizer: &N, number: u32) -> u8
 }
 
 /// Returns the place of a block among bytes. It is added, unless they begin with the same.
-fn put_block(bytes: &mut Vec<u8>, block: &[u8]) -> Result<usize, AllocError>
-    requires { length block.now ≡ 64 }
+fn put_block(bytes: &mut Vec<u8>, block: &[u8]) -> Result<u32, AllocError>
+    requires block { length block.now ≡ 64 }
+    requires place { length bytes.old.items < 2 ^ 32 }
     ensures { IfOk result (IsPut bytes.old.items block.now bytes.new.items) }
 {
     if begins_with(bytes, block) {
         return Ok(0);
     }
-    let start = bytes.len();
+    let start = bytes.len() as u32;
     bytes.extend_from_slice(block)?;
     Ok(start)
 }

@@ -412,6 +412,10 @@ fn with_one_more<U: Units, N: Forming>(
     ensures passes { IfSome result (GoesOn (N.passthrough_class normalizer.now) U.encoding (U.units units) run) }
     ensures end { IfSome result (λ longer. run.end < longer.end) }
 {
+    // Tested before anything else, so that well-formed steps aren't tested at all once this is inlined.
+    if step.is_error {
+        return None;
+    }
     if (step.character as u32) < normalizer.passing().first_missing() {
         return Some(with_low(normalizer, units, with_step(run, step, 0)));
     }

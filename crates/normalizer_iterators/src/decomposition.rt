@@ -20,7 +20,7 @@ ghost use Rattle.normalizer_iterators.specs.NextItem.{IsFormOfSource};
 ghost use Rattle.normalizer_iterators.specs.WaitingList.{AgreesWith, ordered_text, unordered_text};
 ghost use Rattle.normalizer_iterators.specs.Waiting.{HasClassesOf};
 ghost use Rattle.normalizer_iterators.specs.Reads.{character_of, HasOwnWord, HasOwnWords};
-ghost use Rattle.normalizer_iterators.specs.inner.ReadingOn.{ReadsChunkAfter, ChunkDidNotFitAfter, IsWholeChunk};
+ghost use Rattle.normalizer_iterators.specs.inner.ReadingOn.{ReadsChunkAfter, ChunkDidNotFitAfter, IsShortChunk};
 ghost use Rattle.normalizer_iterators.specs.inner.ReadingOn.{HasYieldedLongBy, IfShortRuns};
 ghost use Rattle.normalizer_iterators.specs.ComposingInPlace.{ComposesInPlace};
 
@@ -30,6 +30,7 @@ use crate::reading::{first_of_list, hold_short, is_at_boundary, read_on, short_o
 use crate::waiting::{ClassedChar, WaitingList};
 use normalizer_tables::characters::{CharacterData, IgnoredCharacters, Purpose};
 use normalizer_tables::condition::GREATEST_BOUNDS;
+use normalizer_tables::short_list::ShortList;
 use normalizer_tables::{CanonicalCompositions, DecompositionData, DecompositionTables};
 use std::alloc::AllocError;
 
@@ -156,10 +157,6 @@ impl<'data, I: Iterator<Item = char> + Drop> Decomposition<'data, I> {
             (character_of following) e self.new) }
         ensures kept { (self.new.characters ≡ self.old.characters) × (self.new.ignored ≡ self.old.ignored) }
     {
-        if let Some(member) = whole_chunk(&self.characters, self.ignored, read, following) {
-            self.pending = following;
-            return Ok(member);
-        }
         let (characters, waiting) = (&self.characters, &mut self.waiting);
         if let Some(first) = short_chunk(characters, self.ignored, read, following, waiting) {
             self.pending = following;
@@ -220,29 +217,8 @@ impl<'data, I: Iterator<Item = char> + Drop> Decomposition<'data, I> {
     }
 }
 
-/// The member of the list of a character, if that is known to have one, and a boundary follows the character.
-#[inline(always)]
-fn whole_chunk(
-    characters: &CharacterData<'_>,
-    ignored: IgnoredCharacters,
-    read: PendingChar,
-    following: Option<PendingChar>,
-) -> Option<char>
-    requires word { HasOwnWord characters.now read }
-    requires words { HasOwnWords characters.now following }
-    ensures { IfSome result (λ member. IsWholeChunk (has_class_form characters.now)
-        (reading_by characters.now ignored []) read.character member (character_of following)) }
-{
-    let member = read.one_member(characters, ignored)?;
-    if is_at_boundary(characters, ignored, following) {
-        Some(member)
-    } else {
-        None
-    }
-}
-
-/// The first member of a list of one or two in a table, if a boundary follows its character; the other one is buffered, in
-/// place of what is. If there is none, what is buffered is unspecified.
+/// The first member of a list that is seen to have one or two, if a boundary follows its character; the other one is
+/// buffered. If there is none, what is buffered is unspecified.
 #[inline(always)]
 fn short_chunk(
     characters: &CharacterData<'_>,
@@ -251,17 +227,21 @@ fn short_chunk(
     following: Option<PendingChar>,
     waiting: &mut WaitingList,
 ) -> Option<char>
+    requires empty { ordered_text waiting.old ≡ [] }
+    requires settled { unordered_text waiting.old ≡ [] }
+    requires classes { AgreesWith (reading_by characters.now ignored []) waiting.old }
     requires word { HasOwnWord characters.now read }
     requires words { HasOwnWords characters.now following }
-    ensures first { IfSome result (λ c.
-        Some c ≡ slice_get (list_of characters.now (ignored_list ignored) read.character) 0) }
-    ensures text { IfSome result (λ _. (d : Reading) → HasClassesFrom characters.now d → ordered_text waiting.new
-        ≡ order d (drop 1 (list_of characters.now (ignored_list ignored) read.character))) }
-    ensures settled { IfSome result (λ _. unordered_text waiting.new ≡ []) }
-    ensures classes { IfSome result (λ _. AgreesWith (reading_by characters.now ignored []) waiting.new) }
-    ensures at_boundary { IfSome result (λ _. IfSome (character_of following) (λ c.
-        continues (has_class_form characters.now) (reading_by characters.now ignored []) c ≡ false)) }
+    ensures { IfSome result (λ first. IsShortChunk (has_class_form characters.now)
+        (reading_by characters.now ignored []) read.character (character_of following) first waiting.new) }
 {
+    if let Some(member) = read.one_member(characters, ignored) {
+        return if is_at_boundary(characters, ignored, following) {
+            Some(member)
+        } else {
+            None
+        };
+    }
     if read.has_short_list_in_table() {
         listed_chunk(characters, ignored, read, following, waiting)
     } else {
@@ -269,7 +249,7 @@ fn short_chunk(
     }
 }
 
-/// The same of a list that may be longer. It isn't inlined, so that the loop over other characters stays short.
+/// The same of any list of one, two or three. It isn't inlined, so that the loop over other characters stays short.
 #[inline(never)]
 fn listed_chunk(
     characters: &CharacterData<'_>,
@@ -278,22 +258,21 @@ fn listed_chunk(
     following: Option<PendingChar>,
     waiting: &mut WaitingList,
 ) -> Option<char>
+    requires empty { ordered_text waiting.old ≡ [] }
+    requires settled { unordered_text waiting.old ≡ [] }
+    requires classes { AgreesWith (reading_by characters.now ignored []) waiting.old }
     requires word { HasOwnWord characters.now read }
     requires words { HasOwnWords characters.now following }
-    ensures first { IfSome result (λ c.
-        Some c ≡ slice_get (list_of characters.now (ignored_list ignored) read.character) 0) }
-    ensures text { IfSome result (λ _. (d : Reading) → HasClassesFrom characters.now d → ordered_text waiting.new
-        ≡ order d (drop 1 (list_of characters.now (ignored_list ignored) read.character))) }
-    ensures settled { IfSome result (λ _. unordered_text waiting.new ≡ []) }
-    ensures classes { IfSome result (λ _. AgreesWith (reading_by characters.now ignored []) waiting.new) }
-    ensures at_boundary { IfSome result (λ _. IfSome (character_of following) (λ c.
-        continues (has_class_form characters.now) (reading_by characters.now ignored []) c ≡ false)) }
+    ensures { IfSome result (λ first. IsShortChunk (has_class_form characters.now)
+        (reading_by characters.now ignored []) read.character (character_of following) first waiting.new) }
 {
     if !is_at_boundary(characters, ignored, following) {
         return None;
     }
-    let members = read.members(characters, ignored);
-    let list = short_of(&members)?;
+    let list = short_of(&read.members(characters, ignored))?;
+    if let ShortList::One(member) = list {
+        return Some(member);
+    }
     let Ok(()) = hold_short(characters, list, waiting) else {
         return None;
     };

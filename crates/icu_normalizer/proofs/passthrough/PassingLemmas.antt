@@ -1,5 +1,5 @@
 -- The classes with which characters pass, block by block.
-use Rattle.std.proofs.Common.{◌≡◌, ℕ, ◌+◌, ◌*◌, ◌/◌, ◌%◌, ◌<◌, ◌⊎◌, inl, inr, List, [], ◌∷◌, ◌++◌, length, length-append, take, drop, get_or, slice_get, append-nil, arith, sym, ap, subst, ◌∙◌}
+use Rattle.std.proofs.Common.{◌≡◌, ℕ, ◌+◌, ◌*◌, ◌/◌, ◌%◌, ◌<◌, ◌≤◌, ◌⊎◌, inl, inr, List, [], ◌∷◌, ◌++◌, length, length-append, take, drop, get_or, slice_get, append-nil, arith, sym, ap, subst, ◌∙◌}
 use Rattle.std.specs.Prelude.{Option, Some}
 use Rattle.std.proofs.Math.ListN.{replicate}
 use Rattle.std.proofs.Math.Seq.{drop-append_seam, take-length}
@@ -17,14 +17,21 @@ AreOfBlock-starters passed first pass = record {
 
 -- a block that the bytes begin with, and one that is added
 pub IsPut-first : (bytes block : List ℕ) → take 64 bytes ≡ block → IsPut bytes block bytes 0
-IsPut-first bytes block is = record { more = []; longer = sym (append-nil bytes); placed = is }
+IsPut-first bytes block is = record { more = []; longer = sym (append-nil bytes); short = omega arith; placed = is }
 
 pub IsPut-added : (bytes block after : List ℕ) (start : ℕ) → length block ≡ 64 → after ≡ bytes ++ block → start ≡ length bytes → IsPut bytes block after start
 IsPut-added bytes block after start long longer last = record {
   more = block;
   longer = longer;
+  short = omega (arith, long);
   placed = ap (λ l. take 64 (drop start l)) longer ∙ ap (λ n. take 64 (drop n (bytes ++ block))) last ∙ ap (take 64) (drop-append_seam bytes block) ∙ ap (λ n. take n block) (sym long) ∙ take-length block;
 }
+
+-- which element of equal ones it is
+at_replicate : (n x y k : ℕ) → slice_get (replicate n x) k ≡ Some y → y ≡ x
+at_replicate n x y k is =
+    let low : k < n = omega (arith, slice_get_within (replicate n x) k y is, length-replicate {A = ℕ} n x) in
+    sym (get_or_from_slice_get (replicate n x) k y x is) ∙ get_or-replicate {A = ℕ} n k x x low
 
 -- which element of a list with one more it is
 at_push : (xs : List ℕ) (y x k : ℕ) → slice_get (xs ++ y ∷ []) k ≡ Some x → (slice_get xs k ≡ Some x) ⊎ ((k ≡ length xs) × (x ≡ y))
@@ -34,6 +41,13 @@ at_push xs y x k is = elim (cases_lt k (length xs)) [
       let here : k ≡ length xs = omega (arith, slice_get_within (xs ++ y ∷ []) k x is, length_push xs y) in
       inr (here, sym (get_or_from_slice_get (xs ++ y ∷ []) k x x is) ∙ get_or_push xs y x k (sym here))
 ]
+
+-- bytes that say that no class is known
+pub SayClasses-unknown : (passed : ℕ → Option ℕ) (m n : ℕ) → 64 ≤ n → SayClasses passed (replicate m 0) (replicate n 255)
+SayClasses-unknown passed m n long = record {
+  within = λ k start is. omega (arith, long, at_replicate m 0 start k is, length-replicate {A = ℕ} n 255);
+  known = λ c start class _ is low. absurd (omega (arith, low, at_replicate n 255 class (start + c % 64) is));
+}
 
 -- the bytes say no class of no block, and the classes of one block more
 module _ (passed : ℕ → Option ℕ) where

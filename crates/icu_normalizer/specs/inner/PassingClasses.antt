@@ -1,7 +1,6 @@
 -- The classes with which characters are known to pass, as bytes in blocks of 64.
 use Rattle.std.specs.Prelude.{◌≡◌, ℕ, ◌+◌, ◌/◌, ◌%◌, ◌<◌, ◌≤◌, List, ◌++◌, take, drop, length, slice_get}
 use Rattle.std.specs.Prelude.{slice_index_or, Option, Some}
-use Rattle.icu_normalizer.specs.declared.passing_classes.PassingClasses.{PassingClasses}
 
 -- the byte that says that no class is known
 abbrev pub unknown : ℕ
@@ -26,8 +25,5 @@ pub record SayClasses (passed : ℕ → Option ℕ) (starts bytes : List ℕ) : 
 pub record IsPut (before block after : List ℕ) (start : ℕ) : Type 0 where
   pub more : List ℕ
   pub longer : after ≡ before ++ more
+  pub short : length more ≤ 64
   pub placed : take 64 (drop start after) ≡ block
-
--- the same of the classes that are kept
-abbrev pub Say : (ℕ → Option ℕ) → PassingClasses → Type 0
-Say passed c = SayClasses passed c.starts.items c.bytes.items

@@ -11,7 +11,7 @@ use Rattle.normal_forms.specs.ShortRuns.{buffer_limit, continues}
 use Rattle.normal_forms.proofs.ordering.ExpandLemmas.{expand-append}
 use Rattle.normal_forms.proofs.ordering.OrderLemmas.{order-nil}
 use Rattle.normalizer_iterators.specs.Delegate.{HasRead, IsReadyAfter, Source}
-use Rattle.normalizer_iterators.specs.inner.ReadingOn.{ReadsOn, DidNotFit, ReadsChunk, IsWholeChunk, ChunkDidNotFit}
+use Rattle.normalizer_iterators.specs.inner.ReadingOn.{ReadsOn, DidNotFit, ReadsChunk, IsShortChunk, ChunkDidNotFit}
 use Rattle.normalizer_iterators.proofs.reads.LazyLemmas.{Yields-one_more}
 use Rattle.std.proofs.lemmas.Option.{slice_get_cases}
 use Rattle.normal_forms.specs.Reading.{Reading, IsStarter}
@@ -219,30 +219,34 @@ ReadsChunk-from from f d c first members delegate next b new pending is there he
 }
 
 -- a list alone is a chunk if a boundary follows the character
-pub ReadsChunk-list : {I : Type 0} (from : Source I) (f : ℕ → Bool) (d : Reading) (c first : ℕ) (members : List ℕ) (delegate next : I) (following : Option ℕ)
-    (w : WaitingList) → members ≡ d.list c → Some first ≡ slice_get members 0 → IfSome following (λ b. continues f d b ≡ false)
-    → HasRead from.next_gives from.remaining delegate following next → IsReadyAfter from.can_next from.remaining following next → ordered_text w ≡ order d (drop 1 members) → unordered_text w ≡ []
+pub ReadsChunk-short : {I : Type 0} (from : Source I) (f : ℕ → Bool) (d : Reading) (c first : ℕ) (delegate next : I) (following : Option ℕ)
+    (w : WaitingList) → IsShortChunk f d c following first w → HasRead from.next_gives from.remaining delegate following next → IsReadyAfter from.can_next from.remaining following next
     → ReadsChunk from f d c delegate first following next w
 unfolding expand
-ReadsChunk-list from f d c first members delegate next following w is there at_boundary read ready front open_marks = record {
-  others = drop 1 members;
-  members = sym is ∙ drop_member members 0 first there;
+ReadsChunk-short from f d c first delegate next following w chunk read ready = record {
+  others = chunk.others;
+  members = chunk.list;
   read = [];
   run = (delegate, refl, read.step);
   continuing = All-nil (λ b. continues f d b ≡ true);
-  at_boundary = at_boundary;
-  text = front ∙ ap (order d) (sym (append-nil (drop 1 members)));
-  settled = open_marks;
+  at_boundary = chunk.at_boundary;
+  text = chunk.text ∙ ap (order d) (sym (append-nil chunk.others));
+  settled = chunk.settled;
   ready = ready;
   fewer = nearer_end following (size (from.remaining next)) 0 (size (from.remaining delegate)) (size (from.remaining delegate)) (omega arith) read.nearer;
 }
 
--- the one member of a list is one
-pub ReadsChunk-alone : {I : Type 0} (from : Source I) (f : ℕ → Bool) (d : Reading) (c member : ℕ) (delegate next : I) (following : Option ℕ)
-    (w : WaitingList) → IsWholeChunk f d c member following → HasRead from.next_gives from.remaining delegate following next → IsReadyAfter from.can_next from.remaining following next → ordered_text w ≡ [] → unordered_text w ≡ []
-    → ReadsChunk from f d c delegate member following next w
-ReadsChunk-alone from f d c member delegate next following w alone read ready front open_marks =
-    ReadsChunk-list from f d c member (member ∷ []) delegate next following w (sym alone.list) refl alone.at_boundary read ready (front ∙ sym (order-nil d)) open_marks
+-- the one member of a list is one, if nothing is buffered
+pub IsShortChunk-alone : (f : ℕ → Bool) (d : Reading) (c member : ℕ) (following : Option ℕ) (w : WaitingList) → d.list c ≡ member ∷ [] → IfSome following (λ b. continues f d b ≡ false)
+    → ordered_text w ≡ [] → unordered_text w ≡ [] → AgreesWith d w → IsShortChunk f d c following member w
+IsShortChunk-alone f d c member following w list at_boundary front open_marks agrees = record {
+  others = [];
+  list = list;
+  at_boundary = at_boundary;
+  text = front ∙ sym (order-nil d);
+  settled = open_marks;
+  classes = agrees;
+}
 
 pub ChunkDidNotFit-members : {I : Type 0} (gives : I → Option ℕ → I → Type 0) (f : ℕ → Bool) (d : Reading) (c : ℕ) (members : List ℕ) (delegate : I) → members ≡ d.list c
     → buffer_limit + 1 < length members → ChunkDidNotFit gives f d c delegate

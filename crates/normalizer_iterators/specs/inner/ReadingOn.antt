@@ -74,11 +74,16 @@ pub record ReadsChunk {I : Type 0} (from : Source I)
   pub fewer : MatchOption pending (length read ≤ size (from.remaining delegate))
       (λ _. size (from.remaining delegate_after) + length read < size (from.remaining delegate))
 
--- the list of a character has this one member, and what was read after it does not continue it
-pub record IsWholeChunk (has_class_form : ℕ → Bool) (d : Reading) (character member : ℕ) (following : Option ℕ)
-    : Type 0 where
-  pub list : d.list character ≡ member ∷ []
+-- the list of a character has this first member, the others are buffered in order, and what was read after it does not
+-- continue it
+pub record IsShortChunk (has_class_form : ℕ → Bool) (d : Reading) (character : ℕ) (following : Option ℕ) (first : ℕ)
+    (waiting_after : WaitingList) : Type 0 where
+  pub others : List ℕ
+  pub list : d.list character ≡ first ∷ others
   pub at_boundary : IfSome following (λ c. continues has_class_form d c ≡ false)
+  pub text : ordered_text waiting_after ≡ order d others
+  pub settled : unordered_text waiting_after ≡ []
+  pub classes : AgreesWith d waiting_after
 
 -- the others and the lists of the characters that continue did not fit
 pub record ChunkDidNotFit {I : Type 0} (gives : I → Option ℕ → I → Type 0) (has_class_form : ℕ → Bool) (d : Reading)

@@ -6,4 +6,4 @@ pub returns-then-begins_with : goal.returns-then-begins_with
 returns-then-begins_with c = IsPut-first _ _ (rw (← c.deref.ensures.value) (c.begins_with.ensures c.if-begins_with.true))
 
 pub returns : goal.returns
-returns c = IsPut-added c.args.bytes.now.items c.args.block.now _ _ c.requires c.in_ok-extend_from_slice.ensures.items (omega (arith, c.len-start.ensures, c.args.bytes.now.ok.0))
+returns c = IsPut-added c.args.bytes.now.items c.args.block.now _ _ c.requires.block c.in_ok-extend_from_slice.ensures.items (omega (arith, c.len-start.ensures, c.args.bytes.now.ok.0))

@@ -25,6 +25,6 @@ returns-clause-in_order c =
 
 pub returns-then-last-class-clause-in_order : goal.returns-then-last-class-clause-in_order
 returns-then-last-class-clause-in_order c = elim c.if-last-class.either [
-  | inl starter ↦ in_order c.args.last c.class_of-class.result (inl starter)
-  | inr rising ↦ in_order c.args.last c.class_of-class.result (inr rising.1)
+  | inl starter ↦ in_order c.args.last c.in-Some.class (inl starter)
+  | inr rising ↦ in_order c.args.last c.in-Some.class (inr rising.1)
 ]
