@@ -1,8 +1,6 @@
 //! The calls that are repeated over a text.
 use crate::fault::Fault;
-use icu_normalizer::{
-    AnyNormalizerBorrowed, ComposingNormalizerBorrowed, DecomposingNormalizerBorrowed, NormalForm,
-};
+use icu_normalizer::{AnyNormalizerBorrowed, NormalForm};
 use std::alloc::Global;
 use std::borrow::CowStr;
 use unicode_normalization::{
@@ -98,38 +96,23 @@ fn own(
     Ok(())
 }
 
-/// Writes the form item by item. Each kind has a function of its own, so that no other kind's frame is in its time.
+/// Writes the form item by item.
 fn iterate(
     normalizer: &AnyNormalizerBorrowed<'_>,
     text: &str,
     written: &mut String,
 ) -> Result<(), Fault> {
     match normalizer {
-        AnyNormalizerBorrowed::Decomposing(n) => iterate_decomposed(n, text, written),
-        AnyNormalizerBorrowed::Composing(n) => iterate_composed(n, text, written),
-    }
-}
-
-#[inline(never)]
-fn iterate_decomposed(
-    normalizer: &DecomposingNormalizerBorrowed<'_>,
-    text: &str,
-    written: &mut String,
-) -> Result<(), Fault> {
-    for item in normalizer.normalize_iter(text.chars())? {
-        written.push(item?)?;
-    }
-    Ok(())
-}
-
-#[inline(never)]
-fn iterate_composed(
-    normalizer: &ComposingNormalizerBorrowed<'_>,
-    text: &str,
-    written: &mut String,
-) -> Result<(), Fault> {
-    for item in normalizer.normalize_iter(text.chars())? {
-        written.push(item?)?;
+        AnyNormalizerBorrowed::Decomposing(n) => {
+            for item in n.normalize_iter(text.chars())? {
+                written.push(item?)?;
+            }
+        }
+        AnyNormalizerBorrowed::Composing(n) => {
+            for item in n.normalize_iter(text.chars())? {
+                written.push(item?)?;
+            }
+        }
     }
     Ok(())
 }
@@ -172,41 +155,26 @@ fn iterate_by_port(
     written: &mut String,
 ) -> Result<(), Fault> {
     match form {
-        NormalForm::Nfd => port_nfd(alloc, text, written),
-        NormalForm::Nfc => port_nfc(alloc, text, written),
-        NormalForm::Nfkd => port_nfkd(alloc, text, written),
-        NormalForm::Nfkc => port_nfkc(alloc, text, written),
-    }
-}
-
-#[inline(never)]
-fn port_nfd(alloc: Global, text: &str, written: &mut String) -> Result<(), Fault> {
-    for item in text.nfd(alloc) {
-        written.push(item?)?;
-    }
-    Ok(())
-}
-
-#[inline(never)]
-fn port_nfc(alloc: Global, text: &str, written: &mut String) -> Result<(), Fault> {
-    for item in text.nfc(alloc) {
-        written.push(item?)?;
-    }
-    Ok(())
-}
-
-#[inline(never)]
-fn port_nfkd(alloc: Global, text: &str, written: &mut String) -> Result<(), Fault> {
-    for item in text.nfkd(alloc) {
-        written.push(item?)?;
-    }
-    Ok(())
-}
-
-#[inline(never)]
-fn port_nfkc(alloc: Global, text: &str, written: &mut String) -> Result<(), Fault> {
-    for item in text.nfkc(alloc) {
-        written.push(item?)?;
+        NormalForm::Nfd => {
+            for item in text.nfd(alloc) {
+                written.push(item?)?;
+            }
+        }
+        NormalForm::Nfc => {
+            for item in text.nfc(alloc) {
+                written.push(item?)?;
+            }
+        }
+        NormalForm::Nfkd => {
+            for item in text.nfkd(alloc) {
+                written.push(item?)?;
+            }
+        }
+        NormalForm::Nfkc => {
+            for item in text.nfkc(alloc) {
+                written.push(item?)?;
+            }
+        }
     }
     Ok(())
 }
