@@ -1,7 +1,7 @@
 //! What the decomposing and the composing form differ in, as one trait: every call on text is written once over it.
 ghost use Rattle.std.specs.Prelude.{◌≡◌, ◌↔◌, ◌<◌, ◌||◌, ◌∷◌, [], nat_lt, not, ℕ, Bool, true, false, IfOk, IfSome};
 ghost use Rattle.std.specs.Prelude.{◌≤◌, All, length, IsTrue, IsOk, IsOkUnless, IsErrOf, Option, Some, None};
-ghost use Rattle.std.specs.Prelude.{if◌then◌else◌};
+ghost use Rattle.std.specs.Prelude.{if◌then◌else◌, MatchOption};
 ghost use Rattle.std.specs.Char.{IsScalar};
 ghost use Rattle.normalizer_sets.specs.CharacterSets.{has};
 ghost use Rattle.normal_forms.specs.Decomposition.{expand};
@@ -37,7 +37,7 @@ use normalizer_iterators::{MarkRun, NormalizeError, SegmentBuffers};
 use normalizer_sets::CharacterSet;
 use normalizer_tables::characters::{CharacterData, IgnoredCharacters};
 use normalizer_tables::may_be_second;
-use normalizer_tables::word::{is_ordinary_class_form, is_plain, low_byte};
+use normalizer_tables::word::{is_class_form, is_ordinary_class_form, is_plain, low_byte};
 use normalizer_text::output::Output;
 use normalizer_text::{Chars, Step, Units};
 use std::alloc::{AllocError, Global};
@@ -96,6 +96,10 @@ pub trait Forming {
     /// Whether what begins with a character is normalized apart from what comes before.
     fn begins(&self, character: char) -> bool
         ensures { result ≡ beginning self.now character };
+
+    /// The same of what comes after a segment, and then whether a run may begin with the character. It is looked up once.
+    fn run_may_begin(&self, character: char) -> Option<bool>
+        ensures { MatchOption result (beginning self.now character ≡ false) (λ _. beginning self.now character ≡ true) };
 
     /// Returns the segment in beginning of the units, if it is seen to be well-formed and normalized, or to become one
     /// character, while it is read.
@@ -255,6 +259,20 @@ impl<'a> Forming for DecomposingForm<'a> {
         (character as u32) < self.bounds.decomposition || !self.characters.has_class_form(character)
     }
 
+    #[tactic(auto, unfolding(normalizer_tables::specs::Characters::has_class_form))]
+    #[inline(always)]
+    fn run_may_begin(&self, character: char) -> Option<bool> {
+        if (character as u32) < self.bounds.decomposition {
+            return Some(true);
+        }
+        let word = self.characters.word_of(character);
+        if is_class_form(word) {
+            None
+        } else {
+            Some(is_plain(word))
+        }
+    }
+
     #[inline(always)]
     fn seen_segment<U: Units>(&self, _units: U) -> Result<SeenSegment, Unseen> {
         Err(Unseen::Unknown)
@@ -373,6 +391,16 @@ impl<'a> Forming for ComposingForm<'a> {
 
     fn begins(&self, character: char) -> bool {
         is_taken_as_boundary(&self.characters, self.bounds, character)
+    }
+
+    #[inline(always)]
+    fn run_may_begin(&self, character: char) -> Option<bool> {
+        let word = self.characters.word_of(character);
+        if self.begins_by(character, word) {
+            Some(self.passes_by(character, word))
+        } else {
+            None
+        }
     }
 
     #[inline(always)]

@@ -78,7 +78,7 @@ fn change_of<U: Expected, N: Forming>(
     ensures room { HasShortUnits (N.made_form normalizer.now) U.encoding (U.units units) → IsOk result }
     ensures refused { IsOkUnless result NormalizeError.Memory }
 {
-    let kept = kept_end(normalizer, units, false);
+    let kept = kept_end(normalizer, units, false, false);
     if kept.end == units.len() {
         return Ok(None);
     }

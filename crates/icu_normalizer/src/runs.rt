@@ -1,6 +1,6 @@
 //! The ends of runs of characters that are passed on as they are, and of the segments between them.
 ghost use Rattle.std.specs.Prelude.{◌≡◌, ◌≢◌, ◌+◌, ◌^◌, ◌<◌, drop, length};
-ghost use Rattle.std.specs.Prelude.{◌↔◌, IfSome, IsTrue, MatchOption, MatchResult, None, Some};
+ghost use Rattle.std.specs.Prelude.{◌↔◌, IfErr, IfOk, IfSome, IsTrue, MatchOption, MatchResult, None, Some, false};
 ghost use Rattle.normalizer_text.specs.Encodings.{first_in};
 ghost use Rattle.normalizer_text.specs.DecodingSteps.{IsBoundary};
 ghost use Rattle.normalizer_text.specs.InputCut.{IsInputNormalized};
@@ -58,11 +58,12 @@ pub(crate) struct Composite {
     pub(crate) character: char,
 }
 
-/// The end of what is kept, the segment after it, if that is seen to become one character, and whether its marks are seen
-/// to be out of order.
+/// The end of what is kept, the step there, if it was read, the segment after it, if that is seen to become one
+/// character, and whether its marks are seen to be out of order.
 #[derive(Clone, Copy)]
 pub(crate) struct Kept {
     pub(crate) end: usize,
+    pub(crate) next: Option<Step>,
     pub(crate) composite: Option<Composite>,
     pub(crate) is_unordered: bool,
 }
@@ -325,6 +326,19 @@ fn first_few<U: Units, N: Forming>(normalizer: &N, units: U) -> RunSoFar
     }
 }
 
+/// Returns the run of low characters up to an end.
+#[inline(always)]
+fn low_run(end: usize) -> RunSoFar
+    ensures { (result.marks ≡ end) × (result.end ≡ end) × (result.last ≡ 0) }
+{
+    RunSoFar {
+        marks: end,
+        end,
+        last: 0,
+        gaps: UNKNOWN,
+    }
+}
+
 /// The sum of a run in which letters and marks are expected to alternate.
 const ALTERNATING: u8 = 0;
 
@@ -509,11 +523,11 @@ pub(crate) fn front_segment<U: Units, N: Forming>(normalizer: &N, units: U, firs
     let mut end = first.width;
     while end < units.len() {
         let step = units.step_at(end);
-        if normalizer.begins(step.character) {
+        if let Some(is_before_run) = normalizer.run_may_begin(step.character) {
             return Segment {
                 end,
                 next: Some(step),
-                is_before_run: normalizer.passthrough_class(step.character).is_some(),
+                is_before_run,
             };
         }
         end += step.width;
@@ -563,6 +577,29 @@ fn long_passthrough_end<U: Units, N: Forming>(normalizer: &N, units: U) -> Passe
     ensures { IsPassedFront U.encoding (N.made_form normalizer.now) (U.units units) result.end }
 {
     let first = first_run(normalizer, units);
+    passed_by(normalizer, units, run_end(normalizer, units, first))
+}
+
+/// Returns the same end of such a text, if a part of the run is known. The parts are passed one by one: as a run they would
+/// go through memory.
+#[inline(never)]
+fn long_passthrough_end_after<U: Units, N: Forming>(
+    normalizer: &N,
+    units: U,
+    marks: usize,
+    end: usize,
+    last: u8,
+) -> Passed
+    requires { IsRun (N.passthrough_class normalizer.now) U.encoding (U.units units) marks end last }
+    ensures { IsPassedFront U.encoding (N.made_form normalizer.now) (U.units units) result.end }
+{
+    let known = RunSoFar {
+        marks,
+        end,
+        last,
+        gaps: UNKNOWN,
+    };
+    let first = with_members(normalizer, units, known);
     passed_by(normalizer, units, run_end(normalizer, units, first))
 }
 
@@ -697,14 +734,31 @@ impl Passed {
 }
 
 impl Kept {
-    /// What is kept ends there, and nothing is known of the segment after it but whether its marks are out of order.
+    /// What is kept ends before a step that was read.
     #[inline(always)]
-    fn to(end: usize, is_unordered: bool) -> Kept
+    fn up_to(end: usize, step: Step) -> Kept
         ensures end { result.end ≡ end }
+        ensures next { result.next ≡ Some step }
         ensures composite { result.composite ≡ None }
     {
         Kept {
             end,
+            next: Some(step),
+            composite: None,
+            is_unordered: false,
+        }
+    }
+
+    /// What is kept ends there, and nothing is known of the segment after it but whether its marks are out of order.
+    #[inline(always)]
+    fn to(end: usize, is_unordered: bool) -> Kept
+        ensures end { result.end ≡ end }
+        ensures next { result.next ≡ None }
+        ensures composite { result.composite ≡ None }
+    {
+        Kept {
+            end,
+            next: None,
             composite: None,
             is_unordered,
         }
@@ -712,16 +766,70 @@ impl Kept {
 }
 
 /// Returns the end of the front of the units that is kept as it is: runs, and segments between them that are seen to
-/// stay. A segment whose marks are out of order doesn't. Letters and marks may be expected to alternate.
+/// stay. A segment whose marks are out of order doesn't. The units may be expected to begin with low characters, or else
+/// letters and marks to alternate.
 #[inline(always)]
-pub(crate) fn kept_end<U: Units, N: Forming>(normalizer: &N, units: U, alternates: bool) -> Kept
+pub(crate) fn kept_end<U: Units, N: Forming>(
+    normalizer: &N,
+    units: U,
+    begins_low: bool,
+    alternates: bool,
+) -> Kept
     ensures kept { let m = N.made_form normalizer.now in
         IsKeptTo U.encoding m.reading m.form (U.units units) result.end }
+    ensures next { IfSome result.next (λ next. next ≡ first_in U.encoding (drop result.end (U.units units))) }
     ensures composite { let m = N.made_form normalizer.now in IfSome result.composite (IsComposite
         (N.beginning normalizer.now) U.encoding m.reading m.form (drop result.end (U.units units))) }
 {
-    let passed = passthrough_end(normalizer, units, alternates);
-    kept_from(normalizer, units, passed, alternates)
+    if !begins_low || normalizer.holds_back() {
+        let passed = passthrough_end(normalizer, units, alternates);
+        return kept_from(normalizer, units, passed, alternates);
+    }
+    match kept_low(normalizer, units) {
+        Ok(kept) => kept,
+        Err(RunSoFar {
+            marks, end, last, ..
+        }) if units.len() > SHORT => {
+            let passed = long_passthrough_end_after(normalizer, units, marks, end, last);
+            kept_from(normalizer, units, passed, alternates)
+        }
+        Err(_) => {
+            let passed = short_passthrough_end(normalizer, units);
+            kept_from(normalizer, units, passed, alternates)
+        }
+    }
+}
+
+/// Up to so many units are looked at one by one where few low characters are expected.
+const FEW_LOW: usize = 16;
+
+/// Returns the low characters that the units begin with as kept, if they are few and the step after them ends what is
+/// passed on: in a decomposing form that needs no call. Else it returns the run so far, as an error.
+#[inline(always)]
+fn kept_low<U: Units, N: Forming>(normalizer: &N, units: U) -> Result<Kept, RunSoFar>
+    requires { N.held_back ≡ false }
+    ensures kept { let m = N.made_form normalizer.now in IfOk result (λ kept.
+        IsKeptTo U.encoding m.reading m.form (U.units units) kept.end) }
+    ensures next { IfOk result (λ kept. IfSome kept.next
+        (λ next. next ≡ first_in U.encoding (drop kept.end (U.units units)))) }
+    ensures composite { IfOk result (λ kept. kept.composite ≡ None) }
+    ensures run { IfErr result (IsRunSoFar (N.passthrough_class normalizer.now) U.encoding (U.units units)) }
+{
+    normalizer.passthrough_is_normalized_apart();
+    let bound = normalizer.passing().first_missing();
+    let mut end = 0;
+    while end < FEW_LOW && end < units.len() {
+        let step = units.step_at(end);
+        if step.character as u32 >= bound {
+            let class = match next_class(normalizer, 0, step) {
+                Ok(class) => class,
+                Err(_) => return Ok(Kept::up_to(end, step)),
+            };
+            return Err(with_step(low_run(end), step, class));
+        }
+        end += step.width;
+    }
+    Err(low_run(end))
 }
 
 /// Returns the same end, by that of the run at the beginning.
@@ -735,6 +843,7 @@ pub(crate) fn kept_from<U: Units, N: Forming>(
     requires { IsPassedFront U.encoding (N.made_form normalizer.now) (U.units units) passed.end }
     ensures kept { let m = N.made_form normalizer.now in
         IsKeptTo U.encoding m.reading m.form (U.units units) result.end }
+    ensures next { IfSome result.next (λ next. next ≡ first_in U.encoding (drop result.end (U.units units))) }
     ensures composite { let m = N.made_form normalizer.now in IfSome result.composite (IsComposite
         (N.beginning normalizer.now) U.encoding m.reading m.form (drop result.end (U.units units))) }
 {
@@ -749,6 +858,7 @@ fn kept_after<U: Units, N: Forming>(normalizer: &N, units: U, run: usize, altern
     requires { let m = N.made_form normalizer.now in IsKeptTo U.encoding m.reading m.form (U.units units) run }
     ensures kept { let m = N.made_form normalizer.now in
         IsKeptTo U.encoding m.reading m.form (U.units units) result.end }
+    ensures next { IfSome result.next (λ next. next ≡ first_in U.encoding (drop result.end (U.units units))) }
     ensures composite { let m = N.made_form normalizer.now in IfSome result.composite (IsComposite
         (N.beginning normalizer.now) U.encoding m.reading m.form (drop result.end (U.units units))) }
 {
@@ -768,6 +878,7 @@ fn kept_after<U: Units, N: Forming>(normalizer: &N, units: U, run: usize, altern
             };
             return Kept {
                 end,
+                next: None,
                 composite: Some(composite),
                 is_unordered: false,
             };

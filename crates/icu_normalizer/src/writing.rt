@@ -197,25 +197,29 @@ fn write_segment<U: Units, N: Forming, O: Output<U>>(
     write_long(normalizer, units, first, output)
 }
 
-/// Writes the front of the units that is kept as it is, in one piece, and returns its end, 0 if there is none, and the
-/// segment after it, if that is seen to become one character. Letters and marks may be expected to alternate.
+/// Writes the front of the units that is kept as it is, in one piece, and returns its end, 0 if there is none, the step
+/// there, if it was read, and the segment after it, if that is seen to become one character. The units may be expected to
+/// begin with low characters, or else letters and marks to alternate.
 #[inline(always)]
 fn write_run<U: Units, N: Forming, O: Output<U>>(
     normalizer: &N,
     units: U,
+    begins_low: bool,
     alternates: bool,
     output: &mut O,
 ) -> Result<Kept, NormalizeError>
     ensures none { IfOk result (λ kept. kept.end ≡ 0 → output.new ≡ output.old) }
     ensures part { IfOk result (λ kept. 0 < kept.end → WritesPart U.encoding O.Output (N.made_form normalizer.now)
         (U.units units) output.old kept.end output.new) }
+    ensures next { IfOk result (λ kept. IfSome kept.next
+        (λ next. next ≡ first_in U.encoding (drop kept.end (U.units units)))) }
     ensures composite { let m = N.made_form normalizer.now in IfOk result (λ kept. IfSome kept.composite (IsComposite
         (N.beginning normalizer.now) U.encoding m.reading m.form (drop kept.end (U.units units)))) }
     ensures refused { IfErr result (λ fault. WritesUnits U.encoding O.Output (N.made_form normalizer.now)
         (U.units units) output.old (Err fault) output.new) }
     ensures room { ¬ IsErrOf result NormalizeError.Memory }
 {
-    let kept = kept_end(normalizer, units, alternates);
+    let kept = kept_end(normalizer, units, begins_low, alternates);
     if kept.end > 0 {
         output.write_piece(units.before(kept.end))?;
     }
@@ -287,6 +291,15 @@ fn write_front_segment<U: Units, N: Forming, O: Output<U>>(
     Ok(segment)
 }
 
+/// Whether a step is of a low character, if it was read.
+#[inline(always)]
+fn begins_low<N: Forming>(normalizer: &N, step: Option<Step>) -> bool {
+    match step {
+        Some(step) => (step.character as u32) < normalizer.passing().first_missing(),
+        None => false,
+    }
+}
+
 /// Writes the form of what the units decode to, from a segment at their front on: segments, and the runs between them.
 /// (The buffers are borrowed, so that no way out of the loop drops them.)
 fn write_segments<U: Units, N: Forming, O: Output<U>>(
@@ -315,9 +328,10 @@ fn write_segments<U: Units, N: Forming, O: Output<U>>(
         seen = None;
         if segment.is_before_run {
             // After marks out of order, letters and marks are expected to alternate.
-            let kept = write_run(normalizer, units.after(position), unordered, output)?;
+            let low = begins_low(normalizer, first);
+            let kept = write_run(normalizer, units.after(position), low, unordered, output)?;
             position += kept.end;
-            first = None;
+            first = kept.next;
             seen = kept.composite;
             unordered = kept.is_unordered;
             buffers.expect_unordered(unordered);
@@ -355,7 +369,7 @@ fn write_parts<U: Units, N: Forming, O: Output<U>>(
     ensures room { HasShortUnits (N.made_form normalizer.now) U.encoding (U.units units) →
         ¬ IsErrOf result NormalizeError.Memory }
 {
-    let kept = write_run(normalizer, units, false, output)?;
+    let kept = write_run(normalizer, units, false, false, output)?;
     if kept.end == units.len() {
         return Ok(());
     }

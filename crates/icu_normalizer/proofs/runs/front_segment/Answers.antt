@@ -8,11 +8,11 @@ loop-end-init g c = (
   boundary-first g.U.Units.encoding (g.U.Units.units c.args.units) c.args.first (record { some = c.requires.some; is = c.requires.first }),
 )
 
-pub returns-then-begins-clause-end : goal.returns-then-begins-clause-end
-returns-then-begins-clause-end g c = record {
+pub returns-in-Some-clause-end : goal.returns-in-Some-clause-end
+returns-in-Some-clause-end g c = record {
   some = c.loop-end.invariant.0;
   boundary = c.loop-end.invariant.1;
-  next = λ _. ap (λ s. g.N.Forming.beginning c.args.normalizer.now s.character) (sym c.step_at-step.ensures) ∙ sym c.begins.ensures ∙ c.if-begins.true;
+  next = λ _. ap (λ s. g.N.Forming.beginning c.args.normalizer.now s.character) (sym c.step_at-step.ensures) ∙ c.in-Some.ensures;
 }
 
 pub overflow_add-end : goal.overflow_add-end

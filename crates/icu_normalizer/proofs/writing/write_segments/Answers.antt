@@ -60,7 +60,7 @@ loop-position-preserved-then-segment g c =
     let so_far = WroteUpTo-more c.loop-position.invariant.0 c.after-rest.ensures (rw c.in_ok-segment.was at c.write_front_segment.ensures.part) in (
       WroteUpTo-maybe so_far c.after.ensures
           (rw c.in_ok-kept.was at c.write_run.ensures.none) (rw c.in_ok-kept.was at c.write_run.ensures.part),
-      tt,
+      first-drop _ _ _ _ _ _ c.after.ensures (rw c.in_ok-kept.was at c.write_run.ensures.next),
       composite-drop _ _ _ _ _ _ _ _ _ c.after.ensures (rw c.in_ok-kept.was at c.write_run.ensures.composite),
     )
 
