@@ -2,12 +2,12 @@ pub mod MemoryAlone
 pub mod PackedForms
 pub mod property_data
 pub mod acceptance
-pub mod passthrough
 pub mod divided_texts
-pub mod segments
-pub mod written_forms
-pub mod results
 pub use Rattle.normal_forms.proofs.forms.AlikeReadings
+pub use Rattle.normalizer_calls.proofs.passthrough
+pub use Rattle.normalizer_calls.proofs.results
+pub use Rattle.normalizer_calls.proofs.segments
+pub use Rattle.normalizer_calls.proofs.written_forms
 pub use Rattle.normalizer_iterators.proofs.items.FallibleRuns
 pub use Rattle.normalizer_text.proofs.inputs.InputCutLemmas
 pub use Rattle.normalizer_text.proofs.rules.EncodingLemmas

@@ -19,7 +19,7 @@ use Rattle.normalizer_tables.specs.declared.entry.Kind.TheVariants.{Canonical, C
 use Rattle.normalizer_tables.specs.declared.provider.DataError.{DataError}
 use Rattle.normalizer_tables.specs.declared.provider.DataMarkerInfo.{DataMarkerInfo}
 use Rattle.normalizer_tables.specs.declared.provider.DataMarkerInfo.TheVariants as marker
-use Rattle.icu_normalizer.specs.Forms.{MadeForm, form_by}
+use Rattle.normalizer_calls.specs.Forms.{MadeForm, form_by}
 use Rattle.icu_normalizer.specs.HeldForms.{held_for_forms, HeldForForms, IsMadeOf, RefusesFirst, RefusesForm}
 use Rattle.icu_normalizer.specs.Mapping.{mapper_reading}
 use Rattle.icu_normalizer.specs.ByRecords.{packed_form, IsRecordedForm, MapsByRecords}

@@ -2,7 +2,7 @@
 use Rattle.std.specs.Prelude.{[]}
 use Rattle.normal_forms.specs.declared.Form.TheVariants.{Decomposing, Composing}
 use Rattle.icu_normalizer.specs.ComposingNormalizers.{composing_data_of, pairs_of}
-use Rattle.icu_normalizer.specs.Forms.{MadeForm, form_by}
+use Rattle.normalizer_calls.specs.Forms.{MadeForm, form_by}
 use Rattle.icu_normalizer.specs.declared.all_normalizers.AllNormalizers.{AllNormalizers}
 use Rattle.icu_normalizer.specs.declared.any_normalizer.NormalForm.{NormalForm}
 use Rattle.icu_normalizer.specs.declared.any_normalizer.NormalForm.TheVariants.{Nfd, Nfc, Nfkd, Nfkc}

@@ -3,9 +3,9 @@ use Rattle.std.specs.Prelude.{ℕ, Bool, []}
 use Rattle.normal_forms.specs.Reading.{Reading}
 use Rattle.normal_forms.specs.declared.Form.{Form}
 use Rattle.normal_forms.specs.declared.Form.TheVariants.{Decomposing, Composing}
-use Rattle.icu_normalizer.specs.Boundaries.{has_composing_boundary, has_decomposing_boundary}
+use Rattle.normalizer_calls.specs.Boundaries.{has_composing_boundary, has_decomposing_boundary}
 use Rattle.icu_normalizer.specs.ComposingNormalizers.{composing_data_of, pairs_of}
-use Rattle.icu_normalizer.specs.Forms.{MadeForm, composed_by, decomposed_by, form_by}
+use Rattle.normalizer_calls.specs.Forms.{MadeForm, composed_by, decomposed_by, form_by}
 use Rattle.icu_normalizer.specs.Normalizers.{data_of}
 use Rattle.icu_normalizer.specs.declared.any_normalizer.AnyNormalizer.{AnyNormalizer}
 use Rattle.icu_normalizer.specs.declared.any_normalizer.AnyNormalizer.TheVariants as owned

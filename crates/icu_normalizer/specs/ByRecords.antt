@@ -7,7 +7,7 @@ use Rattle.normalizer_packing.specs.declared.Packed.{Packed}
 use Rattle.normalizer_records.specs.RecordValue.{RecordValue, Uts46RecordValue}
 use Rattle.normalizer_tables.specs.declared.characters.IgnoredCharacters.{IgnoredCharacters}
 use Rattle.normalizer_tables.specs.declared.entry.Kind.TheVariants.{Canonical, Compatibility}
-use Rattle.icu_normalizer.specs.Forms.{MadeForm, form_by, form_of}
+use Rattle.normalizer_calls.specs.Forms.{MadeForm, form_by, form_of}
 use Rattle.icu_normalizer.specs.Mapping.{mapped_in, mapper_reading}
 use Rattle.icu_normalizer.specs.RecordedForms.{recorded_form}
 use Rattle.icu_normalizer.specs.Uts46.{MapperData}

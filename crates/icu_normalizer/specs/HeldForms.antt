@@ -10,7 +10,7 @@ use Rattle.normalizer_tables.specs.Pairs.{Pair}
 use Rattle.icu_normalizer.specs.Acceptance.{nfd_data, nfkd_data, AcceptsHeld, RefusesHeld}
 use Rattle.icu_normalizer.specs.Acceptance.{SuitsDecomposing, RefusesToDecompose}
 use Rattle.icu_normalizer.specs.ComposingAcceptance.{SuitsComposing, RefusesToCompose, with_pairs}
-use Rattle.icu_normalizer.specs.Forms.{MadeForm, form_by}
+use Rattle.normalizer_calls.specs.Forms.{MadeForm, form_by}
 use Rattle.icu_normalizer.specs.Uts46.{MapperData}
 use Rattle.icu_normalizer.specs.declared.any_normalizer.NormalForm.{NormalForm}
 use Rattle.icu_normalizer.specs.declared.any_normalizer.NormalForm.TheVariants.{Nfd, Nfc, Nfkd, Nfkc}

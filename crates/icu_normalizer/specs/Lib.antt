@@ -1,31 +1,22 @@
 pub mod Acceptance
 pub mod AllNormalizers
 pub mod AnyNormalizers
-pub mod BoundaryBefore
-pub mod Boundaries
 pub mod ByRecords
-pub mod Checks
 pub mod ClassData
 pub mod ComposingAcceptance
 pub mod ComposingNormalizers
-pub mod Forms
 pub mod HeldForms
 pub mod Mappers
 pub mod Mapping
 pub mod Normalizers
-pub mod Owned
 pub mod PairData
 pub mod Parts
 pub mod Properties
 pub mod RecordedForms
-pub mod Serving
 pub mod Shapers
 pub mod StepData
 pub mod StepMeaning
-pub mod Utf32
 pub mod Uts46
-pub mod Writing
-pub mod inner
 pub use Rattle.normal_forms.specs.Equivalence
 pub use Rattle.normal_forms.specs.Forms as NormalForms
 pub use Rattle.normal_forms.specs.Offence as TextOffence
@@ -38,6 +29,15 @@ pub use Rattle.normalizer_builder.specs.Building
 pub use Rattle.normalizer_builder.specs.Built
 pub use Rattle.normalizer_builder.specs.RecordedClasses
 pub use Rattle.normalizer_builder.specs.RecordedReading
+pub use Rattle.normalizer_calls.specs.BorrowedData
+pub use Rattle.normalizer_calls.specs.BoundaryBefore
+pub use Rattle.normalizer_calls.specs.Boundaries
+pub use Rattle.normalizer_calls.specs.Checks
+pub use Rattle.normalizer_calls.specs.Forms
+pub use Rattle.normalizer_calls.specs.Owned
+pub use Rattle.normalizer_calls.specs.Serving
+pub use Rattle.normalizer_calls.specs.Utf32
+pub use Rattle.normalizer_calls.specs.Writing
 pub use Rattle.normalizer_check.specs.Refusals
 pub use Rattle.normalizer_iterators.specs.Items
 pub use Rattle.normalizer_iterators.specs.declared.error.NormalizeError

@@ -3,7 +3,7 @@ ghost use Rattle.std.specs.Prelude.{◌≡◌, []};
 ghost use Rattle.icu_normalizer.specs.AllNormalizers.{made_to};
 ghost use Rattle.icu_normalizer.specs.AnyNormalizers.{made_by_borrowed};
 ghost use Rattle.icu_normalizer.specs.ComposingNormalizers.{composing_data_of};
-ghost use Rattle.icu_normalizer.specs.Forms.{form_by};
+ghost use Rattle.normalizer_calls.specs.Forms.{form_by};
 ghost use Rattle.normal_forms.specs.declared.Form.TheVariants.{Decomposing};
 
 use crate::any_normalizer::{AnyNormalizerBorrowed, NormalForm};

@@ -12,8 +12,8 @@ ghost use Rattle.normalizer_text.specs.InputOffence.{IsInputOffenceOf};
 ghost use Rattle.normalizer_text.specs.Utf8.{decoded_utf8};
 ghost use Rattle.normalizer_text.specs.Utf16.{decoded_utf16};
 ghost use Rattle.icu_normalizer.specs.AnyNormalizers.{has_boundary, kind_by, made_by, made_by_borrowed, reading_of};
-ghost use Rattle.icu_normalizer.specs.BoundaryBefore.{HasBoundaryBefore};
-ghost use Rattle.icu_normalizer.specs.Checks.{
+ghost use Rattle.normalizer_calls.specs.BoundaryBefore.{HasBoundaryBefore};
+ghost use Rattle.normalizer_calls.specs.Checks.{
   AnswersOf,
   ChecksForm,
   ChecksText,
@@ -23,13 +23,13 @@ ghost use Rattle.icu_normalizer.specs.Checks.{
   IsSplitAtCut,
   IsTextSplitAtCut,
 };
-ghost use Rattle.icu_normalizer.specs.Forms.{form_of, HasShortUnits};
-ghost use Rattle.icu_normalizer.specs.Owned.{ReturnsForm, ReturnsFormOfText};
-ghost use Rattle.icu_normalizer.specs.Writing.{TellsLengthFirst, WritesForm};
+ghost use Rattle.normalizer_calls.specs.Forms.{form_of, HasShortUnits};
+ghost use Rattle.normalizer_calls.specs.Owned.{ReturnsForm, ReturnsFormOfText};
+ghost use Rattle.normalizer_calls.specs.Writing.{TellsLengthFirst, WritesForm};
 
-use crate::borrowed::{ComposingNormalizerBorrowed, DecomposingNormalizerBorrowed};
 use crate::composing_normalizer::ComposingNormalizer;
 use crate::decomposing_normalizer::DecomposingNormalizer;
+use normalizer_calls::{ComposingNormalizerBorrowed, DecomposingNormalizerBorrowed};
 use normalizer_iterators::{NormalizeError, collected};
 use normalizer_text::Offence;
 use normalizer_text::sink::{Write, Write16};

@@ -8,14 +8,14 @@ ghost use Rattle.icu_normalizer.specs.ComposingAcceptance.{
   SuitsComposing,
 };
 ghost use Rattle.icu_normalizer.specs.Normalizers.{data_of};
-ghost use Rattle.icu_normalizer.specs.Serving.{ServesComposing};
-ghost use Rattle.icu_normalizer.specs.inner.ComposingClasses.{composing_class};
-ghost use Rattle.icu_normalizer.specs.inner.KeptClasses.{Say};
+ghost use Rattle.normalizer_calls.specs.Serving.{ServesComposing};
+ghost use Rattle.normalizer_calls.specs.inner.ComposingClasses.{composing_class};
+ghost use Rattle.normalizer_calls.specs.inner.KeptClasses.{Say};
 
-use crate::borrowed::{ComposingNormalizerBorrowed, NormalizerBorrowed};
-use crate::composing_form::ComposingForm;
 use crate::decomposing_normalizer::DecomposingNormalizer;
-use crate::passing_classes::PassingClasses;
+use normalizer_calls::{
+    ComposingForm, ComposingNormalizerBorrowed, NormalizerBorrowed, PassingClasses,
+};
 use normalizer_check::check::check;
 use normalizer_check::loaded::LoadedData;
 use normalizer_tables::characters::Purpose;
@@ -152,14 +152,8 @@ impl ComposingNormalizer {
     {
         let bounds = self.decomposing.bounds;
         let characters = self.decomposing.characters.as_borrowed(Purpose::Forms);
-        NormalizerBorrowed {
-            form: ComposingForm {
-                characters: characters.with_passthrough_bound(bounds.decomposition),
-                pairs: &self.pairs,
-                bounds,
-                classes: &self.classes,
-            },
-        }
+        let characters = characters.with_passthrough_bound(bounds.decomposition);
+        NormalizerBorrowed::new(ComposingForm::new(characters, &self.pairs, bounds, &self.classes))
     }
 }
 
@@ -174,13 +168,6 @@ fn classes_over(
 {
     let bounds = decomposing.bounds;
     let characters = decomposing.characters.as_borrowed(Purpose::Forms);
-    let alloc = characters.allocator();
-    let unknown = PassingClasses::unknown(alloc)?;
-    let form = ComposingForm {
-        characters: characters.with_passthrough_bound(bounds.decomposition),
-        pairs,
-        bounds,
-        classes: &unknown,
-    };
-    PassingClasses::of(alloc, &form)
+    let characters = characters.with_passthrough_bound(bounds.decomposition);
+    PassingClasses::over(characters, pairs, bounds)
 }

@@ -9,10 +9,9 @@ ghost use Rattle.icu_normalizer.specs.Acceptance.{
   RefusesToDecompose,
   SuitsDecomposing,
 };
-ghost use Rattle.icu_normalizer.specs.Serving.{ServesDecomposing};
+ghost use Rattle.normalizer_calls.specs.Serving.{ServesDecomposing};
 
-use crate::borrowed::{DecomposingNormalizerBorrowed, NormalizerBorrowed};
-use crate::decomposing_form::DecomposingForm;
+use normalizer_calls::{DecomposingForm, DecomposingNormalizerBorrowed, NormalizerBorrowed};
 use normalizer_check::check::check;
 use normalizer_check::loaded::LoadedData;
 use normalizer_tables::characters::Purpose;
@@ -110,11 +109,7 @@ impl DecomposingNormalizer {
     {
         let bounds = self.bounds;
         let characters = self.characters.as_borrowed(Purpose::Forms);
-        NormalizerBorrowed {
-            form: DecomposingForm {
-                characters: characters.with_passthrough_bound(bounds.decomposition),
-                bounds,
-            },
-        }
+        let characters = characters.with_passthrough_bound(bounds.decomposition);
+        NormalizerBorrowed::new(DecomposingForm::new(characters, bounds))
     }
 }

@@ -3,17 +3,15 @@
 ghost use Rattle.std.specs.Prelude.{◌≡◌};
 ghost use Rattle.normal_forms.specs.declared.Form.TheVariants.{Composing, Decomposing};
 ghost use Rattle.normalizer_check.specs.RequiredConditions.{SuitsTexts};
-ghost use Rattle.icu_normalizer.specs.Forms.{composed_by, decomposed_by};
+ghost use Rattle.normalizer_calls.specs.Forms.{composed_by, decomposed_by};
 
-use crate::composing_form::ComposingForm;
-use crate::decomposing_form::DecomposingForm;
-use crate::forming::Forming;
 use crate::properties::CanonicalCombiningClass;
 use crate::{ComposingNormalizerBorrowed, DecomposingNormalizerBorrowed};
 pub use normalizer_builder::laws::{
     data_that_meet_conditions_are_accepted, packed_records_are_one, records_have_one_answer,
     what_is_built_is_accepted, what_is_built_suits_the_laws,
 };
+use normalizer_calls::{ComposingForm, DecomposingForm, Forming};
 
 /// A decomposing normalizer makes the decomposing form, using its data, which satisfy the hypotheses of the laws of that
 /// form.

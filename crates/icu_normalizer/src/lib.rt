@@ -33,49 +33,32 @@
 
 mod all_normalizers;
 mod any_normalizer;
-mod borrowed;
-mod boundaries;
 mod by_records;
-mod changing;
-mod checks;
 mod combining_class;
-mod composing_form;
 mod composing_normalizer;
 mod composition;
-mod decomposing_form;
 mod decomposing_normalizer;
 mod decomposition;
-mod form_of_one;
-mod forming;
 pub mod harfbuzz;
 mod held_forms;
-mod kept;
 pub mod laws;
 mod mapping;
-mod offence;
-mod owned;
 mod parts;
-mod passing_classes;
 pub mod properties;
 pub mod provider;
-mod runs;
-mod splits;
-mod to_sinks;
-mod unchecked;
-mod utf32;
 pub mod uts46;
-mod word_classes;
-mod writing;
 
 pub use all_normalizers::AllNormalizers;
 pub use any_normalizer::{AnyNormalizer, AnyNormalizerBorrowed, NormalForm};
-pub use borrowed::{ComposingNormalizerBorrowed, DecomposingNormalizerBorrowed};
 pub use by_records::{built_mapper, normalizer_to, normalizers_over};
 pub use composing_normalizer::ComposingNormalizer;
 pub use decomposing_normalizer::DecomposingNormalizer;
 pub use held_forms::{FormData, MappingData};
 pub use mapping::{is_valid, mapped};
 pub use normalizer_builder::{Built, Records, laws as record_laws};
+pub use normalizer_calls::{
+    ComposingNormalizerBorrowed, DecomposingNormalizerBorrowed, Utf32Chars,
+};
 pub use normalizer_check::check_nfd_data;
 pub use normalizer_iterators::{
     Composition, Decomposition, NormalizeError, collected, laws as iterator_laws,
@@ -92,4 +75,3 @@ pub use normalizer_tables::{
 };
 pub use normalizer_text::{Chars, Offence, Step, Units, Utf8Chars, Utf16Chars, sink};
 pub use parts::{forms_of_parts, has_no_line_feed};
-pub use utf32::Utf32Chars;

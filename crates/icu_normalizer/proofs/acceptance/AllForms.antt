@@ -19,7 +19,7 @@ use Rattle.normalizer_tables.specs.declared.provider.DataMarkerInfo.TheVariants.
 use Rattle.icu_normalizer.specs.Acceptance.{RefusesToDecompose, SuitsDecomposing}
 use Rattle.icu_normalizer.specs.AllNormalizers.{made_to}
 use Rattle.icu_normalizer.specs.ComposingAcceptance.{RefusesToCompose, SuitsComposing, with_pairs}
-use Rattle.icu_normalizer.specs.Forms.{form_by}
+use Rattle.normalizer_calls.specs.Forms.{form_by}
 use Rattle.icu_normalizer.specs.ComposingNormalizers.{data_and_pairs_of}
 use Rattle.icu_normalizer.specs.HeldForms.{DecomposesBy, HeldForForms, IsMadeOf, RefusesFirst, RefusesForm, Serves}
 use Rattle.icu_normalizer.specs.declared.all_normalizers.AllNormalizers.{AllNormalizers}

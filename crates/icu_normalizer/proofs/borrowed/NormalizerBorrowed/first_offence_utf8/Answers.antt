@@ -1,4 +1,0 @@
-use Rattle.icu_normalizer.proofs.borrowed.NormalizerBorrowed.first_offence_utf8.Goals as goal
-
-pub returns : goal.returns
-returns g c = record { is = c.offence_of.ensures.offence; room = c.offence_of.ensures.room; refused = c.offence_of.ensures.refused }

@@ -1,5 +1,0 @@
-use Rattle.icu_normalizer.proofs.results.TextAnswers.{ReturnsFormOfText-bytes}
-use Rattle.icu_normalizer.proofs.borrowed.NormalizerBorrowed.normalize.Goals as goal
-
-pub returns : goal.returns
-returns g c = ReturnsFormOfText-bytes _ _ c.utf8.text (g.met.F.Forming.suits c.args.self.now.form) _ c.form_of_utf8.ensures

@@ -1,6 +1,0 @@
-use Rattle.normalizer_text.proofs.rules.StrLemmas.{decoded-chars}
-use Rattle.icu_normalizer.proofs.written_forms.WritingLemmas.{WritesForm-text}
-use Rattle.icu_normalizer.proofs.borrowed.NormalizerBorrowed.normalize_to.Goals as goal
-
-pub returns : goal.returns
-returns g c = WritesForm-text (decoded-chars c.args.text.now c.utf8.text) c.form_to.ensures.text c.form_to.ensures.room

@@ -1,9 +1,0 @@
-use Rattle.normal_forms.specs.Forms.{normal_form}
-use Rattle.icu_normalizer.proofs.forming.DecomposingFormForming.mark_run.Goals as goal
-
-pub returns : goal.returns
-unfolding normal_form
-returns g c = record {
-  form = c.decomposed.ensures.form;
-  room = λ short. c.decomposed.ensures.room (c.args.self.now.serves.reading, short);
-}

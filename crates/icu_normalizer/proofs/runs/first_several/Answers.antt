@@ -1,5 +1,0 @@
-use Rattle.icu_normalizer.proofs.passthrough.RunSteps.{IsRun-starters, IsPassthroughTo-none}
-use Rattle.icu_normalizer.proofs.runs.first_several.Goals as goal
-
-pub with_several-requires : goal.with_several-requires
-with_several-requires g c = IsRun-starters _ _ _ _ (IsPassthroughTo-none _ _ _)

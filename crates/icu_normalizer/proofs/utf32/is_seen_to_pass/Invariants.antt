@@ -1,7 +1,0 @@
-use Rattle.std.proofs.Common.{take}
-use Rattle.icu_normalizer.proofs.results.Utf32Lemmas.{PassSoFar}
-use Rattle.icu_normalizer.proofs.utf32.is_seen_to_pass.Given as goal
-
-abbrev pub invariant-loop-unit : goal.invariant-loop-unit
-invariant-loop-unit g l =
-    let m = g.N.Forming.made_form l.normalizer in PassSoFar m.reading m.form (take l.unit-index l.units) l.last

@@ -1,5 +1,0 @@
-use Rattle.icu_normalizer.proofs.written_forms.WritingLemmas.{WritesText-same}
-use Rattle.icu_normalizer.proofs.writing.write_long.Goals as goal
-
-pub returns-in-Some-clause-text : goal.returns-in-Some-clause-text
-returns-in-Some-clause-text g c = WritesText-same (rw c.in-Some.is at c.in_ok-run.ensures.form) c.write_marks.ensures.text

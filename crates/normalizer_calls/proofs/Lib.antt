@@ -1,0 +1,5 @@
+pub mod HandedInData
+pub mod passthrough
+pub mod segments
+pub mod written_forms
+pub mod results

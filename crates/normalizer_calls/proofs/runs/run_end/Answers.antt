@@ -1,0 +1,28 @@
+use Rattle.std.proofs.Common.{arith}
+use Rattle.normalizer_text.proofs.steps.StepBoundaries.{step-some}
+use Rattle.normalizer_calls.proofs.passthrough.RunSteps.{IsRun-le, IsRun-longer}
+use Rattle.normalizer_calls.proofs.runs.run_end.Goals as goal
+
+pub loop-run-init : goal.loop-run-init
+loop-run-init g c = c.requires
+
+pub with_step-requires : goal.with_step-requires
+with_step-requires g c =
+    omega (arith, c.len.ensures, step-some g.U.Units.encoding (g.U.Units.units c.args.units) c.loop-run.run.end c.step_at-step.result (omega (arith, c.len.ensures)) c.step_at-step.ensures)
+
+pub with_more-run-requires : goal.with_more-run-requires
+with_more-run-requires g c =
+    IsRun-longer _ _ _ _ _ c.step_at-step.ensures (omega (arith, c.len.ensures)) _ _ _ _ _ _ c.loop-run.invariant c.in-Ok.ensures
+    c.with_step.ensures.end c.with_step.ensures.last c.with_step.ensures.starter c.with_step.ensures.mark
+
+pub loop-run-preserved : goal.loop-run-preserved
+loop-run-preserved g c = c.with_more-run.ensures.0
+
+pub loop-run-smaller : goal.loop-run-smaller
+loop-run-smaller g c =
+    omega (arith, c.len.ensures, c.with_more-run.ensures.1, c.with_step.ensures.end, step-some g.U.Units.encoding (g.U.Units.units c.args.units) c.loop-run.run.end c.step_at-step.result (omega (arith, c.len.ensures)) c.step_at-step.ensures)
+
+pub returns-clause-next : goal.returns-clause-next
+returns-clause-next g c =
+    let most = (IsRun-le _ _ _ _ _ _ c.loop-run.invariant).1 in
+    rw c.whole.ensures.next (omega (arith, c.len.ensures, c.whole.ensures.end))

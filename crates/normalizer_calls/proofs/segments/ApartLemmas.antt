@@ -1,0 +1,98 @@
+-- Lists in which nothing composes: no member after the first is the second of a pair.
+use Rattle.std.proofs.Common.{◌≡◌, ◌≤◌, ◌+◌, ℕ, suc, length, List, [], ◌∷◌, ◌++◌, drop, None, Some, true, refl, sym, ap, ◌∙◌, append-nil, append_assoc, slice_get}
+use Rattle.std.proofs.lemmas.List.{drop_all}
+use Rattle.std.proofs.lemmas.Bool.{and_right, cond-false, cond-true, cond_both, not_from_true, or_left, or_right}
+use Rattle.normal_forms.proofs.composing.ComposeLemmas.{is_starter-true}
+use Rattle.std.specs.Prelude.{◌&&◌, not}
+use Rattle.std.specs.Char.{IsScalar}
+use Rattle.normal_forms.specs.Reading.{Reading, IsStarter, is_starter}
+use Rattle.normal_forms.specs.Composition.{compose, compose_from, is_blocked, joined, visit}
+use Rattle.normal_forms.specs.Forms.{nfc, nfd, normal_form}
+use Rattle.normal_forms.specs.Decomposition.{expand}
+use Rattle.normal_forms.specs.Order.{order}
+use Rattle.normal_forms.specs.declared.Form.TheVariants.{Composing}
+use Rattle.normalizer_tables.specs.Characters.{Characters, list_of}
+use Rattle.normalizer_tables.specs.Pairs.{Pair, pair_of}
+use Rattle.normalizer_tables.specs.Readings.{reading_by}
+use Rattle.normalizer_tables.specs.declared.characters.IgnoredCharacters.TheVariants.{Dropped}
+use Rattle.normalizer_tables.specs.declared.condition.Bounds.{Bounds}
+use Rattle.normalizer_tables.proofs.composites.SecondLemmas.{pair_of-none}
+use Rattle.normalizer_tables.proofs.lists.ListedLemmas.{drop_member}
+use Rattle.normalizer_tables.proofs.lists.SoundLists.{order-own}
+use Rattle.normalizer_calls.specs.inner.Kept.{HasNoSecond}
+use Rattle.normalizer_calls.specs.Serving.{ServesComposing}
+
+module _ (d : Reading) where
+  joined-none : (a : ℕ) (between : List ℕ) (c : ℕ) → d.pair a c ≡ None → joined d a between c ≡ None
+  unfolding joined
+  joined-none a between c none = cond_both (is_starter d a && not (is_blocked d between c)) (d.pair a c) None (λ o. o ≡ None) (λ _. none) (λ _. refl)
+
+  -- a character that composes with none stays
+  pub visit-none : (c : ℕ) → ((a : ℕ) → d.pair a c ≡ None) → (visited : List ℕ) → visit d visited c ≡ visited ++ c ∷ []
+  unfolding visit
+  visit-none c none [] = refl
+  visit-none c none (a ∷ between) = rw (joined-none a between c (none a), visit) (ap (λ l. a ∷ l) (visit-none c none between))
+
+  compose_from-none : (x visited : List ℕ) → ((i c : ℕ) → slice_get x i ≡ Some c → (a : ℕ) → d.pair a c ≡ None) → compose_from d visited x ≡ visited ++ x
+  unfolding compose_from
+  compose_from-none [] visited none = sym (append-nil visited)
+  compose_from-none (c ∷ x) visited none =
+      ap (λ l. compose_from d l x) (visit-none c (none 0 c refl) visited)
+      ∙ compose_from-none x (visited ++ c ∷ []) (λ i. none (suc i))
+      ∙ append_assoc visited (c ∷ []) x
+
+  compose-none : (x : List ℕ) → ((i c : ℕ) → slice_get x (suc i) ≡ Some c → (a : ℕ) → d.pair a c ≡ None) → compose d x ≡ x
+  unfolding compose compose_from visit
+  compose-none [] none = refl
+  compose-none (e ∷ x) none = compose_from-none x (e ∷ []) none
+
+  -- the next character is visited
+  pub compose_from-next : (x : List ℕ) (place c : ℕ) (visited : List ℕ) → slice_get x place ≡ Some c → compose_from d visited (drop place x) ≡ compose_from d (visit d visited c) (drop (place + 1) x)
+  unfolding compose_from
+  compose_from-next x place c visited at = rw (drop_member x place c at, compose_from) refl
+
+  -- none is left
+  pub compose_from-all : (x : List ℕ) (place : ℕ) (visited : List ℕ) → length x ≤ place → compose_from d visited (drop place x) ≡ visited
+  unfolding compose_from
+  compose_from-all x place visited past = rw (drop_all place x past) refl
+
+-- a character becomes what its list composes to
+pub form_of_list : (s : Characters) (b : Bounds) (pairs : List Pair) → ServesComposing s b pairs → (c : ℕ) → IsScalar c
+    → normal_form (reading_by s Dropped pairs) Composing (c ∷ []) ≡ compose (reading_by s Dropped pairs) (list_of s [] c)
+unfolding normal_form nfc nfd expand
+form_of_list s b pairs serves c scalar =
+    ap (λ l. compose (reading_by s Dropped pairs) (order (reading_by s Dropped pairs) l)) (append-nil (list_of s [] c))
+    ∙ ap (compose (reading_by s Dropped pairs)) (sym (order-own s [] (pair_of pairs) (list_of s [] c)) ∙ serves.ordered c scalar)
+
+-- a list in which nothing composes stays
+pub compose-apart : (s : Characters) (pairs : List Pair) (x : List ℕ) → HasNoSecond pairs x → compose (reading_by s Dropped pairs) x ≡ x
+compose-apart s pairs x apart = compose-none (reading_by s Dropped pairs) x (λ i m at. pair_of-none pairs m (apart i m at))
+
+-- ---- a character after a last starter
+
+module _ (d : Reading) (last c : ℕ) (starter : IsStarter d last) where
+  blocked-last : (x : List ℕ) → is_blocked d (x ++ last ∷ []) c ≡ true
+  unfolding is_blocked
+  blocked-last [] = or_left _ _ (or_left _ _ (is_starter-true d last starter))
+  blocked-last (a ∷ x) = or_right _ _ (blocked-last x)
+
+  joined-before : (a : ℕ) (x : List ℕ) → joined d a (x ++ last ∷ []) c ≡ None
+  unfolding joined
+  joined-before a x =
+      cond-false (is_starter d a && not (is_blocked d (x ++ last ∷ []) c)) (d.pair a c) None (and_right (is_starter d a) _ (not_from_true _ (blocked-last x)))
+
+  joined-last : joined d last [] c ≡ d.pair last c
+  unfolding joined is_blocked
+  joined-last = cond-true (is_starter d last && not (is_blocked d [] c)) (d.pair last c) None (ap (λ b. b && not (is_blocked d [] c)) (is_starter-true d last starter))
+
+  -- it joins the starter
+  pub visit-joins : (composite : ℕ) → d.pair last c ≡ Some composite → (x : List ℕ) → visit d (x ++ last ∷ []) c ≡ x ++ composite ∷ []
+  unfolding visit
+  visit-joins composite pair [] = rw (joined-last ∙ pair, visit) refl
+  visit-joins composite pair (a ∷ x) = rw (joined-before a x, visit) (ap (λ l. a ∷ l) (visit-joins composite pair x))
+
+  -- or stays
+  pub visit-stays : d.pair last c ≡ None → (x : List ℕ) → visit d (x ++ last ∷ []) c ≡ (x ++ last ∷ []) ++ c ∷ []
+  unfolding visit
+  visit-stays none [] = rw (joined-last ∙ none, visit) refl
+  visit-stays none (a ∷ x) = rw (joined-before a x, visit) (ap (λ l. a ∷ l) (visit-stays none x))

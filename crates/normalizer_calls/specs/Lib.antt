@@ -1,0 +1,10 @@
+pub mod BorrowedData
+pub mod BoundaryBefore
+pub mod Boundaries
+pub mod Checks
+pub mod Forms
+pub mod Owned
+pub mod Serving
+pub mod Utf32
+pub mod Writing
+pub mod inner

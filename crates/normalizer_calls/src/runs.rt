@@ -1,0 +1,901 @@
+//! The ends of runs of characters that are passed on as they are, and of the segments between them.
+ghost use Rattle.std.specs.Prelude.{◌≡◌, ◌≢◌, ◌+◌, ◌^◌, ◌<◌, drop, length};
+ghost use Rattle.std.specs.Prelude.{◌↔◌, IfErr, IfOk, IfSome, IsTrue, MatchOption, MatchResult, None, Some, false};
+ghost use Rattle.normalizer_text.specs.Encodings.{first_in};
+ghost use Rattle.normalizer_text.specs.DecodingSteps.{IsBoundary};
+ghost use Rattle.normalizer_text.specs.InputCut.{IsInputNormalized};
+ghost use Rattle.normalizer_calls.specs.inner.PassthroughRuns.{next_class, IsBeforeLast, IsComposite, IsKeptTo, IsPassedFront};
+ghost use Rattle.normalizer_calls.specs.inner.PassthroughRuns.{GoesOn, IsRun, IsRunEnd, IsRunSoFar, IsSegmentEnd};
+
+use crate::changing::changes_alone;
+use crate::forming::Forming;
+use crate::kept::Unseen;
+use normalizer_text::{Chars, Step, Units};
+
+/// A run of characters that are passed on as they are: where the marks at its end begin, where it ends, and the step
+/// that ends it, unless the units end, and whether that is a mark out of order.
+#[derive(Clone, Copy)]
+struct Run {
+    marks: usize,
+    end: usize,
+    next: Option<Step>,
+    is_unordered: bool,
+}
+
+/// What is seen of what comes after a run.
+#[derive(Clone, Copy)]
+enum Next {
+    /// Nothing.
+    Unknown,
+    /// A mark out of order.
+    Unordered,
+    /// A character that changes: it doesn't pass, and begins a new part.
+    Changed,
+}
+
+/// The end of what is passed on as it is, and what is seen of what comes after the run.
+#[derive(Clone, Copy)]
+pub(crate) struct Passed {
+    pub(crate) end: usize,
+    next: Next,
+}
+
+/// A run so far: where the marks at its end begin, where it ends, and the class of its last character. `gaps` tells how
+/// many units came between marks.
+#[derive(Clone, Copy)]
+struct RunSoFar {
+    marks: usize,
+    end: usize,
+    last: u8,
+    gaps: u8,
+}
+
+/// A segment that is seen to become one character: its end, whether a run may begin there, and that character.
+#[derive(Clone, Copy)]
+pub(crate) struct Composite {
+    pub(crate) end: usize,
+    pub(crate) is_before_run: bool,
+    pub(crate) character: char,
+}
+
+/// The end of what is kept, the step there, if it was read, the segment after it, if that is seen to become one
+/// character, and whether its marks are seen to be out of order.
+#[derive(Clone, Copy)]
+pub(crate) struct Kept {
+    pub(crate) end: usize,
+    pub(crate) next: Option<Step>,
+    pub(crate) composite: Option<Composite>,
+    pub(crate) is_unordered: bool,
+}
+
+/// The end of a segment, the step that follows, and whether that is passed on as it is.
+#[derive(Clone, Copy)]
+pub(crate) struct Segment {
+    pub(crate) end: usize,
+    pub(crate) next: Option<Step>,
+    pub(crate) is_before_run: bool,
+}
+
+/// Returns the class of a step that is passed on as it is after a character of class `last`, or why it isn't.
+#[inline(always)]
+#[tactic(auto, unfolding(crate::specs::inner::PassthroughRuns::next_class, crate::specs::inner::PassthroughRuns::class_of_step, crate::specs::inner::PassthroughRuns::class_in_order))]
+fn next_class<N: Forming>(normalizer: &N, last: u8, step: Step) -> Result<u8, Unseen>
+    ensures { MatchResult result (λ class. next_class (N.passthrough_class normalizer.now) last step ≡ Some class)
+        (λ _. next_class (N.passthrough_class normalizer.now) last step ≡ None) }
+{
+    if step.is_error && step.character == char::REPLACEMENT_CHARACTER {
+        return Err(Unseen::Unknown);
+    }
+    let Some(class) = normalizer.passthrough_class(step.character) else {
+        return Err(Unseen::Unknown);
+    };
+    if class == 0 || last <= class {
+        Ok(class)
+    } else {
+        Err(Unseen::Unordered)
+    }
+}
+
+/// Returns the class of a step that is seen to be passed on as it is after a character of class `last`.
+#[inline(always)]
+fn seen_class<N: Forming>(normalizer: &N, last: u8, step: Step) -> Option<u8>
+    ensures { IfSome result (λ class. next_class (N.passthrough_class normalizer.now) last step ≡ Some class) }
+{
+    if step.is_error {
+        return None;
+    }
+    normalizer.seen_class(last, step.character)
+}
+
+/// Returns the same class. Starters and marks are distinguished by a branch.
+#[inline(always)]
+fn branched_class<N: Forming>(normalizer: &N, last: u8, step: Step) -> Option<u8>
+    ensures { IfSome result (λ class. next_class (N.passthrough_class normalizer.now) last step ≡ Some class) }
+{
+    if step.is_error {
+        return None;
+    }
+    normalizer.branched_class(last, step.character)
+}
+
+/// How many characters are looked up one by one where letters and marks alternate.
+const PATIENCE: usize = 64;
+
+/// How many units between two marks are counted at most.
+const FAR: usize = 16;
+
+/// The sum of such counts below which letters and marks alternate.
+const NEAR: u8 = 28;
+
+/// The sum that a run begins with.
+const UNKNOWN: u8 = 32;
+
+/// Up to so many units are a short text: what comes after its first mark is looked at one by one.
+pub(crate) const SHORT: usize = 40;
+
+/// Returns the sum of the counts of units between marks, each 7/8 of the one after it, after one more count.
+#[inline(always)]
+fn gaps_after(gaps: u8, passed: usize) -> u8 {
+    gaps - gaps / 8 + passed.min(FAR) as u8
+}
+
+/// Returns where the marks at an end begin, after a character of a class.
+#[inline(always)]
+fn marks_after(marks: usize, class: u8, end: usize) -> usize
+    ensures starter { class ≡ 0 → result ≡ end }
+    ensures mark { class ≢ 0 → result ≡ marks }
+{
+    if class == 0 { end } else { marks }
+}
+
+/// Returns the run with one more character of a class.
+#[inline(always)]
+fn with_step(run: RunSoFar, step: Step, class: u8) -> RunSoFar
+    requires { run.end + step.width < 2 ^ 64 }
+    ensures end { result.end ≡ run.end + step.width }
+    ensures last { result.last ≡ class }
+    ensures starter { class ≡ 0 → result.marks ≡ result.end }
+    ensures mark { class ≢ 0 → result.marks ≡ run.marks }
+{
+    let end = run.end + step.width;
+    RunSoFar {
+        marks: marks_after(run.marks, class, end),
+        end,
+        last: class,
+        gaps: run.gaps,
+    }
+}
+
+/// Returns the run with the step after it, if that is seen to pass.
+#[inline(always)]
+fn with_seen<U: Units, N: Forming>(
+    normalizer: &N,
+    units: U,
+    run: RunSoFar,
+    step: Step,
+) -> Option<RunSoFar>
+    requires run { IsRunSoFar (N.passthrough_class normalizer.now) U.encoding (U.units units) run }
+    requires some { run.end < length (U.units units) }
+    requires step { step ≡ first_in U.encoding (drop run.end (U.units units)) }
+    requires fits { length (U.units units) < 2 ^ 64 }
+    ensures passes { IfSome result (GoesOn (N.passthrough_class normalizer.now) U.encoding (U.units units) run) }
+    ensures end { IfSome result (λ longer. longer.end ≡ run.end + step.width) }
+{
+    let Some(class) = seen_class(normalizer, run.last, step) else {
+        return None;
+    };
+    Some(with_step(run, step, class))
+}
+
+/// Returns the run with the next character, if that is seen to pass.
+#[inline(always)]
+fn with_next<U: Units, N: Forming>(normalizer: &N, units: U, run: RunSoFar) -> Option<RunSoFar>
+    requires run { IsRunSoFar (N.passthrough_class normalizer.now) U.encoding (U.units units) run }
+    requires some { run.end < length (U.units units) }
+    requires fits { length (U.units units) < 2 ^ 64 }
+    ensures { IfSome result (GoesOn (N.passthrough_class normalizer.now) U.encoding (U.units units) run) }
+{
+    match units.two_byte_step_at(run.end) {
+        Some(step) => with_seen(normalizer, units, run, step),
+        None => with_seen(normalizer, units, run, units.step_at(run.end)),
+    }
+}
+
+/// Returns the run with characters after it that are looked up one by one, without a branch that tells starters from
+/// marks. It isn't inlined, so that its loop has the registers for itself.
+#[inline(never)]
+fn with_several<U: Units, N: Forming>(normalizer: &N, units: U, run: RunSoFar) -> RunSoFar
+    requires { IsRunSoFar (N.passthrough_class normalizer.now) U.encoding (U.units units) run }
+    ensures { GoesOn (N.passthrough_class normalizer.now) U.encoding (U.units units) run result }
+{
+    let mut left = PATIENCE;
+    let mut longer = run;
+    while left > 0 && longer.end < units.len() {
+        let Some(more) = with_next(normalizer, units, longer) else {
+            return longer;
+        };
+        longer = more;
+        left -= 1;
+    }
+    longer
+}
+
+/// Returns the run with the members of a set after it, which are passed over together.
+#[inline(always)]
+fn with_members<U: Units, N: Forming>(normalizer: &N, units: U, run: RunSoFar) -> RunSoFar
+    requires { IsRunSoFar (N.passthrough_class normalizer.now) U.encoding (U.units units) run }
+    ensures { GoesOn (N.passthrough_class normalizer.now) U.encoding (U.units units) run result }
+{
+    let end = units.end_of_members(run.end, normalizer.passing());
+    let gaps = gaps_after(run.gaps, end - run.end);
+    if end == run.end {
+        return RunSoFar {
+            marks: run.marks,
+            end: run.end,
+            last: run.last,
+            gaps,
+        };
+    }
+    RunSoFar {
+        marks: end,
+        end,
+        last: 0,
+        gaps,
+    }
+}
+
+/// Returns the run with low characters after it, which are passed over one by one.
+#[inline(always)]
+fn with_low<U: Units, N: Forming>(normalizer: &N, units: U, run: RunSoFar) -> RunSoFar
+    requires { IsRunSoFar (N.passthrough_class normalizer.now) U.encoding (U.units units) run }
+    ensures { GoesOn (N.passthrough_class normalizer.now) U.encoding (U.units units) run result }
+{
+    let end = units.end_of_low(run.end, normalizer.passing().first_missing());
+    if end == run.end {
+        return run;
+    }
+    RunSoFar {
+        marks: end,
+        end,
+        last: 0,
+        gaps: run.gaps,
+    }
+}
+
+/// Returns the run with what is passed over at once after it. Where letters and marks alternate, each change between the
+/// two kinds of loop is a branch that isn't foreseen.
+#[inline(always)]
+fn with_more<U: Units, N: Forming>(normalizer: &N, units: U, run: RunSoFar) -> RunSoFar
+    requires { IsRunSoFar (N.passthrough_class normalizer.now) U.encoding (U.units units) run }
+    ensures { GoesOn (N.passthrough_class normalizer.now) U.encoding (U.units units) run result }
+{
+    let longer = with_members(normalizer, units, run);
+    if longer.gaps < NEAR {
+        // The parts are copied one by one, so that the loop keeps them in registers.
+        let RunSoFar {
+            marks,
+            end,
+            last,
+            gaps,
+        } = longer;
+        let several = with_several(
+            normalizer,
+            units,
+            RunSoFar {
+                marks,
+                end,
+                last,
+                gaps,
+            },
+        );
+        return RunSoFar {
+            marks: several.marks,
+            end: several.end,
+            last: several.last,
+            gaps: several.gaps,
+        };
+    }
+    longer
+}
+
+/// Returns the members of the set that the units begin with.
+#[inline(always)]
+fn first_run<U: Units, N: Forming>(normalizer: &N, units: U) -> RunSoFar
+    ensures { IsRunSoFar (N.passthrough_class normalizer.now) U.encoding (U.units units) result }
+{
+    let end = units.end_of_members(0, normalizer.passing());
+    RunSoFar {
+        marks: end,
+        end,
+        last: 0,
+        gaps: gaps_after(UNKNOWN, end),
+    }
+}
+
+/// Returns the members of the set that a short text begins with.
+#[inline(always)]
+fn first_few<U: Units, N: Forming>(normalizer: &N, units: U) -> RunSoFar
+    ensures { IsRunSoFar (N.passthrough_class normalizer.now) U.encoding (U.units units) result }
+{
+    let end = units.end_of_few_members(0, normalizer.passing());
+    RunSoFar {
+        marks: end,
+        end,
+        last: 0,
+        gaps: UNKNOWN,
+    }
+}
+
+/// Returns the run of low characters up to an end.
+#[inline(always)]
+fn low_run(end: usize) -> RunSoFar
+    ensures { (result.marks ≡ end) × (result.end ≡ end) × (result.last ≡ 0) }
+{
+    RunSoFar {
+        marks: end,
+        end,
+        last: 0,
+        gaps: UNKNOWN,
+    }
+}
+
+/// The sum of a run in which letters and marks are expected to alternate.
+const ALTERNATING: u8 = 0;
+
+/// Returns the characters that the units begin with, looked up one by one.
+#[inline(always)]
+fn first_several<U: Units, N: Forming>(normalizer: &N, units: U) -> RunSoFar
+    ensures { IsRunSoFar (N.passthrough_class normalizer.now) U.encoding (U.units units) result }
+{
+    let none = RunSoFar {
+        marks: 0,
+        end: 0,
+        last: 0,
+        gaps: ALTERNATING,
+    };
+    with_several(normalizer, units, none)
+}
+
+/// Returns the run, which a step ends that doesn't pass.
+#[inline(always)]
+fn stopped(run: RunSoFar, step: Step, unseen: Unseen) -> Run
+    ensures end { (result.marks ≡ run.marks) × (result.end ≡ run.end) }
+    ensures next { result.next ≡ Some step }
+{
+    Run {
+        marks: run.marks,
+        end: run.end,
+        next: Some(step),
+        is_unordered: matches!(unseen, Unseen::Unordered),
+    }
+}
+
+/// Returns the run, which goes up to the end of the units.
+#[inline(always)]
+fn whole(run: RunSoFar) -> Run
+    ensures end { (result.marks ≡ run.marks) × (result.end ≡ run.end) }
+    ensures next { result.next ≡ None }
+{
+    Run {
+        marks: run.marks,
+        end: run.end,
+        next: None,
+        is_unordered: false,
+    }
+}
+
+/// Returns the run of characters that are passed on as they are, of which a part is known: marks as long as their classes
+/// don't fall.
+#[inline(always)]
+fn run_end<U: Units, N: Forming>(normalizer: &N, units: U, known: RunSoFar) -> Run
+    requires { IsRunSoFar (N.passthrough_class normalizer.now) U.encoding (U.units units) known }
+    ensures run { IsRunEnd (N.passthrough_class normalizer.now) U.encoding (U.units units) result.marks result.end }
+    ensures next { MatchOption result.next (result.end ≡ length (U.units units))
+        (λ next. next ≡ first_in U.encoding (drop result.end (U.units units))) }
+{
+    // The parts are copied one by one, so that the loop keeps them in registers.
+    let mut run = RunSoFar {
+        marks: known.marks,
+        end: known.end,
+        last: known.last,
+        gaps: known.gaps,
+    };
+    while run.end < units.len() {
+        let step = units.step_at(run.end);
+        match next_class(normalizer, run.last, step) {
+            Ok(class) => run = with_more(normalizer, units, with_step(run, step, class)),
+            Err(unseen) => return stopped(run, step, unseen),
+        }
+    }
+    whole(run)
+}
+
+/// Returns the run with the step after it, if that is seen to pass, and with the low letters after it, if it is low
+/// itself. Low letters aren't looked up.
+#[inline(always)]
+fn with_one_more<U: Units, N: Forming>(
+    normalizer: &N,
+    units: U,
+    run: RunSoFar,
+    step: Step,
+) -> Option<RunSoFar>
+    requires run { IsRunSoFar (N.passthrough_class normalizer.now) U.encoding (U.units units) run }
+    requires some { run.end < length (U.units units) }
+    requires step { step ≡ first_in U.encoding (drop run.end (U.units units)) }
+    requires fits { length (U.units units) < 2 ^ 64 }
+    ensures passes { IfSome result (GoesOn (N.passthrough_class normalizer.now) U.encoding (U.units units) run) }
+    ensures end { IfSome result (λ longer. run.end < longer.end) }
+{
+    // Tested before anything else, so that well-formed steps aren't tested at all once this is inlined.
+    if step.is_error {
+        return None;
+    }
+    if (step.character as u32) < normalizer.passing().first_missing() {
+        return Some(with_low(normalizer, units, with_step(run, step, 0)));
+    }
+    let class = branched_class(normalizer, run.last, step)?;
+    Some(with_step(run, step, class))
+}
+
+/// Returns the step at a place. Sequences of two bytes are decoded apart, which takes fewer instructions.
+#[inline(always)]
+fn step_ahead<U: Units>(units: U, place: usize) -> Step
+    requires { place < length (U.units units) }
+    ensures { result ≡ first_in U.encoding (drop place (U.units units)) }
+{
+    match units.two_byte_step_at(place) {
+        Some(step) => step,
+        None => units.step_at(place),
+    }
+}
+
+/// Returns the run with characters after it that are looked at one by one. The parts of a run are copied one by one, so
+/// that the loop keeps them in registers.
+#[inline(always)]
+fn with_few<U: Units, N: Forming>(normalizer: &N, units: U, run: RunSoFar) -> RunSoFar
+    requires { IsRunSoFar (N.passthrough_class normalizer.now) U.encoding (U.units units) run }
+    ensures { GoesOn (N.passthrough_class normalizer.now) U.encoding (U.units units) run result }
+{
+    let (mut marks, mut end, mut last, gaps) = (run.marks, run.end, run.last, UNKNOWN);
+    while end < units.len() {
+        let step = step_ahead(units, end);
+        let known = RunSoFar {
+            marks,
+            end,
+            last,
+            gaps,
+        };
+        let Some(longer) = with_one_more(normalizer, units, known, step) else {
+            return known;
+        };
+        marks = longer.marks;
+        end = longer.end;
+        last = longer.last;
+    }
+    RunSoFar {
+        marks,
+        end,
+        last,
+        gaps,
+    }
+}
+
+/// Returns the same run, of which a part is known.
+#[inline(always)]
+fn run_end_after<U: Units, N: Forming>(normalizer: &N, units: U, known: RunSoFar) -> Run
+    requires { IsRunSoFar (N.passthrough_class normalizer.now) U.encoding (U.units units) known }
+    ensures run { IsRunEnd (N.passthrough_class normalizer.now) U.encoding (U.units units) result.marks result.end }
+    ensures next { MatchOption result.next (result.end ≡ length (U.units units))
+        (λ next. next ≡ first_in U.encoding (drop result.end (U.units units))) }
+{
+    let mut run = known;
+    while run.end < units.len() {
+        let step = units.step_at(run.end);
+        match next_class(normalizer, run.last, step) {
+            Ok(class) => run = with_few(normalizer, units, with_step(run, step, class)),
+            Err(unseen) => return stopped(run, step, unseen),
+        }
+    }
+    whole(run)
+}
+
+/// Returns the first step of the units, which may have been read before.
+#[inline(always)]
+pub(crate) fn first_step<U: Units>(units: U, first: Option<Step>) -> Step
+    requires some { 0 < length (U.units units) }
+    requires first { IfSome first (λ first. first ≡ first_in U.encoding (U.units units)) }
+    ensures { result ≡ first_in U.encoding (U.units units) }
+{
+    match first {
+        Some(first) => first,
+        None => units.step_at(0),
+    }
+}
+
+/// Returns the segment that begins with the first step: it ends before the next character that is normalized apart.
+#[inline(always)]
+pub(crate) fn front_segment<U: Units, N: Forming>(normalizer: &N, units: U, first: Step) -> Segment
+    requires some { 0 < length (U.units units) }
+    requires first { first ≡ first_in U.encoding (U.units units) }
+    ensures end { IsSegmentEnd (N.beginning normalizer.now) U.encoding (U.units units) result.end }
+    ensures next { IfSome result.next (λ next. next ≡ first_in U.encoding (drop result.end (U.units units))) }
+{
+    let mut end = first.width;
+    while end < units.len() {
+        let step = units.step_at(end);
+        if let Some(is_before_run) = normalizer.run_may_begin(step.character) {
+            return Segment {
+                end,
+                next: Some(step),
+                is_before_run,
+            };
+        }
+        end += step.width;
+    }
+    Segment {
+        end,
+        next: None,
+        is_before_run: false,
+    }
+}
+
+/// Returns the place before the last step up to an end.
+#[inline(always)]
+fn before_last<U: Units>(units: U, end: usize) -> usize
+    requires { IsBoundary (first_in U.encoding) (U.units units) end }
+    ensures { IsBeforeLast U.encoding (U.units units) end result }
+{
+    match units.before(end).last_step() {
+        Some(step) => end - step.width,
+        None => 0,
+    }
+}
+
+/// Returns the end of the front of the units that is passed on as it is: of a run, unless what follows begins a new part,
+/// without the last starter and the marks after it if it may compose with what follows, and else without these marks. In a
+/// text that isn't short, letters and marks may be expected to alternate.
+#[inline(always)]
+pub(crate) fn passthrough_end<U: Units, N: Forming>(
+    normalizer: &N,
+    units: U,
+    alternates: bool,
+) -> Passed
+    ensures { IsPassedFront U.encoding (N.made_form normalizer.now) (U.units units) result.end }
+{
+    if units.len() <= SHORT {
+        short_passthrough_end(normalizer, units)
+    } else if alternates {
+        alternating_passthrough_end(normalizer, units)
+    } else {
+        long_passthrough_end(normalizer, units)
+    }
+}
+
+/// Returns the same end of a text that isn't short.
+#[inline(never)]
+fn long_passthrough_end<U: Units, N: Forming>(normalizer: &N, units: U) -> Passed
+    ensures { IsPassedFront U.encoding (N.made_form normalizer.now) (U.units units) result.end }
+{
+    let first = first_run(normalizer, units);
+    passed_by(normalizer, units, run_end(normalizer, units, first))
+}
+
+/// Returns the same end of such a text, if a part of the run is known. The parts are passed one by one: as a run they would
+/// go through memory.
+#[inline(never)]
+fn long_passthrough_end_after<U: Units, N: Forming>(
+    normalizer: &N,
+    units: U,
+    marks: usize,
+    end: usize,
+    last: u8,
+) -> Passed
+    requires { IsRun (N.passthrough_class normalizer.now) U.encoding (U.units units) marks end last }
+    ensures { IsPassedFront U.encoding (N.made_form normalizer.now) (U.units units) result.end }
+{
+    let known = RunSoFar {
+        marks,
+        end,
+        last,
+        gaps: UNKNOWN,
+    };
+    let first = with_members(normalizer, units, known);
+    passed_by(normalizer, units, run_end(normalizer, units, first))
+}
+
+/// Returns the same end of a text in which letters and marks are expected to alternate.
+#[inline(never)]
+fn alternating_passthrough_end<U: Units, N: Forming>(normalizer: &N, units: U) -> Passed
+    ensures { IsPassedFront U.encoding (N.made_form normalizer.now) (U.units units) result.end }
+{
+    let first = first_several(normalizer, units);
+    passed_by(normalizer, units, run_end(normalizer, units, first))
+}
+
+/// Returns the same end of a short text.
+#[inline(never)]
+fn short_passthrough_end<U: Units, N: Forming>(normalizer: &N, units: U) -> Passed
+    ensures { IsPassedFront U.encoding (N.made_form normalizer.now) (U.units units) result.end }
+{
+    let run = with_few(normalizer, units, first_few(normalizer, units));
+    if run.end == units.len() {
+        return passed_by(normalizer, units, whole(run));
+    }
+    // What doesn't begin with two units that are seen to pass mostly changes.
+    if run.end <= 1 {
+        return Passed {
+            end: 0,
+            next: Next::Unknown,
+        };
+    }
+    passthrough_end_after(normalizer, units, run.marks, run.end, run.last)
+}
+
+/// Returns whether a text is well-formed and normalized, if that is seen: it passes, or the character that ends what
+/// passes changes by itself. The text is looked at as a short one.
+#[inline(never)]
+pub(crate) fn is_own_if_seen<U: Units, N: Forming>(normalizer: &N, units: U) -> Option<bool>
+    ensures { let m = N.made_form normalizer.now in IfSome result (λ own.
+        IsTrue own ↔ IsInputNormalized U.encoding m.reading m.form (U.units units)) }
+{
+    normalizer.passthrough_is_normalized_apart();
+    let run = with_few(normalizer, units, first_few(normalizer, units));
+    if run.end == units.len() {
+        return Some(true);
+    }
+    let step = units.step_at(run.end);
+    if changes_alone(normalizer, step.character) {
+        return Some(false);
+    }
+    None
+}
+
+/// Returns the same end, if a part of the run is known. It isn't inlined, so that the loop over what is seen to pass has
+/// the registers for itself. The parts are passed one by one: as a run they would go through memory.
+#[inline(never)]
+fn passthrough_end_after<U: Units, N: Forming>(
+    normalizer: &N,
+    units: U,
+    marks: usize,
+    end: usize,
+    last: u8,
+) -> Passed
+    requires { IsRun (N.passthrough_class normalizer.now) U.encoding (U.units units) marks end last }
+    ensures { IsPassedFront U.encoding (N.made_form normalizer.now) (U.units units) result.end }
+{
+    let known = RunSoFar {
+        marks,
+        end,
+        last,
+        gaps: UNKNOWN,
+    };
+    passed_by(normalizer, units, run_end_after(normalizer, units, known))
+}
+
+/// Returns the same end, by the run.
+#[inline(always)]
+fn passed_by<U: Units, N: Forming>(normalizer: &N, units: U, run: Run) -> Passed
+    requires run { IsRunEnd (N.passthrough_class normalizer.now) U.encoding (U.units units) run.marks run.end }
+    requires next { MatchOption run.next (run.end ≡ length (U.units units))
+        (λ next. next ≡ first_in U.encoding (drop run.end (U.units units))) }
+    ensures { IsPassedFront U.encoding (N.made_form normalizer.now) (U.units units) result.end }
+{
+    Passed {
+        end: end_before(normalizer, units, run),
+        next: seen_after(normalizer, run),
+    }
+}
+
+/// Returns what is seen of what comes after a run. In a decomposing form only the order of marks is told.
+#[inline(always)]
+fn seen_after<N: Forming>(normalizer: &N, run: Run) -> Next {
+    match run.next {
+        _ if run.is_unordered => Next::Unordered,
+        Some(next) if normalizer.holds_back() && normalizer.begins(next.character) => Next::Changed,
+        _ => Next::Unknown,
+    }
+}
+
+/// Returns that end, by the run.
+#[inline(always)]
+fn end_before<U: Units, N: Forming>(normalizer: &N, units: U, run: Run) -> usize
+    requires run { IsRunEnd (N.passthrough_class normalizer.now) U.encoding (U.units units) run.marks run.end }
+    requires next { MatchOption run.next (run.end ≡ length (U.units units))
+        (λ next. next ≡ first_in U.encoding (drop run.end (U.units units))) }
+    ensures { IsPassedFront U.encoding (N.made_form normalizer.now) (U.units units) result }
+{
+    normalizer.passthrough_is_normalized_apart();
+    let Some(next) = run.next else {
+        return run.end;
+    };
+    if normalizer.holds_back() {
+        if normalizer.begins(next.character) {
+            return run.end;
+        }
+        return before_last(units, run.marks);
+    }
+    if run.marks < run.end && normalizer.begins(next.character) {
+        return run.end;
+    }
+    run.marks
+}
+
+impl Passed {
+    /// Whether nothing after it is kept.
+    #[inline(always)]
+    fn is_all(self) -> bool {
+        !matches!(self.next, Next::Unknown)
+    }
+
+    #[inline(always)]
+    fn is_unordered(self) -> bool {
+        matches!(self.next, Next::Unordered)
+    }
+}
+
+impl Kept {
+    /// What is kept ends before a step that was read.
+    #[inline(always)]
+    fn up_to(end: usize, step: Step) -> Kept
+        ensures end { result.end ≡ end }
+        ensures next { result.next ≡ Some step }
+        ensures composite { result.composite ≡ None }
+    {
+        Kept {
+            end,
+            next: Some(step),
+            composite: None,
+            is_unordered: false,
+        }
+    }
+
+    /// What is kept ends there, and nothing is known of the segment after it but whether its marks are out of order.
+    #[inline(always)]
+    fn to(end: usize, is_unordered: bool) -> Kept
+        ensures end { result.end ≡ end }
+        ensures next { result.next ≡ None }
+        ensures composite { result.composite ≡ None }
+    {
+        Kept {
+            end,
+            next: None,
+            composite: None,
+            is_unordered,
+        }
+    }
+}
+
+/// Returns the end of the front of the units that is kept as it is: runs, and segments between them that are seen to
+/// stay. A segment whose marks are out of order doesn't. The units may be expected to begin with low characters, or else
+/// letters and marks to alternate.
+#[inline(always)]
+pub(crate) fn kept_end<U: Units, N: Forming>(
+    normalizer: &N,
+    units: U,
+    begins_low: bool,
+    alternates: bool,
+) -> Kept
+    ensures kept { let m = N.made_form normalizer.now in
+        IsKeptTo U.encoding m.reading m.form (U.units units) result.end }
+    ensures next { IfSome result.next (λ next. next ≡ first_in U.encoding (drop result.end (U.units units))) }
+    ensures composite { let m = N.made_form normalizer.now in IfSome result.composite (IsComposite
+        (N.beginning normalizer.now) U.encoding m.reading m.form (drop result.end (U.units units))) }
+{
+    if !begins_low || normalizer.holds_back() {
+        let passed = passthrough_end(normalizer, units, alternates);
+        return kept_from(normalizer, units, passed, alternates);
+    }
+    match kept_low(normalizer, units) {
+        Ok(kept) => kept,
+        Err(
+            RunSoFar {
+                marks,
+                end,
+                last,
+                ..
+            },
+        ) if units.len() > SHORT => {
+            let passed = long_passthrough_end_after(normalizer, units, marks, end, last);
+            kept_from(normalizer, units, passed, alternates)
+        }
+        Err(_) => {
+            let passed = short_passthrough_end(normalizer, units);
+            kept_from(normalizer, units, passed, alternates)
+        }
+    }
+}
+
+/// Up to so many units are looked at one by one where few low characters are expected.
+const FEW_LOW: usize = 16;
+
+/// Returns the low characters that the units begin with as kept, if they are few and the step after them ends what is
+/// passed on: in a decomposing form that needs no call. Else it returns the run so far, as an error.
+#[inline(always)]
+fn kept_low<U: Units, N: Forming>(normalizer: &N, units: U) -> Result<Kept, RunSoFar>
+    requires { N.held_back ≡ false }
+    ensures kept { let m = N.made_form normalizer.now in IfOk result (λ kept.
+        IsKeptTo U.encoding m.reading m.form (U.units units) kept.end) }
+    ensures next { IfOk result (λ kept. IfSome kept.next
+        (λ next. next ≡ first_in U.encoding (drop kept.end (U.units units)))) }
+    ensures composite { IfOk result (λ kept. kept.composite ≡ None) }
+    ensures run { IfErr result (IsRunSoFar (N.passthrough_class normalizer.now) U.encoding (U.units units)) }
+{
+    normalizer.passthrough_is_normalized_apart();
+    let bound = normalizer.passing().first_missing();
+    let mut end = 0;
+    while end < FEW_LOW && end < units.len() {
+        let step = units.step_at(end);
+        if step.character as u32 >= bound {
+            let class = match next_class(normalizer, 0, step) {
+                Ok(class) => class,
+                Err(_) => return Ok(Kept::up_to(end, step)),
+            };
+            return Err(with_step(low_run(end), step, class));
+        }
+        end += step.width;
+    }
+    Err(low_run(end))
+}
+
+/// Returns the same end, by that of the run at the beginning.
+#[inline(always)]
+pub(crate) fn kept_from<U: Units, N: Forming>(
+    normalizer: &N,
+    units: U,
+    passed: Passed,
+    alternates: bool,
+) -> Kept
+    requires { IsPassedFront U.encoding (N.made_form normalizer.now) (U.units units) passed.end }
+    ensures kept { let m = N.made_form normalizer.now in
+        IsKeptTo U.encoding m.reading m.form (U.units units) result.end }
+    ensures next { IfSome result.next (λ next. next ≡ first_in U.encoding (drop result.end (U.units units))) }
+    ensures composite { let m = N.made_form normalizer.now in IfSome result.composite (IsComposite
+        (N.beginning normalizer.now) U.encoding m.reading m.form (drop result.end (U.units units))) }
+{
+    if passed.end < units.len() && normalizer.holds_back() && !passed.is_all() {
+        return kept_after(normalizer, units, passed.end, alternates);
+    }
+    Kept::to(passed.end, passed.is_unordered())
+}
+
+/// Returns the same end, which comes after a run.
+fn kept_after<U: Units, N: Forming>(normalizer: &N, units: U, run: usize, alternates: bool) -> Kept
+    requires { let m = N.made_form normalizer.now in IsKeptTo U.encoding m.reading m.form (U.units units) run }
+    ensures kept { let m = N.made_form normalizer.now in
+        IsKeptTo U.encoding m.reading m.form (U.units units) result.end }
+    ensures next { IfSome result.next (λ next. next ≡ first_in U.encoding (drop result.end (U.units units))) }
+    ensures composite { let m = N.made_form normalizer.now in IfSome result.composite (IsComposite
+        (N.beginning normalizer.now) U.encoding m.reading m.form (drop result.end (U.units units))) }
+{
+    normalizer.passthrough_is_normalized_apart();
+    let mut end = run;
+    while end < units.len() {
+        let rest = units.after(end);
+        let seen = match normalizer.seen_segment(rest) {
+            Ok(seen) => seen,
+            Err(unseen) => return Kept::to(end, matches!(unseen, Unseen::Unordered)),
+        };
+        if let Some(character) = seen.becomes {
+            let composite = Composite {
+                end: seen.end,
+                is_before_run: seen.is_before_run,
+                character,
+            };
+            return Kept {
+                end,
+                next: None,
+                composite: Some(composite),
+                is_unordered: false,
+            };
+        }
+        end += seen.end;
+        if seen.is_before_run {
+            let passed = passthrough_end(normalizer, units.after(end), alternates);
+            end += passed.end;
+            if passed.is_all() {
+                return Kept::to(end, passed.is_unordered());
+            }
+        }
+    }
+    Kept::to(end, false)
+}

@@ -1,0 +1,393 @@
+//! Writing the characters of an iterator to an output.
+ghost use Rattle.std.specs.Prelude.{ℕ, ◌≡◌, ◌<◌, ◌∷◌, [], List, drop, length};
+ghost use Rattle.std.specs.Prelude.{Err, IfErr, IfOk, IfSome, IsErrOf, IsOk, IsOkUnless};
+ghost use Rattle.std.specs.Iterator.{IsFinite};
+ghost use Rattle.normalizer_tables.specs.ShortLists.{text_of};
+ghost use Rattle.normalizer_text.specs.Encodings.{first_in};
+ghost use Rattle.normalizer_iterators.specs.Items.{SpellsOk, SpellsUnless};
+ghost use Rattle.normalizer_iterators.specs.CharactersLeft.{characters_left};
+ghost use Rattle.normalizer_calls.specs.Forms.{form_in, HasShortUnits};
+ghost use Rattle.normalizer_calls.specs.inner.FormsOfOne.{text_of_one};
+ghost use Rattle.normalizer_calls.specs.inner.Offences.{IsFirstOrNone};
+ghost use Rattle.normalizer_calls.specs.inner.PassthroughRuns.{IsComposite, IsSegmentEnd};
+ghost use Rattle.normalizer_calls.specs.Writing.{TellsLengthFirst};
+ghost use Rattle.normalizer_calls.specs.inner.WrittenParts.{NothingOffered, WritesPart, WritesText, WritesUnits};
+
+use crate::form_of_one::FormOfOne;
+use crate::forming::Forming;
+use crate::runs::{Composite, Kept, Segment, first_step, front_segment, kept_end};
+use normalizer_iterators::{MarkRun, NormalizeError, SegmentBuffers};
+use normalizer_tables::members::Members;
+use normalizer_tables::short_list::ShortList;
+use normalizer_text::output::Output;
+use normalizer_text::{Step, Units};
+
+/// Writes the characters, each after the one before, up to the first error.
+pub(crate) fn write_items<U: Units, I, O: Output<U>>(
+    items: I,
+    output: &mut O,
+) -> Result<(), NormalizeError>
+where
+    I: Iterator<Item = Result<char, NormalizeError>> + Drop,
+    requires can { I.can_next items }
+    requires ends { IsFinite (I.remaining items) }
+    ensures text { (x : List ℕ) → SpellsUnless I.next_gives NormalizeError.Memory items x
+        → WritesText U.encoding O.Output NothingOffered x output.old result output.new }
+    ensures room { (x : List ℕ) → SpellsOk I.next_gives items x → ¬ IsErrOf result NormalizeError.Memory }
+{
+    for item in items {
+        output.write_char(item?)?;
+    }
+    Ok(())
+}
+
+/// Returns the first character of an iterator, if there is one.
+pub(crate) fn first_item<I>(mut items: I) -> Result<Option<char>, NormalizeError>
+where
+    I: Iterator<Item = Result<char, NormalizeError>> + Drop,
+    requires { I.can_next items }
+    ensures first { (x : List ℕ) → SpellsUnless I.next_gives NormalizeError.Memory items x →
+        IfOk result (IsFirstOrNone x) × IsOkUnless result NormalizeError.Memory }
+    ensures room { (x : List ℕ) → SpellsOk I.next_gives items x → IsOk result }
+{
+    match items.next() {
+        Some(Ok(first)) => Ok(Some(first)),
+        Some(Err(fault)) => Err(fault),
+        None => Ok(None),
+    }
+}
+
+/// Writes the form of one character.
+#[tactic(auto, unfolding(crate::specs::inner::FormsOfOne::text_of_one))]
+#[inline(always)]
+fn write_form_of_one<U: Units, O: Output<U>>(
+    form: FormOfOne<'_>,
+    output: &mut O,
+) -> Result<(), NormalizeError>
+    ensures text { WritesText U.encoding O.Output NothingOffered (text_of_one form.entry) output.old result output.new }
+    ensures room { ¬ IsErrOf result NormalizeError.Memory }
+{
+    match form {
+        FormOfOne::Short(list) => write_short::<U, O>(list, output),
+        FormOfOne::Four(first, second, third, fourth) => {
+            write_text::<U, O>(&[first, second, third, fourth], output)
+        }
+        FormOfOne::Listed(members) => write_members::<U, O>(&members, output),
+    }
+}
+
+/// Writes the members of a list, each after the one before.
+#[inline(always)]
+fn write_members<U: Units, O: Output<U>>(
+    members: &Members<'_>,
+    output: &mut O,
+) -> Result<(), NormalizeError>
+    ensures text { WritesText U.encoding O.Output NothingOffered members.now output.old result output.new }
+    ensures room { ¬ IsErrOf result NormalizeError.Memory }
+{
+    let mut place = 0;
+    while place < members.len() {
+        output.write_char(members.at(place))?;
+        place += 1;
+    }
+    Ok(())
+}
+
+/// Writes the characters of a list, each after the one before.
+#[tactic(auto, unfolding(normalizer_tables::specs::ShortLists::text_of))]
+#[inline(always)]
+fn write_short<U: Units, O: Output<U>>(
+    list: ShortList,
+    output: &mut O,
+) -> Result<(), NormalizeError>
+    ensures text { WritesText U.encoding O.Output NothingOffered (text_of list) output.old result output.new }
+    ensures room { ¬ IsErrOf result NormalizeError.Memory }
+{
+    match list {
+        ShortList::One(first) => write_text::<U, O>(&[first], output),
+        ShortList::Two(first, second) => write_text::<U, O>(&[first, second], output),
+        ShortList::Three(first, second, third) => {
+            write_text::<U, O>(&[first, second, third], output)
+        }
+    }
+}
+
+/// Writes characters, each after the one before.
+#[inline(always)]
+fn write_text<U: Units, O: Output<U>>(text: &[char], output: &mut O) -> Result<(), NormalizeError>
+    ensures text { WritesText U.encoding O.Output NothingOffered text.now output.old result output.new }
+    ensures room { ¬ IsErrOf result NormalizeError.Memory }
+{
+    let mut place = 0;
+    while place < text.len() {
+        output.write_char(text[place])?;
+        place += 1;
+    }
+    Ok(())
+}
+
+/// Writes what is left of a run of marks, character by character.
+fn write_marks<U: Units, O: Output<U>>(
+    mut run: MarkRun,
+    output: &mut O,
+) -> Result<(), NormalizeError>
+    ensures text { WritesText U.encoding O.Output NothingOffered (characters_left run) output.old result output.new }
+    ensures room { ¬ IsErrOf result NormalizeError.Memory }
+{
+    while let Some(character) = run.pop_front() {
+        output.write_char(character)?;
+    }
+    Ok(())
+}
+
+/// Writes the form of what the units decode to, character by character, however long it is: from a run of marks, or
+/// from an iterator. The first step was read before.
+#[inline(never)]
+fn write_long<U: Units, N: Forming, O: Output<U>>(
+    normalizer: &N,
+    units: U,
+    first: Step,
+    output: &mut O,
+) -> Result<(), NormalizeError>
+    requires some { 0 < length (U.units units) }
+    requires first { first ≡ first_in U.encoding (U.units units) }
+    ensures text { WritesText U.encoding O.Output NothingOffered
+        (form_in (N.made_form normalizer.now) U.encoding (U.units units)) output.old result output.new }
+    ensures room { HasShortUnits (N.made_form normalizer.now) U.encoding (U.units units) →
+        ¬ IsErrOf result NormalizeError.Memory }
+{
+    if let Some(run) = normalizer.mark_run(units, first)? {
+        return write_marks::<U, O>(run, output);
+    }
+    normalizer.write_items(units, output)
+}
+
+/// Writes the form of what the units decode to, character by character: what they were seen to become, or from the list
+/// of a single character, from the buffers if it fits, or from what fits any length. The first step was read before.
+#[inline(always)]
+fn write_segment<U: Units, N: Forming, O: Output<U>>(
+    normalizer: &N,
+    units: U,
+    first: Step,
+    composite: Option<Composite>,
+    buffers: &mut SegmentBuffers,
+    output: &mut O,
+) -> Result<(), NormalizeError>
+    requires some { 0 < length (U.units units) }
+    requires first { first ≡ first_in U.encoding (U.units units) }
+    requires composite { IfSome composite
+        (λ c. form_in (N.made_form normalizer.now) U.encoding (U.units units) ≡ c.character ∷ []) }
+    ensures text { WritesText U.encoding O.Output NothingOffered
+        (form_in (N.made_form normalizer.now) U.encoding (U.units units)) output.old result output.new }
+    ensures room { HasShortUnits (N.made_form normalizer.now) U.encoding (U.units units) →
+        ¬ IsErrOf result NormalizeError.Memory }
+{
+    if let Some(composite) = composite {
+        let character = composite.character;
+        return write_text::<U, O>(&[character], output);
+    }
+    if first.width == units.len() {
+        if let Some(form) = normalizer.form_of_one(first.character) {
+            return write_form_of_one::<U, O>(form, output);
+        }
+    }
+    if normalizer.short_form(units, buffers) {
+        return write_text::<U, O>(buffers.text(), output);
+    }
+    write_long(normalizer, units, first, output)
+}
+
+/// Writes the front of the units that is kept as it is, in one piece, and returns its end, 0 if there is none, the step
+/// there, if it was read, and the segment after it, if that is seen to become one character. The units may be expected to
+/// begin with low characters, or else letters and marks to alternate.
+#[inline(always)]
+fn write_run<U: Units, N: Forming, O: Output<U>>(
+    normalizer: &N,
+    units: U,
+    begins_low: bool,
+    alternates: bool,
+    output: &mut O,
+) -> Result<Kept, NormalizeError>
+    ensures none { IfOk result (λ kept. kept.end ≡ 0 → output.new ≡ output.old) }
+    ensures part { IfOk result (λ kept. 0 < kept.end → WritesPart U.encoding O.Output (N.made_form normalizer.now)
+        (U.units units) output.old kept.end output.new) }
+    ensures next { IfOk result (λ kept. IfSome kept.next
+        (λ next. next ≡ first_in U.encoding (drop kept.end (U.units units)))) }
+    ensures composite { let m = N.made_form normalizer.now in IfOk result (λ kept. IfSome kept.composite (IsComposite
+        (N.beginning normalizer.now) U.encoding m.reading m.form (drop kept.end (U.units units)))) }
+    ensures refused { IfErr result (λ fault. WritesUnits U.encoding O.Output (N.made_form normalizer.now)
+        (U.units units) output.old (Err fault) output.new) }
+    ensures room { ¬ IsErrOf result NormalizeError.Memory }
+{
+    let kept = kept_end(normalizer, units, begins_low, alternates);
+    if kept.end > 0 {
+        output.write_piece(units.before(kept.end))?;
+    }
+    Ok(kept)
+}
+
+/// Returns the segment in beginning of the units: the one that was seen, or else up to its end.
+#[inline(always)]
+fn segment_ahead<U: Units, N: Forming>(
+    normalizer: &N,
+    units: U,
+    first: Step,
+    composite: Option<Composite>,
+) -> Segment
+    requires some { 0 < length (U.units units) }
+    requires first { first ≡ first_in U.encoding (U.units units) }
+    requires composite { IfSome composite
+        (λ c. IsSegmentEnd (N.beginning normalizer.now) U.encoding (U.units units) c.end) }
+    ensures end { IsSegmentEnd (N.beginning normalizer.now) U.encoding (U.units units) result.end }
+    ensures next { IfSome result.next (λ next. next ≡ first_in U.encoding (drop result.end (U.units units))) }
+    ensures composite { IfSome composite (λ c. result.end ≡ c.end) }
+{
+    match composite {
+        Some(composite) => Segment {
+            end: composite.end,
+            next: None,
+            is_before_run: composite.is_before_run,
+        },
+        None => front_segment(normalizer, units, first),
+    }
+}
+
+/// Writes the form of the segment at the beginning of the units, and returns that.
+#[inline(always)]
+fn write_front_segment<U: Units, N: Forming, O: Output<U>>(
+    normalizer: &N,
+    units: U,
+    first: Option<Step>,
+    composite: Option<Composite>,
+    buffers: &mut SegmentBuffers,
+    output: &mut O,
+) -> Result<Segment, NormalizeError>
+    requires some { 0 < length (U.units units) }
+    requires first { IfSome first (λ first. first ≡ first_in U.encoding (U.units units)) }
+    requires composite { let m = N.made_form normalizer.now in IfSome composite
+        (IsComposite (N.beginning normalizer.now) U.encoding m.reading m.form (U.units units)) }
+    ensures segment { IfOk result (λ segment. IsSegmentEnd (N.beginning normalizer.now)
+        U.encoding (U.units units) segment.end) }
+    ensures next { IfOk result (λ segment. IfSome segment.next
+        (λ next. next ≡ first_in U.encoding (drop segment.end (U.units units)))) }
+    ensures part { IfOk result (λ segment. WritesPart U.encoding O.Output (N.made_form normalizer.now)
+        (U.units units) output.old segment.end output.new) }
+    ensures refused { IfErr result (λ fault. WritesUnits U.encoding O.Output (N.made_form normalizer.now)
+        (U.units units) output.old (Err fault) output.new) }
+    ensures room { HasShortUnits (N.made_form normalizer.now) U.encoding (U.units units) →
+        ¬ IsErrOf result NormalizeError.Memory }
+{
+    normalizer.passthrough_is_normalized_apart();
+    let first = first_step(units, first);
+    let segment = segment_ahead(normalizer, units, first, composite);
+    write_segment(
+        normalizer,
+        units.before(segment.end),
+        first,
+        composite,
+        buffers,
+        output,
+    )?;
+    Ok(segment)
+}
+
+/// Whether a step is of a low character, if it was read.
+#[inline(always)]
+fn begins_low<N: Forming>(normalizer: &N, step: Option<Step>) -> bool {
+    match step {
+        Some(step) => (step.character as u32) < normalizer.passing().first_missing(),
+        None => false,
+    }
+}
+
+/// Writes the form of what the units decode to, from a segment at their front on: segments, and the runs between them.
+/// (The buffers are borrowed, so that no way out of the loop drops them.)
+fn write_segments<U: Units, N: Forming, O: Output<U>>(
+    normalizer: &N,
+    units: U,
+    composite: Option<Composite>,
+    buffers: &mut SegmentBuffers,
+    output: &mut O,
+) -> Result<(), NormalizeError>
+    requires { let m = N.made_form normalizer.now in IfSome composite
+        (IsComposite (N.beginning normalizer.now) U.encoding m.reading m.form (U.units units)) }
+    ensures text { WritesUnits U.encoding O.Output (N.made_form normalizer.now) (U.units units)
+        output.old result output.new }
+    ensures room { HasShortUnits (N.made_form normalizer.now) U.encoding (U.units units) →
+        ¬ IsErrOf result NormalizeError.Memory }
+{
+    let mut position = 0;
+    let mut first = None;
+    let mut seen = composite;
+    let mut unordered = false;
+    while position < units.len() {
+        let rest = units.after(position);
+        let segment = write_front_segment(normalizer, rest, first, seen, buffers, output)?;
+        position += segment.end;
+        first = segment.next;
+        seen = None;
+        if segment.is_before_run {
+            // After marks out of order, letters and marks are expected to alternate.
+            let low = begins_low(normalizer, first);
+            let kept = write_run(normalizer, units.after(position), low, unordered, output)?;
+            position += kept.end;
+            first = kept.next;
+            seen = kept.composite;
+            unordered = kept.is_unordered;
+            buffers.expect_unordered(unordered);
+        }
+    }
+    Ok(())
+}
+
+/// Writes the form of what the units decode to, if nothing at their front is seen to stay.
+pub(crate) fn write_changed<U: Units, N: Forming, O: Output<U>>(
+    normalizer: &N,
+    units: U,
+    composite: Option<Composite>,
+    output: &mut O,
+) -> Result<(), NormalizeError>
+    requires { let m = N.made_form normalizer.now in IfSome composite
+        (IsComposite (N.beginning normalizer.now) U.encoding m.reading m.form (U.units units)) }
+    ensures text { WritesUnits U.encoding O.Output (N.made_form normalizer.now) (U.units units)
+        output.old result output.new }
+    ensures room { HasShortUnits (N.made_form normalizer.now) U.encoding (U.units units) →
+        ¬ IsErrOf result NormalizeError.Memory }
+{
+    let mut buffers = normalizer.segment_buffers();
+    write_segments(normalizer, units, composite, &mut buffers, output)
+}
+
+/// Writes the form of what the units decode to: runs, and the segments between them.
+fn write_parts<U: Units, N: Forming, O: Output<U>>(
+    normalizer: &N,
+    units: U,
+    output: &mut O,
+) -> Result<(), NormalizeError>
+    ensures text { WritesUnits U.encoding O.Output (N.made_form normalizer.now) (U.units units)
+        output.old result output.new }
+    ensures room { HasShortUnits (N.made_form normalizer.now) U.encoding (U.units units) →
+        ¬ IsErrOf result NormalizeError.Memory }
+{
+    let kept = write_run(normalizer, units, false, false, output)?;
+    if kept.end == units.len() {
+        return Ok(());
+    }
+    write_changed(normalizer, units.after(kept.end), kept.composite, output)
+}
+
+/// Writes the form of what the units decode to. The output first receives the number of units.
+pub(crate) fn form_to<U: Units, N: Forming, O: Output<U>>(
+    normalizer: &N,
+    units: U,
+    output: &mut O,
+) -> Result<(), NormalizeError>
+    ensures text { WritesUnits U.encoding O.Output (N.made_form normalizer.now) (U.units units)
+        output.old result output.new }
+    ensures room { HasShortUnits (N.made_form normalizer.now) U.encoding (U.units units) →
+        ¬ IsErrOf result NormalizeError.Memory }
+    ensures first { TellsLengthFirst O.text_taken O.length_hint (length (U.units units)) output.old result output.new }
+{
+    output.begin(units.len())?;
+    write_parts(normalizer, units, output)
+}
