@@ -13,7 +13,7 @@ use crate::borrowed::NormalizerBorrowed;
 use crate::changing::{changes_first, has_unordered_marks};
 use crate::forming::Forming;
 use crate::offence::{cut_after, offence_of};
-use crate::runs::{Passed, SHORT, is_own_if_seen, kept_from, passthrough_end};
+use crate::runs::{ExpectedFront, Passed, SHORT, is_own_if_seen, kept_from, passthrough_end};
 use normalizer_iterators::NormalizeError;
 use normalizer_text::Offence;
 use normalizer_text::check_sink::Expected;
@@ -28,7 +28,7 @@ fn is_own_form<U: Expected, N: Forming>(normalizer: &N, units: U) -> Result<bool
             return Ok(own);
         }
     }
-    let passed = passthrough_end(normalizer, units, false);
+    let passed = passthrough_end(normalizer, units, ExpectedFront::Run);
     if passed.end == units.len() {
         return Ok(true);
     }
@@ -46,7 +46,7 @@ fn is_own_after_run<U: Expected, N: Forming>(
     requires { IsPassedFront U.encoding (N.made_form normalizer.now) (U.units units) passed.end }
     ensures { ChecksForm (N.made_form normalizer.now) U.encoding (U.units units) result }
 {
-    let kept = kept_from(normalizer, units, passed, false);
+    let kept = kept_from(normalizer, units, passed, ExpectedFront::Run);
     if kept.end == units.len() {
         return Ok(true);
     }

@@ -7,7 +7,7 @@ ghost use Rattle.normalizer_calls.specs.inner.Offences.{IsCutUnlessNormalized};
 ghost use Rattle.normalizer_calls.specs.inner.PassthroughRuns.{IsPassedFront};
 
 use crate::forming::Forming;
-use crate::runs::{Passed, kept_from, passthrough_end};
+use crate::runs::{ExpectedFront, Passed, kept_from, passthrough_end};
 use crate::writing::write_changed;
 use normalizer_iterators::NormalizeError;
 use normalizer_text::Offence;
@@ -49,7 +49,7 @@ pub(crate) fn cut_of<U: Expected, N: Forming>(
     ensures room { HasShortUnits (N.made_form normalizer.now) U.encoding (U.units units) → IsOk result }
     ensures refused { IsOkUnless result NormalizeError.Memory }
 {
-    let passed = passthrough_end(normalizer, units, false);
+    let passed = passthrough_end(normalizer, units, ExpectedFront::Run);
     if passed.end == units.len() {
         return Ok(None);
     }
@@ -70,7 +70,7 @@ fn cut_after_run<U: Expected, N: Forming>(
     ensures room { HasShortUnits (N.made_form normalizer.now) U.encoding (U.units units) → IsOk result }
     ensures refused { IsOkUnless result NormalizeError.Memory }
 {
-    let kept = kept_from(normalizer, units, passed, false);
+    let kept = kept_from(normalizer, units, passed, ExpectedFront::Run);
     cut_after(normalizer, units, kept.end)
 }
 

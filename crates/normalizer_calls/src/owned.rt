@@ -15,7 +15,7 @@ use crate::borrowed::NormalizerBorrowed;
 use crate::changing::{changes_first, has_unordered_marks};
 use crate::forming::Forming;
 use crate::offence::cut_after;
-use crate::runs::{Composite, kept_end};
+use crate::runs::{Composite, ExpectedFront, kept_end};
 use crate::writing::write_changed;
 use normalizer_iterators::NormalizeError;
 use normalizer_text::check_sink::Expected;
@@ -78,7 +78,7 @@ fn change_of<U: Expected, N: Forming>(
     ensures room { HasShortUnits (N.made_form normalizer.now) U.encoding (U.units units) → IsOk result }
     ensures refused { IsOkUnless result NormalizeError.Memory }
 {
-    let kept = kept_end(normalizer, units, false, false);
+    let kept = kept_end(normalizer, units, ExpectedFront::Run);
     if kept.end == units.len() {
         return Ok(None);
     }

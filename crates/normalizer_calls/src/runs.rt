@@ -22,6 +22,17 @@ struct Run {
     is_unordered: bool,
 }
 
+/// What units are expected to begin with.
+#[derive(Clone, Copy, PartialEq, Eq)]
+pub(crate) enum ExpectedFront {
+    /// Characters that pass.
+    Run,
+    /// A few low characters, and then one that changes.
+    Low,
+    /// Letters and marks that alternate.
+    Alternating,
+}
+
 /// What is seen of what comes after a run.
 #[derive(Clone, Copy)]
 enum Next {
@@ -312,12 +323,13 @@ fn first_run<U: Units, N: Forming>(normalizer: &N, units: U) -> RunSoFar
     }
 }
 
-/// Returns the members of the set that a short text begins with.
+/// Returns the low characters that the units begin with.
 #[inline(always)]
-fn first_few<U: Units, N: Forming>(normalizer: &N, units: U) -> RunSoFar
-    ensures { IsRunSoFar (N.passthrough_class normalizer.now) U.encoding (U.units units) result }
+fn first_low<U: Units, N: Forming>(normalizer: &N, units: U) -> RunSoFar
+    ensures run { IsRunSoFar (N.passthrough_class normalizer.now) U.encoding (U.units units) result }
+    ensures starters { (result.marks ≡ result.end) × (result.last ≡ 0) }
 {
-    let end = units.end_of_few_members(0, normalizer.passing());
+    let end = units.end_of_low_run(0, normalizer.passing().first_missing());
     RunSoFar {
         marks: end,
         end,
@@ -326,11 +338,16 @@ fn first_few<U: Units, N: Forming>(normalizer: &N, units: U) -> RunSoFar
     }
 }
 
-/// Returns the run of low characters up to an end.
+/// Returns the low characters that a short text begins with, or else the members of the set.
 #[inline(always)]
-fn low_run(end: usize) -> RunSoFar
-    ensures { (result.marks ≡ end) × (result.end ≡ end) × (result.last ≡ 0) }
+fn first_few<U: Units, N: Forming>(normalizer: &N, units: U) -> RunSoFar
+    ensures { IsRunSoFar (N.passthrough_class normalizer.now) U.encoding (U.units units) result }
 {
+    let low = first_low(normalizer, units);
+    if low.end > 0 {
+        return low;
+    }
+    let end = units.end_of_few_members(0, normalizer.passing());
     RunSoFar {
         marks: end,
         end,
@@ -552,19 +569,18 @@ fn before_last<U: Units>(units: U, end: usize) -> usize
 }
 
 /// Returns the end of the front of the units that is passed on as it is: of a run, unless what follows begins a new part,
-/// without the last starter and the marks after it if it may compose with what follows, and else without these marks. In a
-/// text that isn't short, letters and marks may be expected to alternate.
+/// without the last starter and the marks after it if it may compose with what follows, and else without these marks.
 #[inline(always)]
 pub(crate) fn passthrough_end<U: Units, N: Forming>(
     normalizer: &N,
     units: U,
-    alternates: bool,
+    expected: ExpectedFront,
 ) -> Passed
     ensures { IsPassedFront U.encoding (N.made_form normalizer.now) (U.units units) result.end }
 {
     if units.len() <= SHORT {
         short_passthrough_end(normalizer, units)
-    } else if alternates {
+    } else if expected == ExpectedFront::Alternating {
         alternating_passthrough_end(normalizer, units)
     } else {
         long_passthrough_end(normalizer, units)
@@ -766,14 +782,12 @@ impl Kept {
 }
 
 /// Returns the end of the front of the units that is kept as it is: runs, and segments between them that are seen to
-/// stay. A segment whose marks are out of order doesn't. The units may be expected to begin with low characters, or else
-/// letters and marks to alternate.
+/// stay. A segment whose marks are out of order doesn't.
 #[inline(always)]
 pub(crate) fn kept_end<U: Units, N: Forming>(
     normalizer: &N,
     units: U,
-    begins_low: bool,
-    alternates: bool,
+    expected: ExpectedFront,
 ) -> Kept
     ensures kept { let m = N.made_form normalizer.now in
         IsKeptTo U.encoding m.reading m.form (U.units units) result.end }
@@ -781,9 +795,9 @@ pub(crate) fn kept_end<U: Units, N: Forming>(
     ensures composite { let m = N.made_form normalizer.now in IfSome result.composite (IsComposite
         (N.beginning normalizer.now) U.encoding m.reading m.form (drop result.end (U.units units))) }
 {
-    if !begins_low || normalizer.holds_back() {
-        let passed = passthrough_end(normalizer, units, alternates);
-        return kept_from(normalizer, units, passed, alternates);
+    if expected != ExpectedFront::Low || normalizer.holds_back() {
+        let passed = passthrough_end(normalizer, units, expected);
+        return kept_from(normalizer, units, passed, expected);
     }
     match kept_low(normalizer, units) {
         Ok(kept) => kept,
@@ -796,20 +810,17 @@ pub(crate) fn kept_end<U: Units, N: Forming>(
             },
         ) if units.len() > SHORT => {
             let passed = long_passthrough_end_after(normalizer, units, marks, end, last);
-            kept_from(normalizer, units, passed, alternates)
+            kept_from(normalizer, units, passed, expected)
         }
         Err(_) => {
             let passed = short_passthrough_end(normalizer, units);
-            kept_from(normalizer, units, passed, alternates)
+            kept_from(normalizer, units, passed, expected)
         }
     }
 }
 
-/// Up to so many units are looked at one by one where few low characters are expected.
-const FEW_LOW: usize = 16;
-
-/// Returns the low characters that the units begin with as kept, if they are few and the step after them ends what is
-/// passed on: in a decomposing form that needs no call. Else it returns the run so far, as an error.
+/// Returns the low characters that the units begin with as kept, if the step after them ends what is passed on: in a
+/// decomposing form that needs no call. Else it returns the run so far, as an error.
 #[inline(always)]
 fn kept_low<U: Units, N: Forming>(normalizer: &N, units: U) -> Result<Kept, RunSoFar>
     requires { N.held_back ≡ false }
@@ -821,20 +832,15 @@ fn kept_low<U: Units, N: Forming>(normalizer: &N, units: U) -> Result<Kept, RunS
     ensures run { IfErr result (IsRunSoFar (N.passthrough_class normalizer.now) U.encoding (U.units units)) }
 {
     normalizer.passthrough_is_normalized_apart();
-    let bound = normalizer.passing().first_missing();
-    let mut end = 0;
-    while end < FEW_LOW && end < units.len() {
-        let step = units.step_at(end);
-        if step.character as u32 >= bound {
-            let class = match next_class(normalizer, 0, step) {
-                Ok(class) => class,
-                Err(_) => return Ok(Kept::up_to(end, step)),
-            };
-            return Err(with_step(low_run(end), step, class));
-        }
-        end += step.width;
+    let low = first_low(normalizer, units);
+    if low.end == units.len() {
+        return Err(low);
     }
-    Err(low_run(end))
+    let step = units.step_at(low.end);
+    match next_class(normalizer, 0, step) {
+        Ok(class) => Err(with_step(low, step, class)),
+        Err(_) => Ok(Kept::up_to(low.end, step)),
+    }
 }
 
 /// Returns the same end, by that of the run at the beginning.
@@ -843,7 +849,7 @@ pub(crate) fn kept_from<U: Units, N: Forming>(
     normalizer: &N,
     units: U,
     passed: Passed,
-    alternates: bool,
+    expected: ExpectedFront,
 ) -> Kept
     requires { IsPassedFront U.encoding (N.made_form normalizer.now) (U.units units) passed.end }
     ensures kept { let m = N.made_form normalizer.now in
@@ -853,13 +859,18 @@ pub(crate) fn kept_from<U: Units, N: Forming>(
         (N.beginning normalizer.now) U.encoding m.reading m.form (drop result.end (U.units units))) }
 {
     if passed.end < units.len() && normalizer.holds_back() && !passed.is_all() {
-        return kept_after(normalizer, units, passed.end, alternates);
+        return kept_after(normalizer, units, passed.end, expected);
     }
     Kept::to(passed.end, passed.is_unordered())
 }
 
 /// Returns the same end, which comes after a run.
-fn kept_after<U: Units, N: Forming>(normalizer: &N, units: U, run: usize, alternates: bool) -> Kept
+fn kept_after<U: Units, N: Forming>(
+    normalizer: &N,
+    units: U,
+    run: usize,
+    expected: ExpectedFront,
+) -> Kept
     requires { let m = N.made_form normalizer.now in IsKeptTo U.encoding m.reading m.form (U.units units) run }
     ensures kept { let m = N.made_form normalizer.now in
         IsKeptTo U.encoding m.reading m.form (U.units units) result.end }
@@ -890,7 +901,7 @@ fn kept_after<U: Units, N: Forming>(normalizer: &N, units: U, run: usize, altern
         }
         end += seen.end;
         if seen.is_before_run {
-            let passed = passthrough_end(normalizer, units.after(end), alternates);
+            let passed = passthrough_end(normalizer, units.after(end), expected);
             end += passed.end;
             if passed.is_all() {
                 return Kept::to(end, passed.is_unordered());

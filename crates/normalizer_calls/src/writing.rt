@@ -15,7 +15,7 @@ ghost use Rattle.normalizer_calls.specs.inner.WrittenParts.{NothingOffered, Writ
 
 use crate::form_of_one::FormOfOne;
 use crate::forming::Forming;
-use crate::runs::{Composite, Kept, Segment, first_step, front_segment, kept_end};
+use crate::runs::{Composite, ExpectedFront, Kept, Segment, first_step, front_segment, kept_end};
 use normalizer_iterators::{MarkRun, NormalizeError, SegmentBuffers};
 use normalizer_tables::members::Members;
 use normalizer_tables::short_list::ShortList;
@@ -198,14 +198,12 @@ fn write_segment<U: Units, N: Forming, O: Output<U>>(
 }
 
 /// Writes the front of the units that is kept as it is, in one piece, and returns its end, 0 if there is none, the step
-/// there, if it was read, and the segment after it, if that is seen to become one character. The units may be expected to
-/// begin with low characters, or else letters and marks to alternate.
+/// there, if it was read, and the segment after it, if that is seen to become one character.
 #[inline(always)]
 fn write_run<U: Units, N: Forming, O: Output<U>>(
     normalizer: &N,
     units: U,
-    begins_low: bool,
-    alternates: bool,
+    expected: ExpectedFront,
     output: &mut O,
 ) -> Result<Kept, NormalizeError>
     ensures none { IfOk result (λ kept. kept.end ≡ 0 → output.new ≡ output.old) }
@@ -219,7 +217,7 @@ fn write_run<U: Units, N: Forming, O: Output<U>>(
         (U.units units) output.old (Err fault) output.new) }
     ensures room { ¬ IsErrOf result NormalizeError.Memory }
 {
-    let kept = kept_end(normalizer, units, begins_low, alternates);
+    let kept = kept_end(normalizer, units, expected);
     if kept.end > 0 {
         output.write_piece(units.before(kept.end))?;
     }
@@ -291,12 +289,15 @@ fn write_front_segment<U: Units, N: Forming, O: Output<U>>(
     Ok(segment)
 }
 
-/// Whether a step is of a low character, if it was read.
+/// Returns what is expected from a step on, if that was read: after marks out of order, letters and marks that alternate.
 #[inline(always)]
-fn begins_low<N: Forming>(normalizer: &N, step: Option<Step>) -> bool {
+fn expected_from<N: Forming>(normalizer: &N, step: Option<Step>, unordered: bool) -> ExpectedFront {
     match step {
-        Some(step) => (step.character as u32) < normalizer.passing().first_missing(),
-        None => false,
+        _ if unordered => ExpectedFront::Alternating,
+        Some(step) if (step.character as u32) < normalizer.passing().first_missing() => {
+            ExpectedFront::Low
+        }
+        _ => ExpectedFront::Run,
     }
 }
 
@@ -327,9 +328,8 @@ fn write_segments<U: Units, N: Forming, O: Output<U>>(
         first = segment.next;
         seen = None;
         if segment.is_before_run {
-            // After marks out of order, letters and marks are expected to alternate.
-            let low = begins_low(normalizer, first);
-            let kept = write_run(normalizer, units.after(position), low, unordered, output)?;
+            let expected = expected_from(normalizer, first, unordered);
+            let kept = write_run(normalizer, units.after(position), expected, output)?;
             position += kept.end;
             first = kept.next;
             seen = kept.composite;
@@ -369,7 +369,7 @@ fn write_parts<U: Units, N: Forming, O: Output<U>>(
     ensures room { HasShortUnits (N.made_form normalizer.now) U.encoding (U.units units) →
         ¬ IsErrOf result NormalizeError.Memory }
 {
-    let kept = write_run(normalizer, units, false, false, output)?;
+    let kept = write_run(normalizer, units, ExpectedFront::Run, output)?;
     if kept.end == units.len() {
         return Ok(());
     }

@@ -64,6 +64,12 @@ pub const CODE_POINTS: u32 = 0x110000;
 /// Decomposition data with the tables that their words point into, and the number below which no word is looked up.
 #[derive(Drop)]
 pub struct CharacterData<'a> {
+    parts: Parts<'a>,
+}
+
+/// The parts of such data. They are copied together.
+#[derive(Clone, Copy)]
+struct Parts<'a> {
     decompositions: &'a DecompositionData,
     tables: &'a DecompositionTables,
     supplementary: Option<&'a DecompositionTables>,
@@ -75,18 +81,18 @@ impl<'a> Model for CharacterData<'a> {
     ghost Value = { Characters };
 
     ghost view = { λ s. record {
-      decompositions = s.decompositions.now;
-      tables = s.tables.now;
-      supplementary = lists_or_none (option_copied s.supplementary);
-      is_mapper = s.is_mapper;
+      decompositions = s.parts.decompositions.now;
+      tables = s.parts.tables.now;
+      supplementary = lists_or_none (option_copied s.parts.supplementary);
+      is_mapper = s.parts.is_mapper;
     } };
 
     ghost invariant = { λ s. IsPassthroughBelow (record {
-      decompositions = s.decompositions.now;
-      tables = s.tables.now;
-      supplementary = lists_or_none (option_copied s.supplementary);
-      is_mapper = s.is_mapper;
-    }) s.unseen_below };
+      decompositions = s.parts.decompositions.now;
+      tables = s.parts.tables.now;
+      supplementary = lists_or_none (option_copied s.parts.supplementary);
+      is_mapper = s.parts.is_mapper;
+    }) s.parts.unseen_below };
 }
 
 impl<'a> CharacterData<'a> {
@@ -106,11 +112,13 @@ impl<'a> CharacterData<'a> {
         } }
     {
         CharacterData {
-            decompositions,
-            tables,
-            supplementary,
-            is_mapper: purpose == Purpose::Mapping,
-            unseen_below: 0,
+            parts: Parts {
+                decompositions,
+                tables,
+                supplementary,
+                is_mapper: purpose == Purpose::Mapping,
+                unseen_below: 0,
+            },
         }
     }
 
@@ -121,8 +129,10 @@ impl<'a> CharacterData<'a> {
         ensures { result ≡ self.entry }
     {
         CharacterData {
-            unseen_below: bound,
-            ..self
+            parts: Parts {
+                unseen_below: bound,
+                ..self.parts
+            },
         }
     }
 
@@ -130,7 +140,7 @@ impl<'a> CharacterData<'a> {
     pub fn copied(&self) -> CharacterData<'a>
         ensures { result ≡ self.now }
     {
-        CharacterData { ..*self }
+        CharacterData { parts: self.parts }
     }
 
     /// Returns whether a character is below the bound: it is its own list, with class 0 and no class form. Its word
@@ -139,12 +149,12 @@ impl<'a> CharacterData<'a> {
     pub fn is_passthrough(&self, character: char) -> bool
         ensures { IsTrue result → IsPassthrough self.now character }
     {
-        (character as u32) < self.unseen_below
+        (character as u32) < self.parts.unseen_below
     }
 
     /// Returns the allocator of the tables.
     pub fn allocator(&self) -> Global {
-        let tables = self.tables;
+        let tables = self.parts.tables;
         tables.scalars16.allocator()
     }
 
@@ -154,7 +164,7 @@ impl<'a> CharacterData<'a> {
     pub fn word_of(&self, character: char) -> u32
         ensures { result ≡ word_of self.now character }
     {
-        let decompositions = self.decompositions;
+        let decompositions = self.parts.decompositions;
         decompositions.table.get(character)
     }
 
@@ -166,7 +176,7 @@ impl<'a> CharacterData<'a> {
         // Stated for callers, who don't see the table: the list of words has all code points.
         ensures complete { IsComplete self.now.decompositions.table }
     {
-        let decompositions = self.decompositions;
+        let decompositions = self.parts.decompositions;
         decompositions.table.get32(number)
     }
 
@@ -177,7 +187,7 @@ impl<'a> CharacterData<'a> {
         ensures next { IsNextWord self.now from result.0 }
         ensures word { result.1 ≡ word_of self.now result.0 }
     {
-        let decompositions = self.decompositions;
+        let decompositions = self.parts.decompositions;
         match decompositions.table.next_with_word(from, FLAGS) {
             Some(next) => next,
             None => (CODE_POINTS, self.word_of_number(CODE_POINTS)),
@@ -189,7 +199,7 @@ impl<'a> CharacterData<'a> {
     pub fn past(&self) -> u32
         ensures { result ≡ self.now.decompositions.table.past }
     {
-        let decompositions = self.decompositions;
+        let decompositions = self.parts.decompositions;
         decompositions.table.get32(CODE_POINTS)
     }
 
@@ -197,7 +207,7 @@ impl<'a> CharacterData<'a> {
     pub fn cap(&self) -> u16
         ensures { result ≡ self.now.decompositions.cap }
     {
-        let decompositions = self.decompositions;
+        let decompositions = self.parts.decompositions;
         decompositions.passthrough_cap
     }
 
@@ -206,7 +216,7 @@ impl<'a> CharacterData<'a> {
     pub fn plain(&self) -> &'a CharacterSet
         ensures { (n : ℕ) → has result.now n ≡ (may_have n && is_plain (word_of self.now n)) }
     {
-        let decompositions = self.decompositions;
+        let decompositions = self.parts.decompositions;
         decompositions.table.plain()
     }
 
@@ -215,7 +225,7 @@ impl<'a> CharacterData<'a> {
     pub fn unflagged(&self) -> &'a CharacterSet
         ensures { (n : ℕ) → has result.now n ≡ (may_have n && has_no_flag (word_of self.now n)) }
     {
-        let decompositions = self.decompositions;
+        let decompositions = self.parts.decompositions;
         decompositions.table.unflagged()
     }
 
@@ -223,21 +233,21 @@ impl<'a> CharacterData<'a> {
     pub fn tables(&self) -> &'a DecompositionTables
         ensures { result.now ≡ self.now.tables }
     {
-        self.tables
+        self.parts.tables
     }
 
     /// Returns the further tables of compatibility data, if there are any.
     pub fn supplementary(&self) -> Option<&'a DecompositionTables>
         ensures { lists_or_none (option_copied result) ≡ self.now.supplementary }
     {
-        self.supplementary
+        self.parts.supplementary
     }
 
     /// Returns whether these are a mapper's data, in which characters may be ignored.
     pub fn is_mapper(&self) -> bool
         ensures { result ≡ self.now.is_mapper }
     {
-        self.is_mapper
+        self.parts.is_mapper
     }
 
     /// Returns the canonical combining class of a character.
@@ -370,7 +380,7 @@ impl<'a> CharacterData<'a> {
         requires { word ≡ word_of self.now character }
         ensures { result ≡ reading_of_word self.now character }
     {
-        read(character, word, self.is_mapper)
+        read(character, word, self.parts.is_mapper)
     }
 
     /// The list from an item of the tables on.
@@ -378,9 +388,9 @@ impl<'a> CharacterData<'a> {
     fn listed_at(&self, item: u32, low: u8) -> Option<Members<'a>>
         ensures { result ≡ listed_at self.now item low }
     {
-        match listed_in(self.tables, item as usize, low) {
+        match listed_in(self.parts.tables, item as usize, low) {
             Ok(list) => list,
-            Err(past) => listed_in(self.supplementary?, past, low).unwrap_or(None),
+            Err(past) => listed_in(self.parts.supplementary?, past, low).unwrap_or(None),
         }
     }
 }

@@ -73,6 +73,11 @@ pub trait Units: Copy {
         requires { IsBoundary (first_in encoding) (units self) position }
         ensures { EndsLowCharacters encoding (units self) position bound result };
 
+    /// Returns such an end, found by vectors if the first unit is seen at once to be of such a character.
+    fn end_of_low_run(self, position: usize, bound: u32) -> usize
+        requires { IsBoundary (first_in encoding) (units self) position }
+        ensures { EndsLowCharacters encoding (units self) position bound result };
+
     final fn is_empty(self) -> bool
         ensures { result ≡ (length (units self) == 0) }
     {
@@ -162,6 +167,11 @@ impl<'a> Units for &'a str {
     }
 
     #[inline(always)]
+    fn end_of_low_run(self, position: usize, bound: u32) -> usize {
+        scan::end_of_below(self.as_bytes(), position, utf8::low_byte_bound(bound))
+    }
+
+    #[inline(always)]
     fn end_of_members(self, position: usize, set: &CharacterSet) -> usize {
         members::end_of_members(self, position, set)
     }
@@ -209,6 +219,11 @@ impl<'a> Units for &'a [u8] {
     }
 
     #[inline(always)]
+    fn end_of_low_run(self, position: usize, bound: u32) -> usize {
+        scan::end_of_below(self, position, bound.min(utf8::ASCII))
+    }
+
+    #[inline(always)]
     fn end_of_members(self, position: usize, set: &CharacterSet) -> usize {
         members::end_of_members(self, position, set)
     }
@@ -253,6 +268,11 @@ impl<'a> Units for &'a [u16] {
     #[inline(always)]
     fn end_of_low(self, position: usize, bound: u32) -> usize {
         scan::end_by_units(self, position, bound.min(utf16::SURROGATES))
+    }
+
+    #[inline(always)]
+    fn end_of_low_run(self, position: usize, bound: u32) -> usize {
+        scan::end_of_below(self, position, bound.min(utf16::SURROGATES))
     }
 
     #[inline(always)]
