@@ -639,10 +639,7 @@ fn short_passthrough_end<U: Units, N: Forming>(normalizer: &N, units: U) -> Pass
     }
     // What doesn't begin with two units that are seen to pass mostly changes.
     if run.end <= 1 {
-        return Passed {
-            end: 0,
-            next: Next::Unknown,
-        };
+        return Passed::to(0, Next::Unknown);
     }
     passthrough_end_after(normalizer, units, run.marks, run.end, run.last)
 }
@@ -688,7 +685,7 @@ fn passthrough_end_after<U: Units, N: Forming>(
     passed_by(normalizer, units, run_end_after(normalizer, units, known))
 }
 
-/// Returns the same end, by the run.
+/// Returns the same end, by the run. In a decomposing form only the order of marks is told of what comes after it.
 #[inline(always)]
 fn passed_by<U: Units, N: Forming>(normalizer: &N, units: U, run: Run) -> Passed
     requires run { IsRunEnd (N.passthrough_class normalizer.now) U.encoding (U.units units) run.marks run.end }
@@ -696,47 +693,35 @@ fn passed_by<U: Units, N: Forming>(normalizer: &N, units: U, run: Run) -> Passed
         (λ next. next ≡ first_in U.encoding (drop run.end (U.units units))) }
     ensures { IsPassedFront U.encoding (N.made_form normalizer.now) (U.units units) result.end }
 {
-    Passed {
-        end: end_before(normalizer, units, run),
-        next: seen_after(normalizer, run),
-    }
-}
-
-/// Returns what is seen of what comes after a run. In a decomposing form only the order of marks is told.
-#[inline(always)]
-fn seen_after<N: Forming>(normalizer: &N, run: Run) -> Next {
-    match run.next {
-        _ if run.is_unordered => Next::Unordered,
-        Some(next) if normalizer.holds_back() && normalizer.begins(next.character) => Next::Changed,
-        _ => Next::Unknown,
-    }
-}
-
-/// Returns that end, by the run.
-#[inline(always)]
-fn end_before<U: Units, N: Forming>(normalizer: &N, units: U, run: Run) -> usize
-    requires run { IsRunEnd (N.passthrough_class normalizer.now) U.encoding (U.units units) run.marks run.end }
-    requires next { MatchOption run.next (run.end ≡ length (U.units units))
-        (λ next. next ≡ first_in U.encoding (drop run.end (U.units units))) }
-    ensures { IsPassedFront U.encoding (N.made_form normalizer.now) (U.units units) result }
-{
     normalizer.passthrough_is_normalized_apart();
-    let Some(next) = run.next else {
-        return run.end;
+    let Some(step) = run.next else {
+        return Passed::to(run.end, Next::Unknown);
+    };
+    let next = if run.is_unordered {
+        Next::Unordered
+    } else {
+        Next::Unknown
     };
     if normalizer.holds_back() {
-        if normalizer.begins(next.character) {
-            return run.end;
+        if normalizer.begins(step.character) {
+            return Passed::to(run.end, Next::Changed);
         }
-        return before_last(units, run.marks);
+        return Passed::to(before_last(units, run.marks), next);
     }
-    if run.marks < run.end && normalizer.begins(next.character) {
-        return run.end;
+    if run.marks < run.end && normalizer.begins(step.character) {
+        return Passed::to(run.end, next);
     }
-    run.marks
+    Passed::to(run.marks, next)
 }
 
 impl Passed {
+    #[inline(always)]
+    fn to(end: usize, next: Next) -> Passed
+        ensures { result.end ≡ end }
+    {
+        Passed { end, next }
+    }
+
     /// Whether nothing after it is kept.
     #[inline(always)]
     fn is_all(self) -> bool {
@@ -819,8 +804,8 @@ pub(crate) fn kept_end<U: Units, N: Forming>(
     }
 }
 
-/// Returns the low characters that the units begin with as kept, if the step after them ends what is passed on: in a
-/// decomposing form that needs no call. Else it returns the run so far, as an error.
+/// Returns the low characters that the units begin with as kept, if nothing comes after them, or a step that ends what is
+/// passed on: in a decomposing form that needs no call. Else it returns the run so far, as an error.
 #[inline(always)]
 fn kept_low<U: Units, N: Forming>(normalizer: &N, units: U) -> Result<Kept, RunSoFar>
     requires { N.held_back ≡ false }
@@ -834,7 +819,7 @@ fn kept_low<U: Units, N: Forming>(normalizer: &N, units: U) -> Result<Kept, RunS
     normalizer.passthrough_is_normalized_apart();
     let low = first_low(normalizer, units);
     if low.end == units.len() {
-        return Err(low);
+        return Ok(Kept::to(low.end, false));
     }
     let step = units.step_at(low.end);
     match next_class(normalizer, 0, step) {

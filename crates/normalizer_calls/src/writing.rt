@@ -141,22 +141,20 @@ fn write_marks<U: Units, O: Output<U>>(
 }
 
 /// Writes the form of what the units decode to, character by character, however long it is: from a run of marks, or
-/// from an iterator. The first step was read before.
+/// from an iterator. The first step is read again: if it was passed, each segment's would go through memory.
 #[inline(never)]
 fn write_long<U: Units, N: Forming, O: Output<U>>(
     normalizer: &N,
     units: U,
-    first: Step,
     output: &mut O,
 ) -> Result<(), NormalizeError>
-    requires some { 0 < length (U.units units) }
-    requires first { first ≡ first_in U.encoding (U.units units) }
+    requires { 0 < length (U.units units) }
     ensures text { WritesText U.encoding O.Output NothingOffered
         (form_in (N.made_form normalizer.now) U.encoding (U.units units)) output.old result output.new }
     ensures room { HasShortUnits (N.made_form normalizer.now) U.encoding (U.units units) →
         ¬ IsErrOf result NormalizeError.Memory }
 {
-    if let Some(run) = normalizer.mark_run(units, first)? {
+    if let Some(run) = normalizer.mark_run(units, units.step_at(0))? {
         return write_marks::<U, O>(run, output);
     }
     normalizer.write_items(units, output)
@@ -194,7 +192,7 @@ fn write_segment<U: Units, N: Forming, O: Output<U>>(
     if normalizer.short_form(units, buffers) {
         return write_text::<U, O>(buffers.text(), output);
     }
-    write_long(normalizer, units, first, output)
+    write_long(normalizer, units, output)
 }
 
 /// Writes the front of the units that is kept as it is, in one piece, and returns its end, 0 if there is none, the step

@@ -13,8 +13,22 @@ step_at-step-requires g c =
 pub with_step-requires : goal.with_step-requires
 with_step-requires g c =
     let units = g.U.Units.units c.args.units in
-    omega (arith, c.len.ensures, step-some g.U.Units.encoding units c.first_low-low.result.end c.step_at-step.result
-      (omega (arith, c.len.ensures, c.if-low-len.false, IsRun-le _ _ _ _ _ _ c.first_low-low.ensures.run)) c.step_at-step.ensures)
+    omega (
+      arith,
+      c.len.ensures,
+      step-some g.U.Units.encoding units c.first_low-low.result.end c.step_at-step.result
+          (omega (arith, c.len.ensures, c.if-low-len.false, IsRun-le _ _ _ _ _ _ c.first_low-low.ensures.run)) c.step_at-step.ensures,
+    )
+
+pub returns-then-low-len-clause-kept : goal.returns-then-low-len-clause-kept
+returns-then-low-len-clause-kept g c =
+    let law = c.passthrough_is_normalized_apart.ensures in
+    let low = c.first_low-low.ensures in
+    rw c.to.ensures.end (IsKeptTo-first _ _ _ _ _ (passed_before_marks _ _ _ _ _ law.apart law.follow _ c.requires _ _ (record {
+      last = 0;
+      run = rw low.starters.0 at (rw low.starters.1 at low.run);
+      stops = λ more. absurd (omega (arith, more, c.len.ensures, c.if-low-len.true));
+    })))
 
 pub returns-in-Err-clause-kept : goal.returns-in-Err-clause-kept
 returns-in-Err-clause-kept g c =
