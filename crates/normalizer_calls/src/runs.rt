@@ -338,14 +338,17 @@ fn first_low<U: Units, N: Forming>(normalizer: &N, units: U) -> RunSoFar
     }
 }
 
-/// Returns the low characters that a short text begins with, or else the members of the set.
+/// Returns the members of the set that a short text begins with. In a decomposing form low characters are passed over
+/// first: what comes after a few of them mostly isn't a member.
 #[inline(always)]
 fn first_few<U: Units, N: Forming>(normalizer: &N, units: U) -> RunSoFar
     ensures { IsRunSoFar (N.passthrough_class normalizer.now) U.encoding (U.units units) result }
 {
-    let low = first_low(normalizer, units);
-    if low.end > 0 {
-        return low;
+    if !normalizer.holds_back() {
+        let low = first_low(normalizer, units);
+        if low.end > 0 {
+            return low;
+        }
     }
     let end = units.end_of_few_members(0, normalizer.passing());
     RunSoFar {
