@@ -338,15 +338,27 @@ fn first_low<U: Units, N: Forming>(normalizer: &N, units: U) -> RunSoFar
     }
 }
 
-/// Returns the members of the set that a short text begins with. In a decomposing form low characters are passed over
-/// first: what comes after a few of them mostly isn't a member.
+/// If no character below it is missing in the set, letters with diacritics are mostly below the first that is.
+const LATIN: u32 = 0x180;
+
+/// Whether the units are seen at once to begin with two bytes of a character below a bound.
+#[inline(always)]
+fn begins_with_low_pair<U: Units>(units: U, bound: u32) -> bool {
+    !units.is_empty()
+        && matches!(units.two_byte_step_at(0), Some(step) if (step.character as u32) < bound)
+}
+
+/// Returns what a short text begins with: low characters, or else members of the set. What comes after a few low ones
+/// is mostly low too, or in a decomposing form isn't a member; in other forms members are searched for at once.
 #[inline(always)]
 fn first_few<U: Units, N: Forming>(normalizer: &N, units: U) -> RunSoFar
     ensures { IsRunSoFar (N.passthrough_class normalizer.now) U.encoding (U.units units) result }
 {
-    if !normalizer.holds_back() {
+    let bound = normalizer.passing().first_missing();
+    let has_latin = bound >= LATIN;
+    if has_latin || !normalizer.holds_back() {
         let low = first_low(normalizer, units);
-        if low.end > 0 {
+        if low.end > 0 || has_latin && begins_with_low_pair(units, bound) {
             return low;
         }
     }
