@@ -52,11 +52,6 @@ pub(crate) trait Members: Copy {
         requires { position ≤ length (units self) }
         ensures { result ≡ position + leading_below limit (drop position (units self)) };
 
-    /// The same end, if few units are left.
-    fn end_of_fewer(self, position: usize, limit: u32) -> usize
-        requires { position ≤ length (units self) }
-        ensures { result ≡ position + leading_below limit (drop position (units self)) };
-
     /// The same end, found unit by unit.
     fn end_by_units(self, position: usize, limit: u32) -> usize
         requires { position ≤ length (units self) }
@@ -158,7 +153,7 @@ fn passed_few<M: Members>(
 {
     units.low_units_are_of_low_characters();
     let limit = units.low_unit(set.first_missing());
-    let mut end = units.end_of_fewer(position, limit);
+    let mut end = units.end_of_below(position, limit);
     while end < units.len() {
         if units.is_below_at(end, limit) {
             end = units.end_by_units(end, limit);
@@ -267,11 +262,6 @@ impl<'a> Members for &'a str {
     }
 
     #[inline(always)]
-    fn end_of_fewer(self, position: usize, limit: u32) -> usize {
-        scan::end_of_fewer(self.as_bytes(), position, limit)
-    }
-
-    #[inline(always)]
     fn end_by_units(self, position: usize, limit: u32) -> usize {
         scan::end_by_units(self.as_bytes(), position, limit)
     }
@@ -317,11 +307,6 @@ impl<'a> Members for &'a [u8] {
     #[inline(always)]
     fn end_of_below(self, position: usize, limit: u32) -> usize {
         scan::end_of_below(self, position, limit)
-    }
-
-    #[inline(always)]
-    fn end_of_fewer(self, position: usize, limit: u32) -> usize {
-        scan::end_of_fewer(self, position, limit)
     }
 
     #[inline(always)]
@@ -452,9 +437,6 @@ fn end_of_single_members(units: &[u16], position: usize, set: &CharacterSet) -> 
     ensures { result ≡ position + prefix_len (has set.now) (drop position units.now) }
 {
     let limit = set.first_missing();
-    if units.len() - position <= FEW {
-        return end_of_few_singles(units, scan::end_of_fewer(units, position, limit), set);
-    }
     let end = scan::end_of_below(units, position, limit);
     if units.len() - end <= FEW {
         return end_of_few_singles(units, end, set);

@@ -104,7 +104,7 @@ fn end_of_few<L: Lanes>(units: L, position: usize, bound: u32) -> usize
 /// Returns the same end, if few units are left: by vectors of which all units are below, and then unit by unit, so that
 /// what comes next doesn't wait for a vector's mask.
 #[inline(always)]
-pub(crate) fn end_of_fewer<L: Lanes>(units: L, position: usize, bound: u32) -> usize
+fn end_of_fewer<L: Lanes>(units: L, position: usize, bound: u32) -> usize
     requires { position ≤ length (L.units units) }
     ensures { result ≡ position + leading_below bound (drop position (L.units units)) }
 {

@@ -24,30 +24,20 @@ offset_bounds-units-next c =
     let low = prefix-below (has c.args.set.now) c.first_missing-limit.result c.first_missing-limit.ensures.below c.args.units.now c.args.position _ c.requires c.end_of_below-end.ensures in
     omega (arith, low.0)
 
-pub overflow_sub-units-2 : goal.overflow_sub-units-2
-overflow_sub-units-2 c =
+pub overflow_sub-units : goal.overflow_sub-units
+overflow_sub-units c =
     let low = prefix-below (has c.args.set.now) c.first_missing-limit.result c.first_missing-limit.ensures.below c.args.units.now c.args.position _ c.requires c.end_of_below-end.ensures in
     omega (arith, low.0)
 
 pub end_of_few_singles-requires : goal.end_of_few_singles-requires
 end_of_few_singles-requires c =
-    let low = prefix-below (has c.args.set.now) c.first_missing-limit.result c.first_missing-limit.ensures.below c.args.units.now c.args.position _ c.requires c.end_of_fewer.ensures in
-    omega (arith, low.0)
-
-pub returns-then-units-position-le-FEW : goal.returns-then-units-position-le-FEW
-returns-then-units-position-le-FEW c =
-    let low = prefix-below (has c.args.set.now) c.first_missing-limit.result c.first_missing-limit.ensures.below c.args.units.now c.args.position _ c.requires c.end_of_fewer.ensures in
-    c.end_of_few_singles.ensures ∙ low.1
-
-pub end_of_few_singles-requires-then-units-end-le-FEW : goal.end_of_few_singles-requires-then-units-end-le-FEW
-end_of_few_singles-requires-then-units-end-le-FEW c =
     let low = prefix-below (has c.args.set.now) c.first_missing-limit.result c.first_missing-limit.ensures.below c.args.units.now c.args.position _ c.requires c.end_of_below-end.ensures in
     omega (arith, low.0)
 
 pub returns-then-units-end-le-FEW : goal.returns-then-units-end-le-FEW
 returns-then-units-end-le-FEW c =
     let low = prefix-below (has c.args.set.now) c.first_missing-limit.result c.first_missing-limit.ensures.below c.args.units.now c.args.position _ c.requires c.end_of_below-end.ensures in
-    c.end_of_few_singles-then-units-end-le-FEW.ensures ∙ low.1
+    c.end_of_few_singles.ensures ∙ low.1
 
 pub returns-then-not-has_unit : goal.returns-then-not-has_unit
 returns-then-not-has_unit c =

@@ -4,13 +4,13 @@ use Rattle.normalizer_text.proofs.scans.MemberLemmas.{members-below, members-end
 use Rattle.normalizer_text.proofs.steps.StepBoundaries.{boundary-le}
 use Rattle.normalizer_text.proofs.members.passed_few.Goals as goal
 
-pub end_of_fewer-end-requires : goal.end_of_fewer-end-requires
-end_of_fewer-end-requires g c = boundary-le g.M.Members.encoding (g.M.Members.units c.args.units) c.args.position c.requires
+pub end_of_below-end-requires : goal.end_of_below-end-requires
+end_of_below-end-requires g c = boundary-le g.M.Members.encoding (g.M.Members.units c.args.units) c.args.position c.requires
 
 pub loop-end-init : goal.loop-end-init
 loop-end-init g c =
     members-below (has c.args.set.now) g.M.Members.encoding (g.M.Members.units c.args.units) g.M.Members.low_unit c.low_units_are_of_low_characters.ensures
-    _ _ _ _ c.low_unit-limit.ensures c.end_of_fewer-end.ensures c.first_missing.ensures.below c.requires
+    _ _ _ _ c.low_unit-limit.ensures c.end_of_below-end.ensures c.first_missing.ensures.below c.requires
 
 pub loop-end-preserved-then-is_below_at : goal.loop-end-preserved-then-is_below_at
 loop-end-preserved-then-is_below_at g c =
