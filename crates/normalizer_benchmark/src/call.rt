@@ -1,6 +1,8 @@
 //! The calls that are repeated over a text.
 use crate::fault::Fault;
-use icu_normalizer::{AnyNormalizerBorrowed, NormalForm};
+use icu_normalizer::{
+    AnyNormalizerBorrowed, ComposingNormalizerBorrowed, DecomposingNormalizerBorrowed, NormalForm,
+};
 use std::alloc::Global;
 use std::borrow::CowStr;
 use unicode_normalization::{
@@ -103,16 +105,34 @@ fn iterate(
     written: &mut String,
 ) -> Result<(), Fault> {
     match normalizer {
-        AnyNormalizerBorrowed::Decomposing(n) => {
-            for item in n.normalize_iter(text.chars())? {
-                written.push(item?)?;
-            }
-        }
-        AnyNormalizerBorrowed::Composing(n) => {
-            for item in n.normalize_iter(text.chars())? {
-                written.push(item?)?;
-            }
-        }
+        AnyNormalizerBorrowed::Decomposing(n) => iterate_decomposing(n, text, written),
+        AnyNormalizerBorrowed::Composing(n) => iterate_composing(n, text, written),
+    }
+}
+
+// Each kind of iterator is in a function of its own, as it is in a program that makes one kind: otherwise a call would
+// also clear the frame of those that it doesn't make.
+
+#[inline(never)]
+fn iterate_decomposing(
+    normalizer: &DecomposingNormalizerBorrowed<'_>,
+    text: &str,
+    written: &mut String,
+) -> Result<(), Fault> {
+    for item in normalizer.normalize_iter(text.chars())? {
+        written.push(item?)?;
+    }
+    Ok(())
+}
+
+#[inline(never)]
+fn iterate_composing(
+    normalizer: &ComposingNormalizerBorrowed<'_>,
+    text: &str,
+    written: &mut String,
+) -> Result<(), Fault> {
+    for item in normalizer.normalize_iter(text.chars())? {
+        written.push(item?)?;
     }
     Ok(())
 }
@@ -155,26 +175,41 @@ fn iterate_by_port(
     written: &mut String,
 ) -> Result<(), Fault> {
     match form {
-        NormalForm::Nfd => {
-            for item in text.nfd(alloc) {
-                written.push(item?)?;
-            }
-        }
-        NormalForm::Nfc => {
-            for item in text.nfc(alloc) {
-                written.push(item?)?;
-            }
-        }
-        NormalForm::Nfkd => {
-            for item in text.nfkd(alloc) {
-                written.push(item?)?;
-            }
-        }
-        NormalForm::Nfkc => {
-            for item in text.nfkc(alloc) {
-                written.push(item?)?;
-            }
-        }
+        NormalForm::Nfd => iterate_nfd_by_port(alloc, text, written),
+        NormalForm::Nfc => iterate_nfc_by_port(alloc, text, written),
+        NormalForm::Nfkd => iterate_nfkd_by_port(alloc, text, written),
+        NormalForm::Nfkc => iterate_nfkc_by_port(alloc, text, written),
+    }
+}
+
+#[inline(never)]
+fn iterate_nfd_by_port(alloc: Global, text: &str, written: &mut String) -> Result<(), Fault> {
+    for item in text.nfd(alloc) {
+        written.push(item?)?;
+    }
+    Ok(())
+}
+
+#[inline(never)]
+fn iterate_nfc_by_port(alloc: Global, text: &str, written: &mut String) -> Result<(), Fault> {
+    for item in text.nfc(alloc) {
+        written.push(item?)?;
+    }
+    Ok(())
+}
+
+#[inline(never)]
+fn iterate_nfkd_by_port(alloc: Global, text: &str, written: &mut String) -> Result<(), Fault> {
+    for item in text.nfkd(alloc) {
+        written.push(item?)?;
+    }
+    Ok(())
+}
+
+#[inline(never)]
+fn iterate_nfkc_by_port(alloc: Global, text: &str, written: &mut String) -> Result<(), Fault> {
+    for item in text.nfkc(alloc) {
+        written.push(item?)?;
     }
     Ok(())
 }

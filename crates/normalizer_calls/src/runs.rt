@@ -12,13 +12,14 @@ use crate::forming::Forming;
 use crate::kept::Unseen;
 use normalizer_text::{Chars, Step, Units};
 
-/// A run of characters that are passed on as they are: where the marks at its end begin, where it ends, and the step
-/// that ends it, unless the units end, and whether that is a mark out of order.
+/// A run of characters that are passed on as they are: where the marks at its end begin, where it ends, and the character
+/// that ends it, unless the units end, and whether that is a mark out of order. (Not the step: its unused bytes would be
+/// copied with it wherever a step is read.)
 #[derive(Clone, Copy)]
 struct Run {
     marks: usize,
     end: usize,
-    next: Option<Step>,
+    next: Option<char>,
     is_unordered: bool,
 }
 
@@ -348,8 +349,9 @@ fn begins_with_low_pair<U: Units>(units: U, bound: u32) -> bool {
         && matches!(units.two_byte_step_at(0), Some(step) if (step.character as u32) < bound)
 }
 
-/// Returns what a short text begins with: low characters, or else members of the set. What comes after a few low ones
-/// is mostly low too, or in a decomposing form isn't a member; in other forms members are searched for at once.
+/// Returns what a short text begins with: low characters, or else members of the set. What comes after a few low ones is
+/// mostly low too, or in a decomposing form isn't a member. In NFKC few characters are low, so that members are searched
+/// for at once.
 #[inline(always)]
 fn first_few<U: Units, N: Forming>(normalizer: &N, units: U) -> RunSoFar
     ensures { IsRunSoFar (N.passthrough_class normalizer.now) U.encoding (U.units units) result }
@@ -392,12 +394,12 @@ fn first_several<U: Units, N: Forming>(normalizer: &N, units: U) -> RunSoFar
 #[inline(always)]
 fn stopped(run: RunSoFar, step: Step, unseen: Unseen) -> Run
     ensures end { (result.marks ≡ run.marks) × (result.end ≡ run.end) }
-    ensures next { result.next ≡ Some step }
+    ensures next { result.next ≡ Some step.character }
 {
     Run {
         marks: run.marks,
         end: run.end,
-        next: Some(step),
+        next: Some(step.character),
         is_unordered: matches!(unseen, Unseen::Unordered),
     }
 }
@@ -423,7 +425,7 @@ fn run_end<U: Units, N: Forming>(normalizer: &N, units: U, known: RunSoFar) -> R
     requires { IsRunSoFar (N.passthrough_class normalizer.now) U.encoding (U.units units) known }
     ensures run { IsRunEnd (N.passthrough_class normalizer.now) U.encoding (U.units units) result.marks result.end }
     ensures next { MatchOption result.next (result.end ≡ length (U.units units))
-        (λ next. next ≡ first_in U.encoding (drop result.end (U.units units))) }
+        (λ next. next ≡ (first_in U.encoding (drop result.end (U.units units))).character) }
 {
     // The parts are copied one by one, so that the loop keeps them in registers.
     let mut run = RunSoFar {
@@ -518,7 +520,7 @@ fn run_end_after<U: Units, N: Forming>(normalizer: &N, units: U, known: RunSoFar
     requires { IsRunSoFar (N.passthrough_class normalizer.now) U.encoding (U.units units) known }
     ensures run { IsRunEnd (N.passthrough_class normalizer.now) U.encoding (U.units units) result.marks result.end }
     ensures next { MatchOption result.next (result.end ≡ length (U.units units))
-        (λ next. next ≡ first_in U.encoding (drop result.end (U.units units))) }
+        (λ next. next ≡ (first_in U.encoding (drop result.end (U.units units))).character) }
 {
     let mut run = known;
     while run.end < units.len() {
@@ -705,11 +707,11 @@ fn passthrough_end_after<U: Units, N: Forming>(
 fn passed_by<U: Units, N: Forming>(normalizer: &N, units: U, run: Run) -> Passed
     requires run { IsRunEnd (N.passthrough_class normalizer.now) U.encoding (U.units units) run.marks run.end }
     requires next { MatchOption run.next (run.end ≡ length (U.units units))
-        (λ next. next ≡ first_in U.encoding (drop run.end (U.units units))) }
+        (λ next. next ≡ (first_in U.encoding (drop run.end (U.units units))).character) }
     ensures { IsPassedFront U.encoding (N.made_form normalizer.now) (U.units units) result.end }
 {
     normalizer.passthrough_is_normalized_apart();
-    let Some(step) = run.next else {
+    let Some(following) = run.next else {
         return Passed::to(run.end, Next::Unknown);
     };
     let next = if run.is_unordered {
@@ -718,12 +720,12 @@ fn passed_by<U: Units, N: Forming>(normalizer: &N, units: U, run: Run) -> Passed
         Next::Unknown
     };
     if normalizer.holds_back() {
-        if normalizer.begins(step.character) {
+        if normalizer.begins(following) {
             return Passed::to(run.end, Next::Changed);
         }
         return Passed::to(before_last(units, run.marks), next);
     }
-    if run.marks < run.end && normalizer.begins(step.character) {
+    if run.marks < run.end && normalizer.begins(following) {
         return Passed::to(run.end, next);
     }
     Passed::to(run.marks, next)
@@ -808,12 +810,12 @@ pub(crate) fn kept_end<U: Units, N: Forming>(
                 last,
                 ..
             },
-        ) if units.len() > SHORT => {
-            let passed = long_passthrough_end_after(normalizer, units, marks, end, last);
-            kept_from(normalizer, units, passed, expected)
-        }
-        Err(_) => {
-            let passed = short_passthrough_end(normalizer, units);
+        ) => {
+            let passed = if units.len() > SHORT {
+                long_passthrough_end_after(normalizer, units, marks, end, last)
+            } else {
+                passthrough_end_after(normalizer, units, marks, end, last)
+            };
             kept_from(normalizer, units, passed, expected)
         }
     }

@@ -4,10 +4,11 @@ ghost use Rattle.std.specs.Prelude.{◌≡◌};
 /// One step of decoding: the units of one character, or ill-formed units that read as U+FFFD.
 #[derive(Clone, Copy, PartialEq, Eq, Debug)]
 pub struct Step {
-    /// The character, U+FFFD for ill-formed units.
-    pub character: char,
+    // The widest field comes first: unused bytes between the others would be copied one by one, at a great cost.
     /// How many units it takes.
     pub width: usize,
+    /// The character, U+FFFD for ill-formed units.
+    pub character: char,
     /// Whether the units were ill-formed.
     pub is_error: bool,
 }

@@ -6,6 +6,7 @@ mod chars;
 pub mod check_sink;
 mod decoding_step;
 pub mod laws;
+mod low_bytes;
 mod members;
 mod offence;
 pub mod output;

@@ -47,15 +47,15 @@ pub(crate) trait Members: Copy {
     fn low_unit(self, bound: u32) -> u32
         ensures { result ≡ low_unit bound };
 
-    /// The end of the units from a position on that are all below a limit.
-    fn end_of_below(self, position: usize, limit: u32) -> usize
-        requires { position ≤ length (units self) }
-        ensures { result ≡ position + leading_below limit (drop position (units self)) };
+    /// An end of characters from a position on that are below a bound, found by vectors.
+    fn end_of_low_run(self, position: usize, bound: u32) -> usize
+        requires { IsBoundary (first_in encoding) (units self) position }
+        ensures { EndsLowCharacters encoding (units self) position bound result };
 
-    /// The same end, found unit by unit.
-    fn end_by_units(self, position: usize, limit: u32) -> usize
-        requires { position ≤ length (units self) }
-        ensures { result ≡ position + leading_below limit (drop position (units self)) };
+    /// Such an end, found unit by unit.
+    fn end_of_low(self, position: usize, bound: u32) -> usize
+        requires { IsBoundary (first_in encoding) (units self) position }
+        ensures { EndsLowCharacters encoding (units self) position bound result };
 
     /// Whether a unit is below a limit.
     fn is_below_at(self, position: usize, limit: u32) -> bool
@@ -79,12 +79,6 @@ pub(crate) trait Members: Copy {
         requires boundary { IsBoundary (first_in encoding) (units self) position }
         ensures { width_in (has set.now) (first_in encoding (drop position (units self)))
             ≡ (if result then width_led_by lead else 0) };
-
-    /// A law: a step ends with units below such a limit, and the characters up to there are below the bound.
-    fn low_units_are_of_low_characters(self)
-        ensures { (position bound : ℕ) → IsBoundary (first_in encoding) (units self) position →
-            EndsLowCharacters encoding (units self) position bound
-            (position + leading_below (low_unit bound) (drop position (units self))) };
 }
 
 /// Returns the end of the steps from a position on whose characters are all in the set.
@@ -111,18 +105,12 @@ fn passed_members<M: Members>(
     ensures { let end = end_within (has set.now) M.encoding (M.units units) position in
         MatchControlFlow result (λ r. r ≡ end) (λ r. r ≡ end) }
 {
-    units.low_units_are_of_low_characters();
-    let limit = units.low_unit(set.first_missing());
-    let mut end = units.end_of_below(position, limit);
+    let bound = set.first_missing();
+    let mut end = units.end_of_low_run(position, bound);
     while end < units.len() {
-        end = passed_members_led_by(units, end, set, Lead::OfTwo)?;
-        end = passed_members_led_by(units, end, set, Lead::OfThree)?;
-        // A single low unit, as a space between words, is looked up faster than a vector is read.
-        if end < units.len() && begins_low_run(units, end, limit) {
-            end = units.end_of_below(end, limit);
-        } else {
-            end = passed_kinds(units, end, set, (Lead::OfOne, Lead::OfFour))?;
-        }
+        let next = passed_members_led_by(units, end, set, Lead::OfTwo)?;
+        let next = passed_members_led_by(units, next, set, Lead::OfThree)?;
+        end = passed_low_or_kinds(units, next, set)?;
     }
     ControlFlow::Continue(end)
 }
@@ -151,15 +139,15 @@ fn passed_few<M: Members>(
     ensures { let end = end_within (has set.now) M.encoding (M.units units) position in
         MatchControlFlow result (λ r. r ≡ end) (λ r. r ≡ end) }
 {
-    units.low_units_are_of_low_characters();
-    let limit = units.low_unit(set.first_missing());
-    let mut end = units.end_of_below(position, limit);
+    let bound = set.first_missing();
+    let mut end = units.end_of_low_run(position, bound);
     while end < units.len() {
-        if units.is_below_at(end, limit) {
-            end = units.end_by_units(end, limit);
+        let low = units.end_of_low(end, bound);
+        end = if end < low {
+            low
         } else {
-            end = passed_kinds(units, end, set, (Lead::OfTwo, Lead::OfThree))?;
-        }
+            passed_kinds(units, end, set, (Lead::OfTwo, Lead::OfThree))?
+        };
     }
     ControlFlow::Continue(end)
 }
@@ -185,6 +173,28 @@ fn passed_members_led_by<M: Members>(
         end += width;
     }
     ControlFlow::Continue(end)
+}
+
+/// Passes over low characters, or else over members that are single bytes or sequences of four. A single low unit, as a
+/// space between words, is looked up faster than a vector is read.
+#[inline(always)]
+fn passed_low_or_kinds<M: Members>(
+    units: M,
+    position: usize,
+    set: &CharacterSet,
+) -> ControlFlow<usize, usize>
+    requires { IsBoundary (first_in M.encoding) (M.units units) position }
+    ensures passed { IsPassed (has set.now) M.encoding (M.units units) position result }
+    ensures further { ForContinue result (λ end. position < end) }
+{
+    let bound = set.first_missing();
+    if position < units.len() && begins_low_run(units, position, units.low_unit(bound)) {
+        let end = units.end_of_low_run(position, bound);
+        if position < end {
+            return ControlFlow::Continue(end);
+        }
+    }
+    passed_kinds(units, position, set, (Lead::OfOne, Lead::OfFour))
 }
 
 /// Passes over members that begin with leads of a kind, then of another, or else over one step of any width. It breaks
@@ -233,7 +243,6 @@ fn passed_step<M: Members>(
 #[inline(always)]
 fn begins_low_run<M: Members>(units: M, position: usize, limit: u32) -> bool
     requires { position < length (M.units units) }
-    ensures { IsTrue result → slice_index (M.units units) position < limit }
 {
     units.is_below_at(position, limit)
         && units.len() - position > 1
@@ -257,13 +266,13 @@ impl<'a> Members for &'a str {
     }
 
     #[inline(always)]
-    fn end_of_below(self, position: usize, limit: u32) -> usize {
-        scan::end_of_below(self.as_bytes(), position, limit)
+    fn end_of_low_run(self, position: usize, bound: u32) -> usize {
+        <&'a str as Units>::end_of_low_run(self, position, bound)
     }
 
     #[inline(always)]
-    fn end_by_units(self, position: usize, limit: u32) -> usize {
-        scan::end_by_units(self.as_bytes(), position, limit)
+    fn end_of_low(self, position: usize, bound: u32) -> usize {
+        <&'a str as Units>::end_of_low(self, position, bound)
     }
 
     #[inline(always)]
@@ -284,8 +293,6 @@ impl<'a> Members for &'a str {
     fn has_member_led_by(self, position: usize, lead: Lead, set: &CharacterSet) -> bool {
         utf8::has_well_formed_led_by(&self.as_bytes()[position..], lead, set)
     }
-
-    fn low_units_are_of_low_characters(self) {}
 }
 
 impl<'a> Members for &'a [u8] {
@@ -305,13 +312,13 @@ impl<'a> Members for &'a [u8] {
     }
 
     #[inline(always)]
-    fn end_of_below(self, position: usize, limit: u32) -> usize {
-        scan::end_of_below(self, position, limit)
+    fn end_of_low_run(self, position: usize, bound: u32) -> usize {
+        <&'a [u8] as Units>::end_of_low_run(self, position, bound)
     }
 
     #[inline(always)]
-    fn end_by_units(self, position: usize, limit: u32) -> usize {
-        scan::end_by_units(self, position, limit)
+    fn end_of_low(self, position: usize, bound: u32) -> usize {
+        <&'a [u8] as Units>::end_of_low(self, position, bound)
     }
 
     #[inline(always)]
@@ -332,8 +339,6 @@ impl<'a> Members for &'a [u8] {
     fn has_member_led_by(self, position: usize, lead: Lead, set: &CharacterSet) -> bool {
         utf8::has_led_by(&self[position..], lead, set)
     }
-
-    fn low_units_are_of_low_characters(self) {}
 }
 
 /// Returns the same end of 16-bit units.

@@ -130,7 +130,7 @@ pub(crate) fn end_by_units<L: Lanes>(units: L, position: usize, bound: u32) -> u
 
 /// Returns how many of so many lanes come before the first one whose bit is set.
 #[inline(always)]
-fn lanes_before_set(mask: u64, lanes: usize) -> usize
+pub(crate) fn lanes_before_set(mask: u64, lanes: usize) -> usize
     ensures { result ≡ (if mask == 0 then lanes else trailing_zeros w64 mask) }
 {
     if mask == 0 {

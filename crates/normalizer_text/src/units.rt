@@ -10,7 +10,7 @@ ghost use Rattle.normalizer_text.specs.Scans.{width_within, EndsLowCharacters};
 
 use crate::decoding_step::Step;
 use crate::utf8::Lead;
-use crate::{members, scan, utf8, utf16};
+use crate::{low_bytes, members, scan, utf8, utf16};
 use normalizer_sets::CharacterSet;
 
 /// No step takes more units.
@@ -220,7 +220,7 @@ impl<'a> Units for &'a [u8] {
 
     #[inline(always)]
     fn end_of_low_run(self, position: usize, bound: u32) -> usize {
-        scan::end_of_below(self, position, bound.min(utf8::ASCII))
+        low_bytes::end_of_low_bytes(self, position, bound)
     }
 
     #[inline(always)]

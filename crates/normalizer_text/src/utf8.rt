@@ -165,11 +165,10 @@ fn length_of_sequence(lead: u8) -> usize
 pub(crate) fn low_byte_bound(bound: u32) -> u32
     ensures { result ≡ low_byte bound }
 {
-    if bound < 0xC0 {
-        bound.min(0x80)
-    } else {
-        0xC0 + (bound / 64).min(0x20)
-    }
+    // Both are computed, so that no branch keeps a caller from computing it once.
+    let single = bound.min(0x80);
+    let pair = 0xC0 + (bound / 64).min(0x20);
+    if bound < 0xC0 { single } else { pair }
 }
 
 /// The first step of well-formed bytes that aren't empty: the first byte says how many it takes.

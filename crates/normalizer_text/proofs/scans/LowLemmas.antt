@@ -42,7 +42,7 @@ character-low limit b bs least most below right =
     right
 
 -- what holds of the character that each unit begins, holds of all that well-formed units decode to
-decoded-All : (e : Encoding) (P Q : ℕ → Type 0)
+pub decoded-All : (e : Encoding) (P Q : ℕ → Type 0)
     → ((u : ℕ) (us : List ℕ) → P u → (first_in e (u ∷ us)).is_error ≡ false → Q (first_in e (u ∷ us)).character) → (units : List ℕ) → IsWellFormed (first_in e) units → All P units → All Q (decoded_in e units)
 decoded-All e P Q holds units w all = by (length units) units (omega arith) w all
   where

@@ -13,7 +13,7 @@ use Rattle.normalizer_sets.proofs.SetLemmas.{has-replacement, has-IsCandidate}
 use Rattle.normalizer_text.specs.declared.decoding_step.Step.{Step}
 use Rattle.normalizer_text.specs.DecodingSteps.{read, replacement_step, steps, width_of, IsBoundary}
 use Rattle.normalizer_text.specs.Encodings.{Encoding, first_in}
-use Rattle.normalizer_text.specs.Scans.{leading_below, width_in, width_within, EndsLowCharacters}
+use Rattle.normalizer_text.specs.Scans.{width_in, width_within, EndsLowCharacters}
 use Rattle.normalizer_text.specs.Utf16.{first_of_utf16, is_high, is_low, pair_value, unpaired_step}
 use Rattle.normalizer_text.specs.inner.PairMembers.{has_pair_in_front}
 use Rattle.normalizer_text.specs.inner.PassedMembers.{IsPassedTo}
@@ -75,7 +75,7 @@ module _ (test : ℕ → Bool) where
     reach n = n + width_within test (steps (first_in e) (drop n units))
 
     -- low characters are members
-    pub members-low : (n m bound : ℕ) → IsBoundary (first_in e) units n → EndsLowCharacters e units n bound m → ((c : ℕ) → c < bound → test c ≡ true) → reach m ≡ reach n
+    members-low : (n m bound : ℕ) → IsBoundary (first_in e) units n → EndsLowCharacters e units n bound m → ((c : ℕ) → c < bound → test c ≡ true) → reach m ≡ reach n
     members-low n m bound here ends low =
         let k = m - n in
         let rest = drop n units in
@@ -93,14 +93,8 @@ module _ (test : ℕ → Bool) where
         all_low [] all = All-nil (λ c. test c ≡ true)
         all_low (c ∷ cs) all = All-cons (λ x. test x ≡ true) c cs (low c (All-head (λ x. x < bound) c cs all)) (all_low cs (All-tail (λ x. x < bound) c cs all))
 
-    -- units below a limit are of members
-    module _ (low_unit : ℕ → ℕ) (law : (position bound : ℕ) → IsBoundary (first_in e) units position → EndsLowCharacters e units position bound (position + leading_below (low_unit bound) (drop position units))) where
-      pub members-below : (bound limit n m : ℕ) → limit ≡ low_unit bound → m ≡ n + leading_below limit (drop n units) → ((c : ℕ) → c < bound → test c ≡ true) → IsBoundary (first_in e) units n
-          → IsBoundary (first_in e) units m × (m + width_within test (steps (first_in e) (drop m units)) ≡ n + width_within test (steps (first_in e) (drop n units)))
-      members-below bound limit n m unit is low here =
-          let same = is ∙ ap (λ l. n + leading_below l (drop n units)) unit in
-          let ends = subst (EndsLowCharacters e units n bound) (sym same) (law n bound here) in
-          (ends.boundary, members-low n m bound here ends low)
+    pub members-passed : (n m bound : ℕ) → IsBoundary (first_in e) units n → EndsLowCharacters e units n bound m → ((c : ℕ) → c < bound → test c ≡ true) → IsPassedTo test e units n m
+    members-passed n m bound here ends low = (ends.boundary, ends.behind, members-low n m bound here ends low)
 
     -- the step at a position
     module _ (n w : ℕ) (more : n < length units) (is : w ≡ width_in test (first_in e (drop n units))) where

@@ -187,7 +187,7 @@ text-low_bytes limit least most bytes w =
 -- ---- how far it goes with characters below a bound
 
 module _ (e : Encoding) (bound : ℕ) (units : List ℕ) (from : ℕ) (here : IsBoundary (first_in e) units from) where
-  ends_low : (n : ℕ) → IsBoundary (first_in e) (drop from units) n → All (λ c. c < bound) (decoded_in e (take n (drop from units))) → EndsLowCharacters e units from bound (from + n)
+  pub ends_low : (n : ℕ) → IsBoundary (first_in e) (drop from units) n → All (λ c. c < bound) (decoded_in e (take n (drop from units))) → EndsLowCharacters e units from bound (from + n)
   ends_low n ends low = record {
     behind = omega arith;
     boundary = boundary-after e units from n here ends;
@@ -215,7 +215,7 @@ module _ (e : Encoding) (bound : ℕ) (units : List ℕ) (from : ℕ) (here : Is
 
 -- in what is well-formed
 -- bytes below this one are of characters below the bound: of single bytes, or of single bytes and of pairs
-abbrev IsLowByteBound : ℕ → ℕ → Type 0
+abbrev pub IsLowByteBound : ℕ → ℕ → Type 0
 IsLowByteBound bound byte = ((byte ≤ 0x80) × (byte ≤ bound)) ⊎ ((0xC2 ≤ byte) × (byte ≤ 0xE0) × ((byte - 0xC0) * 64 ≤ bound))
 
 EndsLowCharacters-within : (bound limit : ℕ) → IsLowByteBound bound limit → (bytes : List ℕ) → IsWellFormed first_of_utf8 bytes → (from : ℕ) → IsBoundary first_of_utf8 bytes from
@@ -230,7 +230,7 @@ EndsLowCharacters-within bound limit (inr of_pairs) bytes w from here to is =
     (ends_low Encoding.Utf8 bound bytes from here n (boundary-low_bytes limit rest (let k = of_pairs.0 in omega arith))
     (All-weaker (λ c. c < (limit - 0xC0) * 64) (λ c. c < bound) (λ c l. let k = of_pairs.2 in omega arith) _ low))
 
-IsLowByteBound-low_byte : (bound : ℕ) → IsLowByteBound bound (low_byte bound)
+pub IsLowByteBound-low_byte : (bound : ℕ) → IsLowByteBound bound (low_byte bound)
 IsLowByteBound-low_byte bound = elim (nat_lt bound 0xC0) as (λ b. nat_lt bound 0xC0 ≡ b → IsLowByteBound bound (if b then min bound 0x80 else 0xC0 + min (bound / 64) 0x20)) [
   | true ↦ λ below. inl (min-le_right bound 0x80, min-le_left bound 0x80)
   | false ↦ λ above.

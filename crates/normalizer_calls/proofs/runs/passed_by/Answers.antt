@@ -12,7 +12,7 @@ returns-then-begins g c =
     let law = c.passthrough_is_normalized_apart.ensures in
     let next = rw c.in-Some.is at c.requires.next in
     rw c.to-then-begins.ensures (passed_apart _ _ _ _ _ law.apart law.follow _ _ law.begins _ _ c.requires.run
-    (ap (λ s. g.N.Forming.beginning c.args.normalizer.now s.character) (sym next) ∙ sym c.begins.ensures ∙ c.if-begins.true))
+    (ap (g.N.Forming.beginning c.args.normalizer.now) (sym next) ∙ sym c.begins.ensures ∙ c.if-begins.true))
 
 pub before_last-requires : goal.before_last-requires
 before_last-requires g c = c.requires.run.run.to_marks.boundary
@@ -27,7 +27,7 @@ returns-then-begins-2 g c =
     let law = c.passthrough_is_normalized_apart.ensures in
     let next = rw c.in-Some.is at c.requires.next in
     rw c.to-then-begins-2.ensures (passed_apart _ _ _ _ _ law.apart law.follow _ _ law.begins _ _ c.requires.run
-    (ap (λ s. g.N.Forming.beginning c.args.normalizer.now s.character) (sym next) ∙ sym c.begins-then-run-2.ensures ∙ c.if-begins-2.true))
+    (ap (g.N.Forming.beginning c.args.normalizer.now) (sym next) ∙ sym c.begins-then-run-2.ensures ∙ c.if-begins-2.true))
 
 pub returns : goal.returns
 returns g c =

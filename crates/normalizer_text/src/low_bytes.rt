@@ -1,0 +1,92 @@
+//! Passing over bytes of low characters in text that may not be UTF-8: single bytes and sequences of two, as many bytes
+//! at a time as a vector holds.
+ghost use Rattle.std.specs.Prelude.{◌≡◌, ◌+◌, ◌<◌, ◌≤◌, length};
+ghost use Rattle.normalizer_text.specs.Scans.{low_byte};
+ghost use Rattle.normalizer_text.specs.inner.LowBytes.{leading_linked, EndsLowBytes};
+
+use crate::utf8::Lead;
+use crate::{scan, utf8};
+use std::simd::prelude::*;
+
+/// How many bytes each vector holds.
+const LANES: usize = 32;
+/// How many bytes a vector holds if fewer are left.
+const FEWER_LANES: usize = 16;
+/// Below this bound there are so few sequences of two that none is looked for.
+const FEW_PAIRS: u32 = 0x100;
+
+/// Returns an end of bytes from a position on that are well-formed and of characters below a bound, found by vectors if
+/// the first of them is seen at once to be so.
+#[inline(always)]
+pub(crate) fn end_of_low_bytes(bytes: &[u8], position: usize, bound: u32) -> usize
+    requires { position ≤ length bytes.now }
+    ensures { EndsLowBytes (low_byte bound) bytes.now position result }
+{
+    let end = scan::end_of_below(bytes, position, bound.min(utf8::ASCII));
+    if bound > FEW_PAIRS && bytes.len() - end > FEWER_LANES && is_low_lead(bytes[end], bound) {
+        end_of_pairs(bytes, end, utf8::low_byte_bound(bound))
+    } else {
+        end
+    }
+}
+
+/// Whether a byte leads a sequence of two, of which all are of characters below the bound.
+#[inline(always)]
+fn is_low_lead(byte: u8, bound: u32) -> bool {
+    Lead::OfTwo.matches(byte) && (u32::from(byte) - 0xBF) * 64 <= bound
+}
+
+/// Returns such an end of bytes below a limit, up to the last few. It is for bytes among which there are sequences of two:
+/// these are passed over by vectors too.
+#[inline(never)]
+fn end_of_pairs(bytes: &[u8], position: usize, limit: u32) -> usize
+    requires limit { limit ≤ 0xE0 }
+    requires inside { position ≤ length bytes.now }
+    ensures { EndsLowBytes limit bytes.now position result }
+{
+    let mut end = position;
+    while bytes.len() - end > LANES {
+        let next = end_in_lanes::<LANES>(bytes, end, limit);
+        if next - end < LANES {
+            return next;
+        }
+        end = next;
+    }
+    if bytes.len() - end > FEWER_LANES {
+        return end_in_lanes::<FEWER_LANES>(bytes, end, limit);
+    }
+    end
+}
+
+/// Returns such an end, up to which a vector shows the bytes to be so, or one byte further.
+#[inline(always)]
+fn end_in_lanes<const N: usize>(bytes: &[u8], position: usize, limit: u32) -> usize
+    requires few { N ≤ 64 }
+    requires limit { limit ≤ 0xE0 }
+    requires room { position + N < length bytes.now }
+    ensures { EndsLowBytes limit bytes.now position result }
+{
+    if utf8::is_continuation(bytes[position]) {
+        return position;
+    }
+    let end = position + linked_lanes::<N>(bytes, position, limit);
+    end + usize::from(utf8::is_continuation(bytes[end]))
+}
+
+/// Returns how many of the N bytes at a position come before the first one that is not below the limit, or leads a
+/// sequence of two that doesn't follow, or is followed by a continuation byte that it doesn't lead.
+#[inline(always)]
+fn linked_lanes<const N: usize>(bytes: &[u8], position: usize, limit: u32) -> usize
+    requires few { N ≤ 64 }
+    requires limit { limit ≤ 0xE0 }
+    requires room { position + N < length bytes.now }
+    ensures { result ≡ leading_linked limit N position bytes.now }
+{
+    let here = Simd::<u8, N>::from_slice(&bytes[position..]);
+    let next = Simd::<u8, N>::from_slice(&bytes[position + 1..]);
+    let leads = here.simd_ge(Simd::splat(0xC2));
+    let never = leads ^ here.simd_ge(Simd::splat(0xC0));
+    let continuations = next.simd_ge(Simd::splat(0x80)) ^ next.simd_ge(Simd::splat(0xC0));
+    let unlinked = here.simd_ge(Simd::splat(limit as u8)) | never | (leads ^ continuations);
+    scan::lanes_before_set(unlinked.to_bitmask(), N)
+}
