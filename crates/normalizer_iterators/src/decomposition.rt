@@ -217,8 +217,8 @@ impl<'data, I: Iterator<Item = char> + Drop> Decomposition<'data, I> {
     }
 }
 
-/// The first member of a list that is seen to have one, two or three, if a boundary follows its character; the others
-/// are buffered. If there is none, what is buffered is unspecified.
+/// The first member of a list that is seen to have one or two, if a boundary follows its character; the other one is
+/// buffered. If there is none, what is buffered is unspecified.
 #[inline(always)]
 fn short_chunk(
     characters: &CharacterData<'_>,
@@ -242,7 +242,7 @@ fn short_chunk(
             None
         };
     }
-    if read.has_short_list() {
+    if read.has_short_list_in_table() {
         listed_chunk(characters, ignored, read, following, waiting)
     } else {
         None

@@ -1,6 +1,6 @@
 //! Passing over bytes of low characters in text that may not be UTF-8: single bytes and sequences of two, as many bytes
 //! at a time as a vector holds.
-ghost use Rattle.std.specs.Prelude.{◌≡◌, ◌+◌, ◌<◌, ◌≤◌, length};
+ghost use Rattle.std.specs.Prelude.{◌≡◌, ◌+◌, ◌<◌, ◌≤◌, length, IsTrue};
 ghost use Rattle.normalizer_text.specs.Scans.{low_byte};
 ghost use Rattle.normalizer_text.specs.inner.LowBytes.{leading_linked, EndsLowBytes};
 
@@ -23,11 +23,40 @@ pub(crate) fn end_of_low_bytes(bytes: &[u8], position: usize, bound: u32) -> usi
     ensures { EndsLowBytes (low_byte bound) bytes.now position result }
 {
     let end = scan::end_of_below(bytes, position, bound.min(utf8::ASCII));
-    if bound > FEW_PAIRS && bytes.len() - end > FEWER_LANES && is_low_lead(bytes[end], bound) {
+    if looks_for_pairs(bytes, end, bound) && is_low_lead(bytes[end], bound) {
         end_of_pairs(bytes, end, utf8::low_byte_bound(bound))
     } else {
         end
     }
+}
+
+/// Returns such an end after other characters, if two low bytes are next.
+#[inline(always)]
+pub(crate) fn end_of_low_bytes_after_others(bytes: &[u8], position: usize, bound: u32) -> usize
+    requires { position ≤ length bytes.now }
+    ensures { EndsLowBytes (low_byte bound) bytes.now position result }
+{
+    if looks_for_pairs(bytes, position, bound) {
+        let limit = utf8::low_byte_bound(bound);
+        if scan::begins_run(bytes, position, limit) {
+            return end_of_pairs(bytes, position, limit);
+        }
+    } else {
+        let limit = bound.min(utf8::ASCII);
+        if scan::begins_run(bytes, position, limit) {
+            return scan::end_of_below(bytes, position, limit);
+        }
+    }
+    position
+}
+
+/// Whether sequences of two are looked for: below the bound there are many, and enough bytes are left.
+#[inline(always)]
+fn looks_for_pairs(bytes: &[u8], position: usize, bound: u32) -> bool
+    requires { position ≤ length bytes.now }
+    ensures { IsTrue result → position + FEWER_LANES < length bytes.now }
+{
+    bound > FEW_PAIRS && bytes.len() - position > FEWER_LANES
 }
 
 /// Whether a byte leads a sequence of two, of which all are of characters below the bound.

@@ -15,7 +15,7 @@ ghost use Rattle.normalizer_text.specs.inner.PassedMembers.{end_within, IsPassed
 use crate::decoding_step::Step;
 use crate::units::Units;
 use crate::utf8::Lead;
-use crate::{scan, utf8, utf16};
+use crate::{low_bytes, scan, utf8, utf16};
 use normalizer_sets::CharacterSet;
 use std::ops::ControlFlow;
 
@@ -36,19 +36,17 @@ pub(crate) trait Members: Copy {
     /// Their encoding.
     ghost encoding: { Encoding };
 
-    /// The limit below which each unit belongs to a character below a bound.
-    ghost low_unit: { ℕ → ℕ };
-
     /// How many units there are.
     fn len(self) -> usize
         ensures { result ≡ length (units self) };
 
-    /// The limit below which each unit belongs to a character below the bound.
-    fn low_unit(self, bound: u32) -> u32
-        ensures { result ≡ low_unit bound };
-
     /// An end of characters from a position on that are below a bound, found by vectors.
     fn end_of_low_run(self, position: usize, bound: u32) -> usize
+        requires { IsBoundary (first_in encoding) (units self) position }
+        ensures { EndsLowCharacters encoding (units self) position bound result };
+
+    /// Such an end after other characters, if it is worth a vector: if two low units are next.
+    fn end_of_low_run_after_others(self, position: usize, bound: u32) -> usize
         requires { IsBoundary (first_in encoding) (units self) position }
         ensures { EndsLowCharacters encoding (units self) position bound result };
 
@@ -56,11 +54,6 @@ pub(crate) trait Members: Copy {
     fn end_of_low(self, position: usize, bound: u32) -> usize
         requires { IsBoundary (first_in encoding) (units self) position }
         ensures { EndsLowCharacters encoding (units self) position bound result };
-
-    /// Whether a unit is below a limit.
-    fn is_below_at(self, position: usize, limit: u32) -> bool
-        requires { position < length (units self) }
-        ensures { result ≡ nat_lt (slice_index (units self) position) limit };
 
     /// The step at a position.
     fn step_at(self, position: usize) -> Step
@@ -142,12 +135,8 @@ fn passed_few<M: Members>(
     let bound = set.first_missing();
     let mut end = units.end_of_low_run(position, bound);
     while end < units.len() {
-        let low = units.end_of_low(end, bound);
-        end = if end < low {
-            low
-        } else {
-            passed_kinds(units, end, set, (Lead::OfTwo, Lead::OfThree))?
-        };
+        let next = passed_kinds(units, end, set, (Lead::OfTwo, Lead::OfThree))?;
+        end = units.end_of_low(next, bound);
     }
     ControlFlow::Continue(end)
 }
@@ -187,12 +176,9 @@ fn passed_low_or_kinds<M: Members>(
     ensures passed { IsPassed (has set.now) M.encoding (M.units units) position result }
     ensures further { ForContinue result (λ end. position < end) }
 {
-    let bound = set.first_missing();
-    if position < units.len() && begins_low_run(units, position, units.low_unit(bound)) {
-        let end = units.end_of_low_run(position, bound);
-        if position < end {
-            return ControlFlow::Continue(end);
-        }
+    let end = units.end_of_low_run_after_others(position, set.first_missing());
+    if position < end {
+        return ControlFlow::Continue(end);
     }
     passed_kinds(units, position, set, (Lead::OfOne, Lead::OfFour))
 }
@@ -239,30 +225,13 @@ fn passed_step<M: Members>(
     ControlFlow::Continue(position + step.width)
 }
 
-/// Whether the unit at a position and the one after it are below a limit.
-#[inline(always)]
-fn begins_low_run<M: Members>(units: M, position: usize, limit: u32) -> bool
-    requires { position < length (M.units units) }
-{
-    units.is_below_at(position, limit)
-        && units.len() - position > 1
-        && units.is_below_at(position + 1, limit)
-}
-
 impl<'a> Members for &'a str {
     ghost units = { λ text. text.now };
 
     ghost encoding = { Encoding.Utf8 };
 
-    ghost low_unit = { low_byte };
-
     fn len(self) -> usize {
         str::len(self)
-    }
-
-    #[inline(always)]
-    fn low_unit(self, bound: u32) -> u32 {
-        utf8::low_byte_bound(bound)
     }
 
     #[inline(always)]
@@ -271,13 +240,17 @@ impl<'a> Members for &'a str {
     }
 
     #[inline(always)]
-    fn end_of_low(self, position: usize, bound: u32) -> usize {
-        <&'a str as Units>::end_of_low(self, position, bound)
+    fn end_of_low_run_after_others(self, position: usize, bound: u32) -> usize {
+        if scan::begins_run(self.as_bytes(), position, utf8::low_byte_bound(bound)) {
+            <&'a str as Units>::end_of_low_run(self, position, bound)
+        } else {
+            position
+        }
     }
 
     #[inline(always)]
-    fn is_below_at(self, position: usize, limit: u32) -> bool {
-        u32::from(self.as_bytes()[position]) < limit
+    fn end_of_low(self, position: usize, bound: u32) -> usize {
+        <&'a str as Units>::end_of_low(self, position, bound)
     }
 
     fn step_at(self, position: usize) -> Step {
@@ -300,15 +273,8 @@ impl<'a> Members for &'a [u8] {
 
     ghost encoding = { Encoding.Utf8 };
 
-    ghost low_unit = { λ bound. min bound 0x80 };
-
     fn len(self) -> usize {
         <[u8]>::len(self)
-    }
-
-    #[inline(always)]
-    fn low_unit(self, bound: u32) -> u32 {
-        bound.min(utf8::ASCII)
     }
 
     #[inline(always)]
@@ -317,13 +283,13 @@ impl<'a> Members for &'a [u8] {
     }
 
     #[inline(always)]
-    fn end_of_low(self, position: usize, bound: u32) -> usize {
-        <&'a [u8] as Units>::end_of_low(self, position, bound)
+    fn end_of_low_run_after_others(self, position: usize, bound: u32) -> usize {
+        low_bytes::end_of_low_bytes_after_others(self, position, bound)
     }
 
     #[inline(always)]
-    fn is_below_at(self, position: usize, limit: u32) -> bool {
-        u32::from(self[position]) < limit
+    fn end_of_low(self, position: usize, bound: u32) -> usize {
+        <&'a [u8] as Units>::end_of_low(self, position, bound)
     }
 
     fn step_at(self, position: usize) -> Step {

@@ -128,6 +128,16 @@ pub(crate) fn end_by_units<L: Lanes>(units: L, position: usize, bound: u32) -> u
     end
 }
 
+/// Whether two units that are below a bound are at a position. Fewer are looked at faster than a vector is read.
+#[inline(always)]
+pub(crate) fn begins_run<L: Lanes>(units: L, position: usize, bound: u32) -> bool
+    requires { position ≤ length (L.units units) }
+{
+    units.len() - position > 1
+        && units.is_below(position, bound)
+        && units.is_below(position + 1, bound)
+}
+
 /// Returns how many of so many lanes come before the first one whose bit is set.
 #[inline(always)]
 pub(crate) fn lanes_before_set(mask: u64, lanes: usize) -> usize

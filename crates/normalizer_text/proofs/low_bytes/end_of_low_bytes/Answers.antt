@@ -4,8 +4,8 @@ use Rattle.normalizer_text.specs.Scans.{low_byte}
 use Rattle.normalizer_text.proofs.scans.LowByteLemmas.{low_byte-most, low_bytes-front, low_bytes-more}
 use Rattle.normalizer_text.proofs.low_bytes.end_of_low_bytes.Goals as goal
 
-pub overflow_sub-bytes : goal.overflow_sub-bytes
-overflow_sub-bytes c =
+pub looks_for_pairs-requires : goal.looks_for_pairs-requires
+looks_for_pairs-requires c =
     (low_bytes-front c.args.bytes.now c.args.position c.args.bound c.min.result c.end_of_below-end.result c.requires c.min.ensures c.end_of_below-end.ensures).within
 
 pub end_of_pairs-requires : goal.end_of_pairs-requires
@@ -20,6 +20,6 @@ returns-then-is_low_lead c =
     (low_bytes-front c.args.bytes.now c.args.position c.args.bound c.min.result c.end_of_below-end.result c.requires c.min.ensures c.end_of_below-end.ensures)
     (subst (λ l. EndsLowBytes l c.args.bytes.now c.end_of_below-end.result c.end_of_pairs.result) c.low_byte_bound.ensures c.end_of_pairs.ensures)
 
-pub returns-else-bound-gt-FEW_PAIRS : goal.returns-else-bound-gt-FEW_PAIRS
-returns-else-bound-gt-FEW_PAIRS c =
+pub returns-else-looks_for_pairs : goal.returns-else-looks_for_pairs
+returns-else-looks_for_pairs c =
     low_bytes-front c.args.bytes.now c.args.position c.args.bound c.min.result c.end_of_below-end.result c.requires c.min.ensures c.end_of_below-end.ensures

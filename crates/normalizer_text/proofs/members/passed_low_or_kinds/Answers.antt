@@ -4,4 +4,4 @@ use Rattle.normalizer_text.proofs.members.passed_low_or_kinds.Goals as goal
 
 pub returns-then-position-end-clause-passed : goal.returns-then-position-end-clause-passed
 returns-then-position-end-clause-passed g c =
-    members-passed (has c.args.set.now) g.M.Members.encoding (g.M.Members.units c.args.units) c.args.position _ _ c.requires c.end_of_low_run-end.ensures c.first_missing-bound.ensures.below
+    members-passed (has c.args.set.now) g.M.Members.encoding (g.M.Members.units c.args.units) c.args.position _ _ c.requires c.end_of_low_run_after_others-end.ensures c.first_missing.ensures.below
