@@ -1,7 +1,7 @@
 //! What the decomposing and the composing form differ in, as one trait: every call on text is written once over it.
 ghost use Rattle.std.specs.Prelude.{◌≡◌, ◌↔◌, ◌<◌, ◌||◌, ◌∷◌, [], nat_lt, not, ℕ, Bool, true, false, IfOk, IfSome};
 ghost use Rattle.std.specs.Prelude.{◌≤◌, All, length, IsTrue, IsOk, IsOkUnless, IsErrOf, Option, Some, None};
-ghost use Rattle.std.specs.Prelude.{if◌then◌else◌, MatchOption};
+ghost use Rattle.std.specs.Prelude.{if◌then◌else◌, take, MatchOption};
 ghost use Rattle.std.specs.Char.{IsScalar};
 ghost use Rattle.normalizer_sets.specs.CharacterSets.{has};
 ghost use Rattle.normal_forms.specs.Decomposition.{expand};
@@ -11,7 +11,7 @@ ghost use Rattle.normalizer_tables.specs.Characters.{class_of, class_of_itself, 
 ghost use Rattle.normalizer_tables.specs.Characters.{reading_of_word, word_of};
 ghost use Rattle.normalizer_tables.specs.conditions.PairConditions.{is_taken_as_boundary};
 ghost use Rattle.normalizer_text.specs.Encodings.{decoded_in, first_in};
-ghost use Rattle.normalizer_iterators.specs.CharactersLeft.{characters_left};
+ghost use Rattle.normalizer_iterators.specs.CharactersLeft.{characters_left, EndsFront};
 ghost use Rattle.normalizer_iterators.specs.Segment.{text};
 ghost use Rattle.normalizer_calls.specs.BoundaryBefore.{HasBoundaryBefore};
 ghost use Rattle.normalizer_calls.specs.Forms.{composing_by, decomposing_by, form_in, form_of, HasShortUnits, MadeForm};
@@ -119,13 +119,18 @@ pub trait Forming {
         ensures fits { length (expand (made_form self.now).reading (decoded_in U.encoding (U.units units)))
             ≤ buffer_limit → IsTrue result };
 
-    /// Makes the form of what the units decode to, of which the first step was read before, if all the others are
-    /// marks.
-    fn mark_run<U: Units>(&self, units: U, first: Step) -> Result<Option<MarkRun>, AllocError>
+    /// Makes the form of a front of the units, and returns it with the end of that: of the first step, which was read
+    /// before, and the marks after it.
+    fn mark_run<U: Units>(
+        &self,
+        units: U,
+        first: Step,
+    ) -> Result<Option<(MarkRun, usize)>, AllocError>
         requires some { 0 < length (U.units units) }
         requires first { first ≡ first_in U.encoding (U.units units) }
-        ensures form { IfOk result (λ made. IfSome made (λ run. characters_left run ≡
-            form_in (made_form self.now) U.encoding (U.units units))) }
+        ensures form { IfOk result (λ made. IfSome made (λ it. characters_left it.0 ≡
+            form_in (made_form self.now) U.encoding (take it.1 (U.units units)))) }
+        ensures end { IfOk result (λ made. IfSome made (λ it. EndsFront U.encoding (U.units units) it.1)) }
         ensures room { HasShortUnits (made_form self.now) U.encoding (U.units units) → IsOk result };
 
     /// Writes the form of what the units decode to as an iterator yields it.
@@ -287,8 +292,14 @@ impl<'a> Forming for DecomposingForm<'a> {
         buffers.decompose(&self.characters, IgnoredCharacters::Dropped, units)
     }
 
-    fn mark_run<U: Units>(&self, units: U, first: Step) -> Result<Option<MarkRun>, AllocError> {
-        MarkRun::decomposed(&self.characters, IgnoredCharacters::Dropped, units, first)
+    fn mark_run<U: Units>(
+        &self,
+        units: U,
+        first: Step,
+    ) -> Result<Option<(MarkRun, usize)>, AllocError> {
+        let ignored = IgnoredCharacters::Dropped;
+        let made = MarkRun::decomposed(&self.characters, ignored, units, first)?;
+        Ok(Some(made))
     }
 
     fn write_items<U: Units, O: Output<U>>(
@@ -418,7 +429,11 @@ impl<'a> Forming for ComposingForm<'a> {
         buffers.compose(&self.characters, ignored, self.pairs, units)
     }
 
-    fn mark_run<U: Units>(&self, units: U, first: Step) -> Result<Option<MarkRun>, AllocError> {
+    fn mark_run<U: Units>(
+        &self,
+        units: U,
+        first: Step,
+    ) -> Result<Option<(MarkRun, usize)>, AllocError> {
         let ignored = IgnoredCharacters::Dropped;
         MarkRun::composed(&self.characters, ignored, self.pairs, units, first)
     }

@@ -1,9 +1,10 @@
 //! The ends of runs of characters that are passed on as they are, and of the segments between them.
-ghost use Rattle.std.specs.Prelude.{◌≡◌, ◌≢◌, ◌+◌, ◌^◌, ◌<◌, drop, length};
+ghost use Rattle.std.specs.Prelude.{◌≡◌, ◌≢◌, ◌+◌, ◌^◌, ◌<◌, ◌≤◌, drop, length};
 ghost use Rattle.std.specs.Prelude.{◌↔◌, IfErr, IfOk, IfSome, IsTrue, MatchOption, MatchResult, None, Some, false};
 ghost use Rattle.normalizer_text.specs.Encodings.{first_in};
 ghost use Rattle.normalizer_text.specs.DecodingSteps.{IsBoundary};
 ghost use Rattle.normalizer_text.specs.InputCut.{IsInputNormalized};
+ghost use Rattle.normalizer_iterators.specs.CharactersLeft.{EndsFront};
 ghost use Rattle.normalizer_calls.specs.inner.PassthroughRuns.{next_class, IsBeforeLast, IsComposite, IsKeptTo, IsPassedFront};
 ghost use Rattle.normalizer_calls.specs.inner.PassthroughRuns.{GoesOn, IsRun, IsRunEnd, IsRunSoFar, IsSegmentEnd};
 
@@ -546,31 +547,98 @@ pub(crate) fn first_step<U: Units>(units: U, first: Option<Step>) -> Step
     }
 }
 
-/// Returns the segment that begins with the first step: it ends before the next character that is normalized apart.
+/// Up to so many units, the end of a segment is looked for before its characters are read into a list.
+const LONG: usize = 128;
+
+/// Returns the segment that begins with the first step, unless it is long: it ends before the next character that is
+/// normalized apart.
 #[inline(always)]
+pub(crate) fn short_segment<U: Units, N: Forming>(
+    normalizer: &N,
+    units: U,
+    first: Step,
+) -> Option<Segment>
+    requires some { 0 < length (U.units units) }
+    requires first { first ≡ first_in U.encoding (U.units units) }
+    ensures end { IfSome result (λ segment. IsSegmentEnd (N.beginning normalizer.now)
+        U.encoding (U.units units) segment.end) }
+    ensures next { IfSome result (λ segment. IfSome segment.next
+        (λ next. next ≡ first_in U.encoding (drop segment.end (U.units units)))) }
+{
+    match segment_from(normalizer, units, first.width, units.len().min(LONG)) {
+        Ok(segment) => Some(segment),
+        Err(end) if end == units.len() => Some(Segment::last(end)),
+        Err(_) => None,
+    }
+}
+
+/// Returns the same segment, however long it is.
 pub(crate) fn front_segment<U: Units, N: Forming>(normalizer: &N, units: U, first: Step) -> Segment
     requires some { 0 < length (U.units units) }
     requires first { first ≡ first_in U.encoding (U.units units) }
     ensures end { IsSegmentEnd (N.beginning normalizer.now) U.encoding (U.units units) result.end }
     ensures next { IfSome result.next (λ next. next ≡ first_in U.encoding (drop result.end (U.units units))) }
 {
-    let mut end = first.width;
-    while end < units.len() {
+    match segment_from(normalizer, units, first.width, units.len()) {
+        Ok(segment) => segment,
+        Err(end) => Segment::last(end),
+    }
+}
+
+/// Returns the segment whose front ends at a place, if it ends before a limit, or else a place past that.
+#[inline(always)]
+fn segment_from<U: Units, N: Forming>(
+    normalizer: &N,
+    units: U,
+    place: usize,
+    limit: usize,
+) -> Result<Segment, usize>
+    requires limit { limit ≤ length (U.units units) }
+    requires fits { length (U.units units) < 2 ^ 64 }
+    requires front { EndsFront U.encoding (U.units units) place }
+    ensures end { IfOk result (λ segment. IsSegmentEnd (N.beginning normalizer.now)
+        U.encoding (U.units units) segment.end) }
+    ensures next { IfOk result (λ segment. IfSome segment.next
+        (λ next. next ≡ first_in U.encoding (drop segment.end (U.units units)))) }
+    ensures past { IfErr result (λ end. (limit ≤ end) × EndsFront U.encoding (U.units units) end) }
+{
+    let mut end = place;
+    while end < limit {
         let step = units.step_at(end);
         if let Some(is_before_run) = normalizer.run_may_begin(step.character) {
-            return Segment {
+            return Ok(Segment {
                 end,
                 next: Some(step),
                 is_before_run,
-            };
+            });
         }
         end += step.width;
     }
-    Segment {
-        end,
-        next: None,
-        is_before_run: false,
+    Err(end)
+}
+
+/// Returns the segment that ends at a place, if one does.
+pub(crate) fn segment_to<U: Units, N: Forming>(
+    normalizer: &N,
+    units: U,
+    end: usize,
+) -> Option<Segment>
+    requires { EndsFront U.encoding (U.units units) end }
+    ensures end { IfSome result (λ segment. (segment.end ≡ end)
+        × IsSegmentEnd (N.beginning normalizer.now) U.encoding (U.units units) segment.end) }
+    ensures next { IfSome result (λ segment. IfSome segment.next
+        (λ next. next ≡ first_in U.encoding (drop segment.end (U.units units)))) }
+{
+    if end == units.len() {
+        return Some(Segment::last(end));
     }
+    let step = units.step_at(end);
+    let is_before_run = normalizer.run_may_begin(step.character)?;
+    Some(Segment {
+        end,
+        next: Some(step),
+        is_before_run,
+    })
 }
 
 /// Returns the place before the last step up to an end.
@@ -729,6 +797,21 @@ fn passed_by<U: Units, N: Forming>(normalizer: &N, units: U, run: Run) -> Passed
         return Passed::to(run.end, next);
     }
     Passed::to(run.marks, next)
+}
+
+impl Segment {
+    /// The last segment, which goes up to the end of the units.
+    #[inline(always)]
+    fn last(end: usize) -> Segment
+        ensures end { result.end ≡ end }
+        ensures next { result.next ≡ None }
+    {
+        Segment {
+            end,
+            next: None,
+            is_before_run: false,
+        }
+    }
 }
 
 impl Passed {

@@ -15,7 +15,10 @@ ghost use Rattle.normalizer_calls.specs.inner.WrittenParts.{NothingOffered, Writ
 
 use crate::form_of_one::FormOfOne;
 use crate::forming::Forming;
-use crate::runs::{Composite, ExpectedFront, Kept, Segment, first_step, front_segment, kept_end};
+use crate::runs::{
+    Composite, ExpectedFront, Kept, Segment, first_step, front_segment, kept_end, segment_to,
+    short_segment,
+};
 use normalizer_iterators::{MarkRun, NormalizeError, SegmentBuffers};
 use normalizer_tables::members::Members;
 use normalizer_tables::short_list::ShortList;
@@ -154,8 +157,10 @@ fn write_long<U: Units, N: Forming, O: Output<U>>(
     ensures room { HasShortUnits (N.made_form normalizer.now) U.encoding (U.units units) →
         ¬ IsErrOf result NormalizeError.Memory }
 {
-    if let Some(run) = normalizer.mark_run(units, units.step_at(0))? {
-        return write_marks::<U, O>(run, output);
+    if let Some((run, end)) = normalizer.mark_run(units, units.step_at(0))? {
+        if end == units.len() {
+            return write_marks::<U, O>(run, output);
+        }
     }
     normalizer.write_items(units, output)
 }
@@ -222,30 +227,66 @@ fn write_run<U: Units, N: Forming, O: Output<U>>(
     Ok(kept)
 }
 
-/// Returns the segment in beginning of the units: the one that was seen, or else up to its end.
+/// Returns the segment in beginning of the units, unless it is long: the one that was seen, or else up to its end.
 #[inline(always)]
 fn segment_ahead<U: Units, N: Forming>(
     normalizer: &N,
     units: U,
     first: Step,
     composite: Option<Composite>,
-) -> Segment
+) -> Option<Segment>
     requires some { 0 < length (U.units units) }
     requires first { first ≡ first_in U.encoding (U.units units) }
     requires composite { IfSome composite
         (λ c. IsSegmentEnd (N.beginning normalizer.now) U.encoding (U.units units) c.end) }
-    ensures end { IsSegmentEnd (N.beginning normalizer.now) U.encoding (U.units units) result.end }
-    ensures next { IfSome result.next (λ next. next ≡ first_in U.encoding (drop result.end (U.units units))) }
-    ensures composite { IfSome composite (λ c. result.end ≡ c.end) }
+    ensures end { IfSome result (λ segment. IsSegmentEnd (N.beginning normalizer.now)
+        U.encoding (U.units units) segment.end) }
+    ensures next { IfSome result (λ segment. IfSome segment.next
+        (λ next. next ≡ first_in U.encoding (drop segment.end (U.units units)))) }
+    ensures composite { IfSome result (λ segment. IfSome composite (λ c. segment.end ≡ c.end)) }
 {
     match composite {
-        Some(composite) => Segment {
+        Some(composite) => Some(Segment {
             end: composite.end,
             next: None,
             is_before_run: composite.is_before_run,
-        },
-        None => front_segment(normalizer, units, first),
+        }),
+        None => short_segment(normalizer, units, first),
     }
+}
+
+/// Writes the form of the segment at the beginning of the units, however long it is, and returns that. Marks are read
+/// once, and where they end, the segment mostly does too. The first step is read again: if it was passed, each
+/// segment's would go through memory.
+#[inline(never)]
+fn write_long_segment<U: Units, N: Forming, O: Output<U>>(
+    normalizer: &N,
+    units: U,
+    output: &mut O,
+) -> Result<Segment, NormalizeError>
+    requires { 0 < length (U.units units) }
+    ensures segment { IfOk result (λ segment. IsSegmentEnd (N.beginning normalizer.now)
+        U.encoding (U.units units) segment.end) }
+    ensures next { IfOk result (λ segment. IfSome segment.next
+        (λ next. next ≡ first_in U.encoding (drop segment.end (U.units units)))) }
+    ensures part { IfOk result (λ segment. WritesPart U.encoding O.Output (N.made_form normalizer.now)
+        (U.units units) output.old segment.end output.new) }
+    ensures refused { IfErr result (λ fault. WritesUnits U.encoding O.Output (N.made_form normalizer.now)
+        (U.units units) output.old (Err fault) output.new) }
+    ensures room { HasShortUnits (N.made_form normalizer.now) U.encoding (U.units units) →
+        ¬ IsErrOf result NormalizeError.Memory }
+{
+    normalizer.passthrough_is_normalized_apart();
+    let first = units.step_at(0);
+    if let Some((run, end)) = normalizer.mark_run(units, first)? {
+        if let Some(segment) = segment_to(normalizer, units, end) {
+            write_marks::<U, O>(run, output)?;
+            return Ok(segment);
+        }
+    }
+    let segment = front_segment(normalizer, units, first);
+    normalizer.write_items(units.before(segment.end), output)?;
+    Ok(segment)
 }
 
 /// Writes the form of the segment at the beginning of the units, and returns that.
@@ -275,7 +316,9 @@ fn write_front_segment<U: Units, N: Forming, O: Output<U>>(
 {
     normalizer.passthrough_is_normalized_apart();
     let first = first_step(units, first);
-    let segment = segment_ahead(normalizer, units, first, composite);
+    let Some(segment) = segment_ahead(normalizer, units, first, composite) else {
+        return write_long_segment(normalizer, units, output);
+    };
     write_segment(
         normalizer,
         units.before(segment.end),

@@ -1,5 +1,5 @@
 //! The normal form of a character and the marks after it, however many these are.
-ghost use Rattle.std.specs.Prelude.{◌≡◌, ◌+◌, ◌<◌, ◌≤◌, ◌∷◌, [], List, ℕ, drop, length};
+ghost use Rattle.std.specs.Prelude.{◌≡◌, ◌+◌, ◌<◌, ◌≤◌, ◌∷◌, [], List, ℕ, drop, length, take};
 ghost use Rattle.std.specs.Prelude.{IfOk, IfSome, IfNone, IsOk, IsTrue, OnOk};
 ghost use Rattle.normal_forms.specs.CompositionByStarters.{compose_by_starters};
 ghost use Rattle.normal_forms.specs.Decomposition.{expand};
@@ -8,15 +8,18 @@ ghost use Rattle.normal_forms.specs.Hypotheses.{HasStarterResults};
 ghost use Rattle.normal_forms.specs.Reading.{Reading};
 ghost use Rattle.normal_forms.specs.ShortRuns.{buffer_limit};
 ghost use Rattle.normalizer_tables.specs.Readings.{reading_by};
-ghost use Rattle.normalizer_tables.specs.Characters.{class_of, list_of};
+ghost use Rattle.normalizer_tables.specs.Characters.{class_of, has_class_form, list_of};
 ghost use Rattle.normalizer_tables.specs.declared.characters.IgnoredCharacters.TheVariants.{Dropped};
+ghost use Rattle.normalizer_text.specs.DecodingSteps.{IsBoundary};
 ghost use Rattle.normalizer_text.specs.Encodings.{decoded_in, first_in};
 ghost use Rattle.normalizer_iterators.specs.CharactersLeft.{characters_left};
 ghost use Rattle.normalizer_iterators.specs.LazyReading.{HasShortLazyRuns};
 ghost use Rattle.normalizer_iterators.specs.Reads.{HasOwnWord};
-ghost use Rattle.normalizer_iterators.specs.WaitingList.{item_count, reordered_text, AgreesWith, HasOnlyMarks};
+ghost use Rattle.normalizer_iterators.specs.CharactersLeft.{EndsFront};
+ghost use Rattle.normalizer_iterators.specs.WaitingList.{item_count, AgreesWith, HasOnlyMarks};
 ghost use Rattle.normalizer_iterators.specs.inner.Segments.{HasPairsOf};
 ghost use Rattle.normalizer_iterators.specs.inner.MarkReads.{after_starter, starter_of, HasRoomForMarks, IsUncomposed};
+ghost use Rattle.normalizer_iterators.specs.inner.MarkReads.{MarksReadTo};
 ghost use Rattle.normalizer_iterators.specs.inner.ReadingOn.{Adds, KeepsClasses};
 
 use crate::pending::PendingChar;
@@ -37,8 +40,8 @@ pub struct MarkRun {
 }
 
 impl MarkRun {
-    /// Makes the decomposed form of what the units decode to, of which the first step was read before. Returns nothing
-    /// if what follows that isn't marks that are their own lists.
+    /// Makes the decomposed form of the front of what the units decode to: of the first step, which was read before, and
+    /// the marks after it that are their own lists. Returns it with the end of that front.
     ///
     /// # Errors
     /// `AllocError` if an allocation failed. Over short runs none is made.
@@ -47,17 +50,18 @@ impl MarkRun {
         ignored: IgnoredCharacters,
         units: U,
         first: Step,
-    ) -> Result<Option<Self>, AllocError>
+    ) -> Result<(Self, usize), AllocError>
         requires some { 0 < length (U.units units) }
         requires first { first ≡ first_in U.encoding (U.units units) }
-        ensures form { IfOk result (λ made. IfSome made (λ run. characters_left run ≡
-            nfd (reading_by characters.now ignored []) (decoded_in U.encoding (U.units units)))) }
+        ensures form { IfOk result (λ made. characters_left made.0 ≡
+            nfd (reading_by characters.now ignored []) (decoded_in U.encoding (take made.1 (U.units units)))) }
+        ensures end { IfOk result (λ made. EndsFront U.encoding (U.units units) made.1) }
         ensures room { HasShortLazyRuns characters.now ignored (decoded_in U.encoding (U.units units)) → IsOk result }
     {
         read_run(characters, ignored, units, first)
     }
 
-    /// Makes the composed form. Returns nothing also if a starter follows the first character.
+    /// Makes the composed form of the same front. Returns nothing if a starter would follow the first character.
     ///
     /// # Errors
     /// `AllocError` if an allocation failed. Over short runs none is made.
@@ -67,22 +71,21 @@ impl MarkRun {
         pairs: &CanonicalCompositions,
         units: U,
         first: Step,
-    ) -> Result<Option<Self>, AllocError>
+    ) -> Result<Option<(Self, usize)>, AllocError>
         requires some { 0 < length (U.units units) }
         requires first { first ≡ first_in U.encoding (U.units units) }
         requires results { HasStarterResults (reading_by characters.now Dropped pairs.now) }
-        ensures form { IfOk result (λ made. IfSome made (λ run. characters_left run ≡
-            nfc (reading_by characters.now ignored pairs.now) (decoded_in U.encoding (U.units units)))) }
+        ensures form { IfOk result (λ made. IfSome made (λ it. characters_left it.0 ≡
+            nfc (reading_by characters.now ignored pairs.now) (decoded_in U.encoding (take it.1 (U.units units))))) }
+        ensures end { IfOk result (λ made. IfSome made (λ it. EndsFront U.encoding (U.units units) it.1)) }
         ensures room { HasShortLazyRuns characters.now ignored (decoded_in U.encoding (U.units units)) → IsOk result }
     {
-        let Some(mut run) = read_run(characters, ignored, units, first)? else {
-            return Ok(None);
-        };
+        let (mut run, end) = read_run(characters, ignored, units, first)?;
         run.compose(pairs);
         if !run.waiting.has_only_marks() {
             return Ok(None);
         }
-        Ok(Some(run))
+        Ok(Some((run, end)))
     }
 
     /// Composes the starter, if there is one, with what follows it.
@@ -112,28 +115,27 @@ impl MarkRun {
     }
 }
 
-/// Buffers what the units decode to, in canonical order, unless what follows the first step isn't marks that are their
-/// own lists.
+/// Buffers the front of what the units decode to, in canonical order: the first step, and the marks after it that are
+/// their own lists. Returns it with the end of that front.
 fn read_run<U: Units>(
     characters: &CharacterData<'_>,
     ignored: IgnoredCharacters,
     units: U,
     first: Step,
-) -> Result<Option<MarkRun>, AllocError>
+) -> Result<(MarkRun, usize), AllocError>
     requires some { 0 < length (U.units units) }
     requires first { first ≡ first_in U.encoding (U.units units) }
-    ensures text { IfOk result (λ read. IfSome read (λ run. IsUncomposed (reading_by characters.now ignored [])
-        (nfd (reading_by characters.now ignored []) (decoded_in U.encoding (U.units units))) run)) }
+    ensures text { IfOk result (λ read. IsUncomposed (reading_by characters.now ignored [])
+        (nfd (reading_by characters.now ignored []) (decoded_in U.encoding (take read.1 (U.units units)))) read.0) }
+    ensures end { IfOk result (λ read. EndsFront U.encoding (U.units units) read.1) }
     ensures room { HasShortLazyRuns characters.now ignored (decoded_in U.encoding (U.units units)) → IsOk result }
 {
     let mut waiting = WaitingList::new(characters.allocator());
     let read = PendingChar::new(characters, 0, first.character);
     let starter = push_after_starter(characters, ignored, read, &mut waiting)?;
-    if !read_marks(characters, ignored, units, first.width, &mut waiting)? {
-        return Ok(None);
-    }
+    let end = read_marks(characters, ignored, units, first.width, &mut waiting)?;
     waiting.put_in_order()?;
-    Ok(Some(MarkRun { starter, waiting }))
+    Ok((MarkRun { starter, waiting }, end))
 }
 
 /// Buffers the list of a character, but for its first member if that is a starter, which is returned.
@@ -166,19 +168,18 @@ fn push_after_starter(
     Ok(Some(first))
 }
 
-/// Buffers what the units decode to from a position on. Returns whether all are marks that are their own lists.
+/// Buffers the marks from a position on that are their own lists, and returns where they end.
 fn read_marks<U: Units>(
     characters: &CharacterData<'_>,
     ignored: IgnoredCharacters,
     units: U,
     position: usize,
     waiting: &mut WaitingList,
-) -> Result<bool, AllocError>
-    requires { AgreesWith (reading_by characters.now ignored []) waiting.old }
-    ensures text { let d = reading_by characters.now ignored [] in IfOk result (λ all. IsTrue all →
-        reordered_text d waiting.old (expand d (decoded_in U.encoding (drop position (U.units units))))
-        ≡ reordered_text d waiting.new []) }
-    ensures classes { OnOk result (AgreesWith (reading_by characters.now ignored []) waiting.new) }
+) -> Result<usize, AllocError>
+    requires boundary { IsBoundary (first_in U.encoding) (U.units units) position }
+    requires classes { AgreesWith (reading_by characters.now ignored []) waiting.old }
+    ensures read { IfOk result (λ end. MarksReadTo (has_class_form characters.now)
+        (reading_by characters.now ignored []) U.encoding (U.units units) position waiting.old end waiting.new) }
     ensures room { HasRoomForMarks characters.now ignored waiting.old
         (decoded_in U.encoding (drop position (U.units units)))
         → IsOk result × (item_count waiting.new ≤ buffer_limit) }
@@ -187,12 +188,12 @@ fn read_marks<U: Units>(
     while place < units.len() {
         let step = units.step_at(place);
         let Some(class) = class_of_mark(characters, step.character) else {
-            return Ok(false);
+            return Ok(place);
         };
         waiting.push_mark(step.character, class)?;
         place += step.width;
     }
-    Ok(true)
+    Ok(place)
 }
 
 /// Returns the class of a mark that is its own list.

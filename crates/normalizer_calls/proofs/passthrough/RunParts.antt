@@ -17,11 +17,12 @@ use Rattle.normalizer_text.specs.Encodings.{Encoding, first_in, decoded_in}
 use Rattle.normalizer_text.specs.DecodingSteps.{read, replacement_step, steps, width_of}
 use Rattle.normalizer_text.specs.Utf16.{is_single, is_high, is_low, pair_value, unpaired_step, first_of_utf16}
 use Rattle.normalizer_text.specs.Utf8.{first_of_utf8}
-use Rattle.normalizer_text.proofs.steps.StepBoundaries.{steps-parts}
+use Rattle.normalizer_text.proofs.steps.StepBoundaries.{boundary-first, step-some, steps-parts}
 use Rattle.normalizer_text.proofs.rules.EncodingRules.{IsDecoding-first}
 use Rattle.normalizer_text.proofs.steps.StepLemmas.{decoded-IsText, decoded-some, rest-shorter, steps-nil, steps-some}
 use Rattle.normalizer_text.proofs.rules.Utf8Lemmas.{by_cases}
 use Rattle.normalizer_text.specs.InputCut.{IsInputNormalized}
+use Rattle.normalizer_iterators.specs.CharactersLeft.{EndsFront}
 use Rattle.normalizer_calls.specs.BoundaryBefore.{HasBoundaryBefore}
 use Rattle.normalizer_calls.specs.inner.PassthroughRuns.{Divides, IsBeforeLast, IsPart, IsRunEnd, IsSegmentEnd, CanFollowMark, CanPassThrough, IsPassthroughTo, replacement}
 use Rattle.normalizer_calls.specs.inner.PassthroughRuns.{class_after, class_of_step, next_class}
@@ -232,3 +233,7 @@ module _ (passed : ℕ → Option ℕ) (e : Encoding) where
       -- else all but the marks at its end
       pub passed_before_marks : held_back ≡ false → (marks end : ℕ) → IsRunEnd passed e units marks end → 0 < marks → IsOwnPart marks
       passed_before_marks free marks end h some = let to = h.run.to_marks in (IsPart-starters marks to free some, own_run marks 0 to)
+
+-- the first step is a front of the units
+pub EndsFront-first : (e : Encoding) (units : List ℕ) (first : Step) → 0 < length units → first ≡ first_in e units → EndsFront e units first.width
+EndsFront-first e units first some is = ((step-some e units 0 first some is).0, boundary-first e units first (record { some = some; is = is }))

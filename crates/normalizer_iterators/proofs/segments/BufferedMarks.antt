@@ -1,8 +1,9 @@
 -- Runs of marks: what is buffered, and what it composes to.
-use Rattle.std.proofs.Common.{◌≡◌, ℕ, ◌+◌, ◌<◌, ◌≤◌, Bool, true, false, List, [], ◌∷◌, ◌++◌, All, Option, Some, None, length, drop, take, refl, sym, ap, subst, ◌∙◌, arith, eq-eqb, inl, inr, slice_get, append-nil, Result, Ok, Err, IfOk, IfSome}
+use Rattle.std.proofs.Common.{◌≡◌, ℕ, ◌+◌, ◌<◌, ◌≤◌, Bool, true, false, List, [], ◌∷◌, ◌++◌, All, Option, Some, None, length, drop, take, refl, sym, ap, subst, ◌∙◌, arith, eq-eqb, inl, inr, slice_get, append-nil, append_assoc, Result, Ok, Err, IfOk}
 use Rattle.std.specs.Prelude.{option_to_list}
 use Rattle.std.proofs.lemmas.Bool.{cases_Bool, cond-true, cond-false, eqb-true, ne_eqb}
 use Rattle.std.specs.Option.{ForSome}
+use Rattle.std.proofs.lemmas.List.{append_cancel_right}
 use Rattle.std.proofs.lemmas.List.Elements.{All-drop, All-head, All-map, All-tail, All-take}
 use Rattle.normal_forms.specs.CompositionByStarters.{compose_after, compose_by_starters}
 use Rattle.normal_forms.specs.Decomposition.{expand}
@@ -12,6 +13,7 @@ use Rattle.normal_forms.specs.Reading.{Reading, IsMark, IsStarter, is_starter}
 use Rattle.normal_forms.specs.ShortRuns.{buffer_limit, continues, leading_length, HasShortRuns}
 use Rattle.normal_forms.proofs.boundaries.ChunkLemmas.{chunk_bound}
 use Rattle.normal_forms.proofs.composing.ComposeLemmas.{compose_after-nil, compose_by_starters-mark, compose_by_starters-nil, compose_by_starters-starter}
+use Rattle.normal_forms.proofs.ordering.ExpandLemmas.{expand-append}
 use Rattle.normal_forms.proofs.ordering.OrderLemmas.{insert-starter, order-cons}
 use Rattle.normalizer_tables.specs.Characters.{Characters}
 use Rattle.normalizer_tables.specs.Pairs.{Pair}
@@ -19,6 +21,8 @@ use Rattle.normalizer_tables.specs.Readings.{reading_by}
 use Rattle.normalizer_tables.specs.declared.characters.IgnoredCharacters.TheVariants.{Dropped}
 use Rattle.normalizer_text.specs.declared.decoding_step.Step.{Step}
 use Rattle.normalizer_text.specs.Encodings.{Encoding, first_in, decoded_in}
+use Rattle.normalizer_text.specs.DecodingSteps.{IsBoundary}
+use Rattle.normalizer_text.proofs.steps.StepBoundaries.{boundary-more, decoded-take-drop, step-some}
 use Rattle.normalizer_text.proofs.steps.StepLemmas.{decoded-some}
 use Rattle.normalizer_iterators.specs.declared.waiting.WaitingList.{WaitingList}
 use Rattle.normalizer_iterators.specs.ComposingInPlace.{composed_before, ComposesInPlace}
@@ -26,13 +30,13 @@ use Rattle.normalizer_iterators.specs.inner.Segments.{HasPairsOf}
 use Rattle.normalizer_iterators.specs.LazyReading.{SuitsLazyReading}
 use Rattle.normalizer_iterators.specs.Waiting.{HasClassesOf}
 use Rattle.normalizer_iterators.specs.WaitingList.{ordered_text, reordered_text, unordered_text, item_count, AgreesWith, HasOnlyMarks}
-use Rattle.normalizer_iterators.specs.inner.MarkReads.{after_starter, starter_of, IsUncomposed}
+use Rattle.normalizer_iterators.specs.inner.MarkReads.{after_starter, starter_of, IsUncomposed, MarksReadTo}
 use Rattle.normalizer_iterators.specs.declared.mark_run.MarkRun.{MarkRun}
-use Rattle.normalizer_iterators.specs.CharactersLeft.{characters_left}
+use Rattle.normalizer_iterators.specs.CharactersLeft.{characters_left, EndsFront}
 use Rattle.normalizer_tables.specs.declared.characters.IgnoredCharacters.{IgnoredCharacters}
 use Rattle.normalizer_iterators.proofs.reads.LazyLemmas.{at_boundary-parts}
 use Rattle.normalizer_iterators.proofs.reads.ReadingLemmas.{drop_member, no_member, reordered-nothing}
-use Rattle.normalizer_iterators.proofs.segments.SegmentLemmas.{decoded-all, decoded-left, expand-left, AgreesWith-reading_by}
+use Rattle.normalizer_iterators.proofs.segments.SegmentLemmas.{decoded-left, AgreesWith-reading_by}
 
 -- ---- a starter at the front
 
@@ -114,6 +118,10 @@ length-after_starter d (c ∷ x) =
 
 -- ---- a run is read
 
+expand-alone : (d : Reading) (c : ℕ) → d.list c ≡ c ∷ [] → expand d (c ∷ []) ≡ c ∷ []
+unfolding expand
+expand-alone d c own = append-nil (d.list c) ∙ own
+
 module _ (f : ℕ → Bool) (d : Reading) where
   -- a mark that is its own list continues what comes before it
   leading_length-mark : (c : ℕ) (x : List ℕ) → d.list c ≡ c ∷ [] → IsMark d c → SuitsLazyReading f d → leading_length f d (c ∷ x) ≡ leading_length f d x + 1
@@ -141,16 +149,15 @@ module _ (f : ℕ → Bool) (d : Reading) where
       ]
 
   module _ (e : Encoding) (units : List ℕ) (position : ℕ) (old : WaitingList) where
-    -- what the units from a position up to a place decode to is buffered
-    pub record MarksReadTo (place : ℕ) (now : WaitingList) : Type 0 where
-      pub agrees : AgreesWith d now
-      pub text : reordered_text d old (expand d (decoded_in e (drop position units))) ≡ reordered_text d now (expand d (decoded_in e (drop place units)))
-      pub room : SuitsLazyReading f d → item_count now + leading_length f d (decoded_in e (drop place units)) ≡ item_count old + leading_length f d (decoded_in e (drop position units))
+    abbrev ReadTo : ℕ → WaitingList → Type 0
+    ReadTo = MarksReadTo f d e units position old
 
-    pub MarksReadTo-none : AgreesWith d old → MarksReadTo position old
-    MarksReadTo-none agrees = record { agrees = agrees; text = refl; room = λ suits. refl }
+    pub MarksReadTo-none : IsBoundary (first_in e) units position → AgreesWith d old → ReadTo position old
+    unfolding expand
+    MarksReadTo-none boundary agrees =
+        record { boundary = boundary; forward = omega arith; agrees = agrees; front = []; parts = refl; text = λ rest. refl; room = λ suits. refl }
 
-    module _ (place : ℕ) (s : Step) (now : WaitingList) (before : MarksReadTo place now) (inside : place < length units) (is : s ≡ first_in e (drop place units))
+    module _ (place : ℕ) (s : Step) (now : WaitingList) (before : ReadTo place now) (inside : place < length units) (is : s ≡ first_in e (drop place units))
         (own : d.list s.character ≡ s.character ∷ []) (mark : IsMark d s.character) where
       left : SuitsLazyReading f d → leading_length f d (decoded_in e (drop place units)) ≡ leading_length f d (decoded_in e (drop (place + s.width) units)) + 1
       left suits =
@@ -158,22 +165,26 @@ module _ (f : ℕ → Bool) (d : Reading) where
           ∙ leading_length-mark s.character (decoded_in e (drop (place + s.width) units)) own mark suits
 
       pub MarksReadTo-more : (new : WaitingList) → ((rest : List ℕ) → reordered_text d now (s.character ∷ rest) ≡ reordered_text d new rest) → AgreesWith d new → item_count new ≡ item_count now + 1
-          → MarksReadTo (place + s.width) new
-      MarksReadTo-more new text agrees more = record {
-        agrees = agrees;
-        text =
-            let rest = expand d (decoded_in e (drop (place + s.width) units)) in
-            before.text ∙ ap (reordered_text d now) (expand-left d e units place s inside is) ∙ ap (λ l. reordered_text d now (l ++ rest)) own ∙ text rest;
-        room = λ suits. omega (arith, before.room suits, left suits);
-      }
+          → ReadTo (place + s.width) new
+      MarksReadTo-more new text agrees more =
+          let rest = decoded_in e (drop (place + s.width) units) in
+          let forward = before.forward in record {
+            boundary = boundary-more e units place s before.boundary inside is;
+            forward = omega arith;
+            agrees = agrees;
+            front = before.front ++ s.character ∷ [];
+            parts = before.parts ∙ ap (λ l. before.front ++ l) (decoded-left e units place s inside is) ∙ sym (append_assoc before.front (s.character ∷ []) rest);
+            text = λ after.
+                ap (λ l. reordered_text d old (l ++ after)) (expand-append d before.front (s.character ∷ []))
+                ∙ ap (reordered_text d old) (append_assoc (expand d before.front) (expand d (s.character ∷ [])) after)
+                ∙ ap (λ l. reordered_text d old (expand d before.front ++ (l ++ after))) (expand-alone d s.character own)
+                ∙ before.text (s.character ∷ after)
+                ∙ text after;
+            room = λ suits. omega (arith, before.room suits, left suits);
+          }
 
       pub MarksReadTo-fits : SuitsLazyReading f d → item_count old + leading_length f d (decoded_in e (drop position units)) ≤ buffer_limit → item_count now < buffer_limit
       MarksReadTo-fits suits fits = omega (arith, before.room suits, left suits)
-
-    -- all was
-    pub MarksReadTo-all : (place : ℕ) (now : WaitingList) → MarksReadTo place now → length units ≤ place → reordered_text d old (expand d (decoded_in e (drop position units))) ≡ reordered_text d now []
-    unfolding expand
-    MarksReadTo-all place now to past = to.text ∙ ap (λ x. reordered_text d now (expand d x)) (decoded-all e units place past)
 
 -- a whole run was: the first character, the marks after it, and all of them were put in order
 module _ (d : Reading) (e : Encoding) (units : List ℕ) (s : Step) (some : 0 < length units) (is : s ≡ first_in e units) where
@@ -187,17 +198,29 @@ module _ (d : Reading) (e : Encoding) (units : List ℕ) (s : Step) (some : 0 < 
       let fits = first_fits f d s.character (decoded_in e (drop s.width units)) suits (subst (HasShortRuns f d) decoded-first runs) in
       subst (λ c. length (after_starter d (d.list c)) + leading_length f d (decoded_in e (drop s.width units)) ≤ buffer_limit) (sym same) fits
 
-  pub read_run-whole : (read : ℕ) (empty pushed all sorted : WaitingList) → read ≡ s.character → ordered_text empty ≡ [] → unordered_text empty ≡ []
+  pub read_run-whole : (f : ℕ → Bool) (read end : ℕ) (empty pushed all sorted : WaitingList) → read ≡ s.character → ordered_text empty ≡ [] → unordered_text empty ≡ []
       → ((rest : List ℕ) → reordered_text d empty (after_starter d (d.list read) ++ rest) ≡ reordered_text d pushed rest)
-      → reordered_text d pushed (expand d (decoded_in e (drop s.width units))) ≡ reordered_text d all [] → ordered_text sorted ≡ reordered_text d all []
-      → nfd d (decoded_in e units) ≡ option_to_list (starter_of d (d.list read)) ++ ordered_text sorted
+      → MarksReadTo f d e units s.width pushed end all → ordered_text sorted ≡ reordered_text d all []
+      → nfd d (decoded_in e (take end units)) ≡ option_to_list (starter_of d (d.list read)) ++ ordered_text sorted
   unfolding nfd expand
-  read_run-whole first empty pushed all sorted same front open_marks push read sort =
-      let rest = expand d (decoded_in e (drop s.width units)) in
+  read_run-whole f first end empty pushed all sorted same front open_marks push read sort =
+      let marks = read.front in
+      let rest = decoded_in e (drop end units) in
       let list = d.list first in
-      ap (λ x. order d (expand d x)) decoded-first ∙ ap (λ c. order d (d.list c ++ rest)) (sym same) ∙ order-starter d list rest
+      let text : decoded_in e (take end units) ≡ s.character ∷ marks =
+      append_cancel_right (decoded_in e (take end units)) (s.character ∷ marks) rest
+      (sym (decoded-take-drop e units end read.boundary) ∙ decoded-first ∙ ap (λ l. s.character ∷ l) read.parts) in
+      let pushes = push (expand d marks) ∙ ap (reordered_text d pushed) (sym (append-nil (expand d marks))) ∙ read.text [] in
+      ap (λ x. order d (expand d x)) text ∙ ap (λ c. order d (d.list c ++ expand d marks)) (sym same) ∙ order-starter d list (expand d marks)
       ∙ ap (λ l. option_to_list (starter_of d list) ++ l)
-      (sym (reordered-nothing d empty (after_starter d list ++ rest) front open_marks) ∙ push rest ∙ read ∙ sym sort)
+      (sym (reordered-nothing d empty (after_starter d list ++ expand d marks) front open_marks) ∙ pushes ∙ sym sort)
+
+  -- its front has the first step
+  pub read_run-end : (f : ℕ → Bool) (end : ℕ) (pushed all : WaitingList) → MarksReadTo f d e units s.width pushed end all → EndsFront e units end
+  read_run-end f end pushed all read =
+      let takes = (step-some e units 0 s some is).0 in
+      let forward = read.forward in
+      (omega arith, read.boundary)
 
 -- ---- marks alone
 
@@ -223,11 +246,10 @@ pub characters_left-whole : (d : Reading) (x : List ℕ) (run : MarkRun) → IsU
 unfolding characters_left
 characters_left-whole d x run read = sym read.whole
 
-pub characters_left-uncomposed : {E : Type 0} (d : Reading) (x : List ℕ) (made : Result (Option MarkRun) E) → IfOk made (λ read. IfSome read (IsUncomposed d x))
-    → IfOk made (λ read. IfSome read (λ run. characters_left run ≡ x))
-characters_left-uncomposed d x (Ok (Some run)) read = characters_left-whole d x run read
-characters_left-uncomposed d x (Ok None) read = tt
-characters_left-uncomposed d x (Err e) read = tt
+pub characters_left-read : {E : Type 0} (d : Reading) (x : ℕ → List ℕ) (made : Result (MarkRun × ℕ) E) → IfOk made (λ read. IsUncomposed d (x read.1) read.0)
+    → IfOk made (λ read. characters_left read.0 ≡ x read.1)
+characters_left-read d x (Ok r) read = characters_left-whole d (x r.1) r.0 read
+characters_left-read d x (Err e) read = tt
 
 composed_before-marks : (d : Reading) (a : ℕ) (p : List ℕ) → All (IsMark d) p → composed_before d a p (p ++ []) ≡ a ∷ p
 composed_before-marks d a [] marks = compose_after-nil d a []

@@ -1,33 +1,5 @@
-use Rattle.std.proofs.Common.{arith, sym, ap, ◌∙◌}
-use Rattle.normalizer_text.proofs.steps.StepBoundaries.{boundary-first, boundary-more, step-some}
+use Rattle.normalizer_calls.proofs.passthrough.RunParts.{EndsFront-first}
 use Rattle.normalizer_calls.proofs.runs.front_segment.Goals as goal
 
-pub loop-end-init : goal.loop-end-init
-loop-end-init g c = (
-  (step-some g.U.Units.encoding (g.U.Units.units c.args.units) 0 c.args.first c.requires.some c.requires.first).0,
-  boundary-first g.U.Units.encoding (g.U.Units.units c.args.units) c.args.first (record { some = c.requires.some; is = c.requires.first }),
-)
-
-pub returns-in-Some-clause-end : goal.returns-in-Some-clause-end
-returns-in-Some-clause-end g c = record {
-  some = c.loop-end.invariant.0;
-  boundary = c.loop-end.invariant.1;
-  next = λ _. ap (λ s. g.N.Forming.beginning c.args.normalizer.now s.character) (sym c.step_at-step.ensures) ∙ c.in-Some.ensures;
-}
-
-pub overflow_add-end : goal.overflow_add-end
-overflow_add-end g c =
-    omega (arith, c.len.ensures, step-some g.U.Units.encoding (g.U.Units.units c.args.units) c.loop-end.end c.step_at-step.result (omega (arith, c.len.ensures)) c.step_at-step.ensures)
-
-pub loop-end-smaller : goal.loop-end-smaller
-loop-end-smaller g c =
-    omega (arith, c.len.ensures, step-some g.U.Units.encoding (g.U.Units.units c.args.units) c.loop-end.end c.step_at-step.result (omega (arith, c.len.ensures)) c.step_at-step.ensures)
-
-pub loop-end-preserved : goal.loop-end-preserved
-loop-end-preserved g c = (
-  omega (arith, c.loop-end.invariant.0),
-  boundary-more g.U.Units.encoding (g.U.Units.units c.args.units) c.loop-end.end c.step_at-step.result c.loop-end.invariant.1 (omega (arith, c.len.ensures)) c.step_at-step.ensures,
-)
-
-pub returns-clause-end : goal.returns-clause-end
-returns-clause-end g c = record { some = c.loop-end.invariant.0; boundary = c.loop-end.invariant.1; next = λ more. absurd (omega (arith, c.len.ensures)) }
+pub segment_from-requires-clause-front : goal.segment_from-requires-clause-front
+segment_from-requires-clause-front g c = EndsFront-first g.U.Units.encoding (g.U.Units.units c.args.units) c.args.first c.requires.some c.requires.first

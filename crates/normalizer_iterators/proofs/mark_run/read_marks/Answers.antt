@@ -4,13 +4,13 @@ use Rattle.normalizer_tables.specs.Readings.{reading_by}
 use Rattle.normalizer_tables.specs.Ignored.{ignored_list}
 use Rattle.normalizer_text.proofs.steps.StepBoundaries.{step-some}
 use Rattle.normalizer_iterators.proofs.reads.LazyLemmas.{class-reading_by, list-reading_by}
-use Rattle.normalizer_iterators.proofs.segments.BufferedMarks.{MarksReadTo-all, MarksReadTo-fits, MarksReadTo-more, MarksReadTo-none}
+use Rattle.normalizer_iterators.proofs.segments.BufferedMarks.{MarksReadTo-fits, MarksReadTo-more, MarksReadTo-none}
 use Rattle.normalizer_iterators.proofs.mark_run.read_marks.Goals as goal
 
 pub loop-place-init : goal.loop-place-init
 loop-place-init g c =
     let s = c.args.characters.now in
-    MarksReadTo-none (has_class_form s) (reading_by s c.args.ignored []) g.U.Units.encoding (g.U.Units.units c.args.units) c.args.position c.args.waiting.now c.requires
+    MarksReadTo-none (has_class_form s) (reading_by s c.args.ignored []) g.U.Units.encoding (g.U.Units.units c.args.units) c.args.position c.args.waiting.now c.requires.boundary c.requires.classes
 
 pub overflow_add-place : goal.overflow_add-place
 overflow_add-place g c =
@@ -32,12 +32,6 @@ loop-place-preserved g c =
     MarksReadTo-more (has_class_form s) d g.U.Units.encoding (g.U.Units.units c.args.units) c.args.position c.args.waiting.now c.loop-place.place c.step_at-step.result c.loop-place.waiting
     c.loop-place.invariant (omega (arith, c.len.ensures)) c.step_at-step.ensures own (omega (arith, c.in-Some.ensures.mark, class)) _
     (λ rest. c.in_ok-push_mark.ensures.text d rest) (c.in_ok-push_mark.ensures.classes d c.loop-place.invariant.agrees class) c.in_ok-push_mark.ensures.held
-
-pub returns-clause-text : goal.returns-clause-text
-returns-clause-text g c = λ _.
-    let s = c.args.characters.now in
-    MarksReadTo-all (has_class_form s) (reading_by s c.args.ignored []) g.U.Units.encoding (g.U.Units.units c.args.units) c.args.position c.args.waiting.now c.loop-place.place _ c.loop-place.invariant
-    (omega (arith, c.len.ensures))
 
 pub returns-in_err-push_mark-clause-room : goal.returns-in_err-push_mark-clause-room
 returns-in_err-push_mark-clause-room g c = λ fits.

@@ -1,7 +1,7 @@
 use Rattle.std.proofs.Common.{◌-◌, [], length}
 use Rattle.normalizer_tables.specs.Characters.{has_class_form}
 use Rattle.normalizer_tables.specs.Readings.{reading_by}
-use Rattle.normalizer_iterators.proofs.segments.BufferedMarks.{MarksReadTo}
+use Rattle.normalizer_iterators.specs.inner.MarkReads.{MarksReadTo}
 use Rattle.normalizer_iterators.proofs.mark_run.read_marks.Given as goal
 
 abbrev pub invariant-loop-place : goal.invariant-loop-place

@@ -12,6 +12,7 @@ returns g c =
     let text = decoded_in g.U.Units.encoding (g.U.Units.units c.args.units) in
     record {
       form = c.composed.ensures.form;
+      end = c.composed.ensures.end;
       room = λ short.
           c.composed.ensures.room (f.serves.reading, HasShortRuns-reading_by (has_class_form f.characters) f.characters Dropped f.pairs.now text short);
     }

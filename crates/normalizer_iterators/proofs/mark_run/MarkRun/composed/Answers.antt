@@ -1,4 +1,4 @@
-use Rattle.std.proofs.Common.{[], sym, refl, ◌∙◌}
+use Rattle.std.proofs.Common.{[], take, sym, refl, ◌∙◌}
 use Rattle.normal_forms.specs.Forms.{nfd}
 use Rattle.normalizer_tables.specs.Readings.{reading_by}
 use Rattle.normalizer_tables.specs.declared.characters.IgnoredCharacters.TheVariants.{Dropped}
@@ -11,8 +11,8 @@ pub returns-clause-form : goal.returns-clause-form
 returns-clause-form g c =
     let s = c.args.characters.now in
     let pairs = c.args.pairs.now in
-    let text = decoded_in g.U.Units.encoding (g.U.Units.units c.args.units) in
-    let read = rw c.in-Some.is at c.in_ok-run.ensures.text in
-    let uncomposed = IsUncomposed-reading_by s c.args.ignored pairs (nfd (reading_by s c.args.ignored []) text) c.in-Some.run' read in
+    let text = decoded_in g.U.Units.encoding (take c.in_ok-run.end (g.U.Units.units c.args.units)) in
+    let read = c.in_ok-run.ensures.text in
+    let uncomposed = IsUncomposed-reading_by s c.args.ignored pairs (nfd (reading_by s c.args.ignored []) text) c.in_ok-run.run' read in
     c.compose.ensures (reading_by s Dropped pairs) _ uncomposed (λ a b. refl) (c.has_only_marks.ensures.0 c.if-not-has_only_marks.false)
     ∙ sym (nfc-reading_by s c.args.ignored pairs c.requires.results text)
