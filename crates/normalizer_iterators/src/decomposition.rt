@@ -11,6 +11,7 @@ ghost use Rattle.normalizer_tables.specs.Characters.{class_of, has_class_form, c
 ghost use Rattle.normalizer_tables.specs.Ignored.{ignored_list};
 ghost use Rattle.normalizer_tables.specs.conditions.NfdData.{IsSoundNfdData};
 ghost use Rattle.normalizer_tables.specs.Readings.{reading_by};
+ghost use Rattle.normalizer_tables.specs.ShortLists.{text_of};
 ghost use Rattle.normalizer_tables.specs.declared.characters.IgnoredCharacters.TheVariants.{Dropped};
 ghost use Rattle.normalizer_text.specs.DecodingSteps.{Spells};
 ghost use Rattle.normalizer_iterators.specs.Delegate.{HasRead, IsReadyAfter, MayYield};
@@ -217,8 +218,8 @@ impl<'data, I: Iterator<Item = char> + Drop> Decomposition<'data, I> {
     }
 }
 
-/// The first member of a list that is seen to have one or two, if a boundary follows its character; the other one is
-/// buffered. If there is none, what is buffered is unspecified.
+/// The first member of a list that is seen to have one, two or three, if a boundary follows its character; the others
+/// are buffered. If there is none, what is buffered is unspecified.
 #[inline(always)]
 fn short_chunk(
     characters: &CharacterData<'_>,
@@ -242,7 +243,7 @@ fn short_chunk(
             None
         };
     }
-    if read.has_short_list_in_table() {
+    if read.has_short_list() {
         listed_chunk(characters, ignored, read, following, waiting)
     } else {
         None
@@ -269,7 +270,7 @@ fn listed_chunk(
     if !is_at_boundary(characters, ignored, following) {
         return None;
     }
-    let list = short_of(&read.members(characters, ignored))?;
+    let list = short_list_of(characters, ignored, read)?;
     if let ShortList::One(member) = list {
         return Some(member);
     }
@@ -280,6 +281,22 @@ fn listed_chunk(
         return None;
     };
     Some(list.first())
+}
+
+/// The list of a character, if it has one, two or three members.
+#[inline(always)]
+fn short_list_of(
+    characters: &CharacterData<'_>,
+    ignored: IgnoredCharacters,
+    read: PendingChar,
+) -> Option<ShortList>
+    requires { HasOwnWord characters.now read }
+    ensures { IfSome result (λ list. list_of characters.now (ignored_list ignored) read.character ≡ text_of list) }
+{
+    match read.short_list(characters) {
+        Some(list) => Some(list),
+        None => short_of(&read.members(characters, ignored)),
+    }
 }
 
 /// The first member of the list of a character after a boundary; the others are buffered, with the lists of the

@@ -12,7 +12,7 @@ use normalizer_tables::characters::{CharacterData, IgnoredCharacters};
 use normalizer_tables::members::Members;
 use normalizer_tables::short_list::ShortList;
 use normalizer_tables::word::{
-    is_backward_combining, is_class_form, is_non_round_trip, is_special_class_form,
+    HANGUL_WORD, is_backward_combining, is_class_form, is_non_round_trip, is_special_class_form,
 };
 
 /// The bits of a word that are all 0 if the character is its own list, a starter.
@@ -143,10 +143,11 @@ impl PendingChar {
         }
     }
 
-    /// Whether its word says that its list is in a table, and has one or two members. It says nothing of other lists.
+    /// Whether its word says that its list is in a table, and has one or two members, or is that of a Hangul syllable. It
+    /// says nothing of other lists.
     #[inline(always)]
-    pub(crate) fn has_short_list_in_table(self) -> bool {
-        self.word & LOW == 0 && self.word & HIGH != 0
+    pub(crate) fn has_short_list(self) -> bool {
+        self.word == HANGUL_WORD || self.word & LOW == 0 && self.word & HIGH != 0
     }
 
     /// The list of the character, if it is held in registers. `None` says nothing.

@@ -32,6 +32,14 @@ reordered-starter d b c rest front open_marks starter =
     order-cons d c rest ∙ insert-starter d c (order d rest) starter
     ∙ sym (ap (λ l. l ++ order d (unordered_text b ++ rest)) front ∙ ap (λ l. c ∷ order d (l ++ rest)) open_marks)
 
+pub reordered-starters : (d : Reading) (b : WaitingList) (c e : ℕ) (rest : List ℕ) → ordered_text b ≡ c ∷ e ∷ [] → unordered_text b ≡ [] → IsStarter d c → IsStarter d e
+    → order d (c ∷ e ∷ rest) ≡ reordered_text d b rest
+unfolding reordered_text
+reordered-starters d b c e rest front open_marks first second =
+    order-cons d c (e ∷ rest) ∙ insert-starter d c (order d (e ∷ rest)) first
+    ∙ ap (λ l. c ∷ l) (order-cons d e rest ∙ insert-starter d e (order d rest) second)
+    ∙ sym (ap (λ l. l ++ order d (unordered_text b ++ rest)) front ∙ ap (λ l. c ∷ e ∷ order d (l ++ rest)) open_marks)
+
 -- ---- the members of a list, one after another
 
 -- those from `first` up to `place` went in

@@ -13,7 +13,7 @@ unfolding text_of
 returns-in-One c =
     let s = c.args.characters.now in
     let d = reading_by s c.args.ignored [] in
-    let list = list-reading_by s c.args.ignored [] c.args.read.character ∙ sym c.members.ensures ∙ c.in_ok-list.ensures ∙ ap text_of c.in-One.is in
+    let list = list-reading_by s c.args.ignored [] c.args.read.character ∙ c.in_ok-list.ensures ∙ ap text_of c.in-One.is in
     IsShortChunk-alone (has_class_form s) d c.args.read.character c.in-One.member (character_of c.args.following) c.args.waiting.now list
     (c.if-not-is_at_boundary.ensures refl) c.requires.empty c.requires.settled c.requires.classes
 
@@ -25,7 +25,7 @@ returns c =
     let others = drop 1 (text_of c.in_ok-list.list) in
     record {
       others = others;
-      list = list-reading_by s c.args.ignored [] c.args.read.character ∙ sym c.members.ensures ∙ c.in_ok-list.ensures
+      list = list-reading_by s c.args.ignored [] c.args.read.character ∙ c.in_ok-list.ensures
           ∙ drop_member (text_of c.in_ok-list.list) 0 c.first.result (sym c.first.ensures);
       at_boundary = c.if-not-is_at_boundary.ensures refl;
       text = c.in-Ok-put_in_order.ensures.text d (c.in-Ok.ensures.classes d same) ∙ sym (c.in-Ok.ensures.text d same [])
