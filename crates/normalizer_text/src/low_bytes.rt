@@ -1,6 +1,6 @@
 //! Passing over bytes of low characters in text that may not be UTF-8: single bytes and sequences of two, as many bytes
 //! at a time as a vector holds.
-ghost use Rattle.std.specs.Prelude.{◌≡◌, ◌+◌, ◌<◌, ◌≤◌, length, IsTrue};
+ghost use Rattle.std.specs.Prelude.{◌≡◌, ◌+◌, ◌<◌, ◌≤◌, length, IfSome, IsTrue};
 ghost use Rattle.normalizer_text.specs.Scans.{low_byte};
 ghost use Rattle.normalizer_text.specs.inner.LowBytes.{leading_linked, EndsLowBytes};
 
@@ -32,22 +32,20 @@ pub(crate) fn end_of_low_bytes(bytes: &[u8], position: usize, bound: u32) -> usi
 
 /// Returns such an end after other characters, if two low bytes are next.
 #[inline(always)]
-pub(crate) fn end_of_low_bytes_after_others(bytes: &[u8], position: usize, bound: u32) -> usize
+pub(crate) fn low_run_after_others(bytes: &[u8], position: usize, bound: u32) -> Option<usize>
     requires { position ≤ length bytes.now }
-    ensures { EndsLowBytes (low_byte bound) bytes.now position result }
+    ensures low { IfSome result (EndsLowBytes (low_byte bound) bytes.now position) }
+    ensures further { IfSome result (λ end. position < end) }
 {
-    if looks_for_pairs(bytes, position, bound) {
-        let limit = utf8::low_byte_bound(bound);
-        if scan::begins_run(bytes, position, limit) {
-            return end_of_pairs(bytes, position, limit);
-        }
-    } else {
-        let limit = bound.min(utf8::ASCII);
-        if scan::begins_run(bytes, position, limit) {
-            return scan::end_of_below(bytes, position, limit);
-        }
+    if !looks_for_pairs(bytes, position, bound) {
+        return scan::end_of_run(bytes, position, bound.min(utf8::ASCII));
     }
-    position
+    let limit = utf8::low_byte_bound(bound);
+    if !scan::begins_run(bytes, position, limit) {
+        return None;
+    }
+    let end = end_of_pairs(bytes, position, limit);
+    if position < end { Some(end) } else { None }
 }
 
 /// Whether sequences of two are looked for: below the bound there are many, and enough bytes are left.

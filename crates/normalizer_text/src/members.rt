@@ -1,6 +1,6 @@
 //! Passing over characters that are all in a set.
 ghost use Rattle.std.specs.Prelude.{◌≡◌, ◌+◌, ◌<◌, ◌≤◌, if◌then◌else◌, ℕ, min, nat_lt, IsTrue};
-ghost use Rattle.std.specs.Prelude.{List, length, take, drop, slice_index};
+ghost use Rattle.std.specs.Prelude.{List, length, take, drop, slice_index, IfSome};
 ghost use Rattle.std.specs.ControlFlow.{ForContinue, MatchControlFlow};
 ghost use Rattle.std.specs.List.{prefix_len};
 ghost use Rattle.normalizer_sets.specs.CharacterSets.{has};
@@ -45,10 +45,11 @@ pub(crate) trait Members: Copy {
         requires { IsBoundary (first_in encoding) (units self) position }
         ensures { EndsLowCharacters encoding (units self) position bound result };
 
-    /// Such an end after other characters, if it is worth a vector: if two low units are next.
-    fn end_of_low_run_after_others(self, position: usize, bound: u32) -> usize
+    /// Such an end after other characters, if two low units are next.
+    fn low_run_after_others(self, position: usize, bound: u32) -> Option<usize>
         requires { IsBoundary (first_in encoding) (units self) position }
-        ensures { EndsLowCharacters encoding (units self) position bound result };
+        ensures low { IfSome result (EndsLowCharacters encoding (units self) position bound) }
+        ensures further { IfSome result (λ end. position < end) };
 
     /// Such an end, found unit by unit.
     fn end_of_low(self, position: usize, bound: u32) -> usize
@@ -176,11 +177,10 @@ fn passed_low_or_kinds<M: Members>(
     ensures passed { IsPassed (has set.now) M.encoding (M.units units) position result }
     ensures further { ForContinue result (λ end. position < end) }
 {
-    let end = units.end_of_low_run_after_others(position, set.first_missing());
-    if position < end {
-        return ControlFlow::Continue(end);
+    match units.low_run_after_others(position, set.first_missing()) {
+        Some(end) => ControlFlow::Continue(end),
+        None => passed_kinds(units, position, set, (Lead::OfOne, Lead::OfFour)),
     }
-    passed_kinds(units, position, set, (Lead::OfOne, Lead::OfFour))
 }
 
 /// Passes over members that begin with leads of a kind, then of another, or else over one step of any width. It breaks
@@ -240,12 +240,8 @@ impl<'a> Members for &'a str {
     }
 
     #[inline(always)]
-    fn end_of_low_run_after_others(self, position: usize, bound: u32) -> usize {
-        if scan::begins_run(self.as_bytes(), position, utf8::low_byte_bound(bound)) {
-            <&'a str as Units>::end_of_low_run(self, position, bound)
-        } else {
-            position
-        }
+    fn low_run_after_others(self, position: usize, bound: u32) -> Option<usize> {
+        scan::end_of_run(self.as_bytes(), position, utf8::low_byte_bound(bound))
     }
 
     #[inline(always)]
@@ -283,8 +279,8 @@ impl<'a> Members for &'a [u8] {
     }
 
     #[inline(always)]
-    fn end_of_low_run_after_others(self, position: usize, bound: u32) -> usize {
-        low_bytes::end_of_low_bytes_after_others(self, position, bound)
+    fn low_run_after_others(self, position: usize, bound: u32) -> Option<usize> {
+        low_bytes::low_run_after_others(self, position, bound)
     }
 
     #[inline(always)]

@@ -1,6 +1,6 @@
 //! Scanning units for the first one that is not below a bound, as many at a time as a vector holds.
 ghost use Rattle.std.specs.Prelude.{◌≡◌, ◌==◌, ℕ, ◌+◌, ◌<◌, ◌≤◌, nat_lt, if◌then◌else◌};
-ghost use Rattle.std.specs.Prelude.{List, length, take, drop, slice_index};
+ghost use Rattle.std.specs.Prelude.{List, length, take, drop, slice_index, IfSome, IsTrue};
 ghost use Rattle.std.specs.Int.{w64, trailing_zeros};
 ghost use Rattle.normalizer_text.specs.Scans.{leading_below};
 
@@ -128,10 +128,25 @@ pub(crate) fn end_by_units<L: Lanes>(units: L, position: usize, bound: u32) -> u
     end
 }
 
-/// Whether two units that are below a bound are at a position. Fewer are looked at faster than a vector is read.
+/// Returns the same end, if two such units are at the position: fewer are looked at faster than a vector is read.
+#[inline(always)]
+pub(crate) fn end_of_run<L: Lanes>(units: L, position: usize, bound: u32) -> Option<usize>
+    requires { position ≤ length (L.units units) }
+    ensures end { IfSome result (λ end. end ≡ position + leading_below bound (drop position (L.units units))) }
+    ensures further { IfSome result (λ end. position < end) }
+{
+    if begins_run(units, position, bound) {
+        Some(end_of_below(units, position, bound))
+    } else {
+        None
+    }
+}
+
+/// Whether two units that are below a bound are at a position.
 #[inline(always)]
 pub(crate) fn begins_run<L: Lanes>(units: L, position: usize, bound: u32) -> bool
     requires { position ≤ length (L.units units) }
+    ensures { IsTrue result → 0 < leading_below bound (drop position (L.units units)) }
 {
     units.len() - position > 1
         && units.is_below(position, bound)

@@ -1,6 +1,6 @@
 -- Bytes of low characters.
 use Rattle.std.proofs.Common.{◌≡◌, ℕ, zero, suc, ◌+◌, ◌-◌, ◌<◌, ◌≤◌, ◌⊎◌, inl, inr, Bool, true, false, List, [], ◌∷◌, ◌++◌, min, length, take, drop, get_or, arith, refl, ap, ap₂, sym, subst, ◌∙◌, length-drop}
-use Rattle.std.specs.Prelude.{All, if◌then◌else◌}
+use Rattle.std.specs.Prelude.{All, if◌then◌else◌, IfSome, Option, None, Some}
 use Rattle.std.specs.List.{common_prefix_len, slice_range}
 use mir.Val.{bool_byte}
 use Rattle.std.proofs.Math.Nat.{min-le_right}
@@ -19,7 +19,7 @@ use Rattle.normalizer_text.specs.inner.LowBytes.{is_linked, leading_linked, Ends
 use Rattle.normalizer_text.proofs.scans.LowLemmas.{character-low, decoded-All, first-ascii}
 use Rattle.normalizer_text.proofs.sequences.MatchLemmas.{allows-true}
 use Rattle.normalizer_text.proofs.sequences.SubpartLemmas.{first-begins, BeginsWithSequence-two}
-use Rattle.normalizer_text.proofs.scans.ScanLemmas.{ends_low, leading_below-le, All-leading_below, IsLowByteBound, IsLowByteBound-low_byte}
+use Rattle.normalizer_text.proofs.scans.ScanLemmas.{ends_low, EndsLowCharacters-text, leading_below-le, All-leading_below, IsLowByteBound, IsLowByteBound-low_byte}
 use Rattle.normalizer_text.proofs.steps.StepBoundaries.{boundary-well_formed}
 use Rattle.normalizer_text.proofs.steps.StepLemmas.{IsRight, steps-append, steps-nil, steps-some}
 
@@ -233,3 +233,19 @@ low_bytes-front bytes from bound least to room is ends =
   where
     below : least ≤ low_byte bound
     below = grind (arith, nat_tests)
+
+-- the same, if there are some
+pub low_bytes-run : (bytes : List ℕ) (from bound least : ℕ) (run : Option ℕ) → from ≤ length bytes → least ≡ min bound 0x80 → IfSome run (λ to. to ≡ from + leading_below least (drop from bytes))
+    → IfSome run (EndsLowBytes (low_byte bound) bytes from)
+low_bytes-run bytes from bound least None room is ends = tt
+low_bytes-run bytes from bound least (Some to) room is ends = low_bytes-front bytes from bound least to room is ends
+
+pub EndsLowCharacters-run : (bytes : List ℕ) (from bound : ℕ) (run : Option ℕ) → IsBoundary first_of_utf8 bytes from → IfSome run (EndsLowBytes (low_byte bound) bytes from)
+    → IfSome run (EndsLowCharacters Encoding.Utf8 bytes from bound)
+EndsLowCharacters-run bytes from bound None here ends = tt
+EndsLowCharacters-run bytes from bound (Some to) here ends = EndsLowCharacters-bytes bytes from bound to here ends
+
+pub EndsLowCharacters-text_run : (bytes : List ℕ) → IsWellFormed first_of_utf8 bytes → (from bound : ℕ) (run : Option ℕ) → IsBoundary first_of_utf8 bytes from
+    → IfSome run (λ to. to ≡ from + leading_below (low_byte bound) (drop from bytes)) → IfSome run (EndsLowCharacters Encoding.Utf8 bytes from bound)
+EndsLowCharacters-text_run bytes text from bound None here ends = tt
+EndsLowCharacters-text_run bytes text from bound (Some to) here ends = subst (EndsLowCharacters Encoding.Utf8 bytes from bound) (sym ends) (EndsLowCharacters-text bytes text from bound here)

@@ -2,6 +2,6 @@ use Rattle.normalizer_sets.specs.CharacterSets.{has}
 use Rattle.normalizer_text.proofs.scans.MemberLemmas.{members-passed}
 use Rattle.normalizer_text.proofs.members.passed_low_or_kinds.Goals as goal
 
-pub returns-then-position-end-clause-passed : goal.returns-then-position-end-clause-passed
-returns-then-position-end-clause-passed g c =
-    members-passed (has c.args.set.now) g.M.Members.encoding (g.M.Members.units c.args.units) c.args.position _ _ c.requires c.end_of_low_run_after_others-end.ensures c.first_missing.ensures.below
+pub returns-in-Some-clause-passed : goal.returns-in-Some-clause-passed
+returns-in-Some-clause-passed g c =
+    members-passed (has c.args.set.now) g.M.Members.encoding (g.M.Members.units c.args.units) c.args.position _ _ c.requires c.in-Some.ensures.low c.first_missing.ensures.below
