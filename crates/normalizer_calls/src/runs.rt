@@ -5,8 +5,8 @@ ghost use Rattle.normalizer_text.specs.Encodings.{first_in};
 ghost use Rattle.normalizer_text.specs.DecodingSteps.{IsBoundary};
 ghost use Rattle.normalizer_text.specs.InputCut.{IsInputNormalized};
 ghost use Rattle.normalizer_iterators.specs.CharactersLeft.{EndsFront};
-ghost use Rattle.normalizer_calls.specs.inner.PassthroughRuns.{next_class, IsBeforeLast, IsComposite, IsKeptTo, IsPassedFront};
-ghost use Rattle.normalizer_calls.specs.inner.PassthroughRuns.{GoesOn, IsRun, IsRunEnd, IsRunSoFar, IsSegmentEnd};
+ghost use Rattle.normalizer_calls.specs.inner.PassthroughRuns.{next_class, IsBeforeLast, IsFrontSegment, IsKept, IsKeptTo};
+ghost use Rattle.normalizer_calls.specs.inner.PassthroughRuns.{GoesOn, IsPassedFront, IsRun, IsRunEnd, IsRunSoFar};
 
 use crate::changing::changes_alone;
 use crate::forming::Forming;
@@ -560,10 +560,7 @@ pub(crate) fn short_segment<U: Units, N: Forming>(
 ) -> Option<Segment>
     requires some { 0 < length (U.units units) }
     requires first { first ≡ first_in U.encoding (U.units units) }
-    ensures end { IfSome result (λ segment. IsSegmentEnd (N.beginning normalizer.now)
-        U.encoding (U.units units) segment.end) }
-    ensures next { IfSome result (λ segment. IfSome segment.next
-        (λ next. next ≡ first_in U.encoding (drop segment.end (U.units units)))) }
+    ensures { IfSome result (IsFrontSegment (N.beginning normalizer.now) U.encoding (U.units units)) }
 {
     match segment_from(normalizer, units, first.width, units.len().min(LONG)) {
         Ok(segment) => Some(segment),
@@ -576,8 +573,7 @@ pub(crate) fn short_segment<U: Units, N: Forming>(
 pub(crate) fn front_segment<U: Units, N: Forming>(normalizer: &N, units: U, first: Step) -> Segment
     requires some { 0 < length (U.units units) }
     requires first { first ≡ first_in U.encoding (U.units units) }
-    ensures end { IsSegmentEnd (N.beginning normalizer.now) U.encoding (U.units units) result.end }
-    ensures next { IfSome result.next (λ next. next ≡ first_in U.encoding (drop result.end (U.units units))) }
+    ensures { IsFrontSegment (N.beginning normalizer.now) U.encoding (U.units units) result }
 {
     match segment_from(normalizer, units, first.width, units.len()) {
         Ok(segment) => segment,
@@ -596,10 +592,7 @@ fn segment_from<U: Units, N: Forming>(
     requires limit { limit ≤ length (U.units units) }
     requires fits { length (U.units units) < 2 ^ 64 }
     requires front { EndsFront U.encoding (U.units units) place }
-    ensures end { IfOk result (λ segment. IsSegmentEnd (N.beginning normalizer.now)
-        U.encoding (U.units units) segment.end) }
-    ensures next { IfOk result (λ segment. IfSome segment.next
-        (λ next. next ≡ first_in U.encoding (drop segment.end (U.units units)))) }
+    ensures segment { IfOk result (IsFrontSegment (N.beginning normalizer.now) U.encoding (U.units units)) }
     ensures past { IfErr result (λ end. (limit ≤ end) × EndsFront U.encoding (U.units units) end) }
 {
     let mut end = place;
@@ -624,10 +617,8 @@ pub(crate) fn segment_to<U: Units, N: Forming>(
     end: usize,
 ) -> Option<Segment>
     requires { EndsFront U.encoding (U.units units) end }
-    ensures end { IfSome result (λ segment. (segment.end ≡ end)
-        × IsSegmentEnd (N.beginning normalizer.now) U.encoding (U.units units) segment.end) }
-    ensures next { IfSome result (λ segment. IfSome segment.next
-        (λ next. next ≡ first_in U.encoding (drop segment.end (U.units units)))) }
+    ensures end { IfSome result (λ segment. segment.end ≡ end) }
+    ensures segment { IfSome result (IsFrontSegment (N.beginning normalizer.now) U.encoding (U.units units)) }
 {
     if end == units.len() {
         return Some(Segment::last(end));
@@ -874,11 +865,7 @@ pub(crate) fn kept_end<U: Units, N: Forming>(
     units: U,
     expected: ExpectedFront,
 ) -> Kept
-    ensures kept { let m = N.made_form normalizer.now in
-        IsKeptTo U.encoding m.reading m.form (U.units units) result.end }
-    ensures next { IfSome result.next (λ next. next ≡ first_in U.encoding (drop result.end (U.units units))) }
-    ensures composite { let m = N.made_form normalizer.now in IfSome result.composite (IsComposite
-        (N.beginning normalizer.now) U.encoding m.reading m.form (drop result.end (U.units units))) }
+    ensures { IsKept (N.beginning normalizer.now) U.encoding (N.made_form normalizer.now) (U.units units) result }
 {
     if expected != ExpectedFront::Low || normalizer.holds_back() {
         let passed = passthrough_end(normalizer, units, expected);
@@ -909,11 +896,8 @@ pub(crate) fn kept_end<U: Units, N: Forming>(
 #[inline(always)]
 fn kept_low<U: Units, N: Forming>(normalizer: &N, units: U) -> Result<Kept, RunSoFar>
     requires { N.held_back ≡ false }
-    ensures kept { let m = N.made_form normalizer.now in IfOk result (λ kept.
-        IsKeptTo U.encoding m.reading m.form (U.units units) kept.end) }
-    ensures next { IfOk result (λ kept. IfSome kept.next
-        (λ next. next ≡ first_in U.encoding (drop kept.end (U.units units)))) }
-    ensures composite { IfOk result (λ kept. kept.composite ≡ None) }
+    ensures kept { IfOk result
+        (IsKept (N.beginning normalizer.now) U.encoding (N.made_form normalizer.now) (U.units units)) }
     ensures run { IfErr result (IsRunSoFar (N.passthrough_class normalizer.now) U.encoding (U.units units)) }
 {
     normalizer.passthrough_is_normalized_apart();
@@ -937,11 +921,7 @@ pub(crate) fn kept_from<U: Units, N: Forming>(
     expected: ExpectedFront,
 ) -> Kept
     requires { IsPassedFront U.encoding (N.made_form normalizer.now) (U.units units) passed.end }
-    ensures kept { let m = N.made_form normalizer.now in
-        IsKeptTo U.encoding m.reading m.form (U.units units) result.end }
-    ensures next { IfSome result.next (λ next. next ≡ first_in U.encoding (drop result.end (U.units units))) }
-    ensures composite { let m = N.made_form normalizer.now in IfSome result.composite (IsComposite
-        (N.beginning normalizer.now) U.encoding m.reading m.form (drop result.end (U.units units))) }
+    ensures { IsKept (N.beginning normalizer.now) U.encoding (N.made_form normalizer.now) (U.units units) result }
 {
     if passed.end < units.len() && normalizer.holds_back() && !passed.is_all() {
         return kept_after(normalizer, units, passed.end, expected);
@@ -957,11 +937,7 @@ fn kept_after<U: Units, N: Forming>(
     expected: ExpectedFront,
 ) -> Kept
     requires { let m = N.made_form normalizer.now in IsKeptTo U.encoding m.reading m.form (U.units units) run }
-    ensures kept { let m = N.made_form normalizer.now in
-        IsKeptTo U.encoding m.reading m.form (U.units units) result.end }
-    ensures next { IfSome result.next (λ next. next ≡ first_in U.encoding (drop result.end (U.units units))) }
-    ensures composite { let m = N.made_form normalizer.now in IfSome result.composite (IsComposite
-        (N.beginning normalizer.now) U.encoding m.reading m.form (drop result.end (U.units units))) }
+    ensures { IsKept (N.beginning normalizer.now) U.encoding (N.made_form normalizer.now) (U.units units) result }
 {
     normalizer.passthrough_is_normalized_apart();
     let mut end = run;

@@ -1,6 +1,6 @@
 //! Writing the characters of an iterator to an output.
 ghost use Rattle.std.specs.Prelude.{ℕ, ◌≡◌, ◌<◌, ◌∷◌, [], List, drop, length};
-ghost use Rattle.std.specs.Prelude.{Err, IfErr, IfOk, IfSome, IsErrOf, IsOk, IsOkUnless};
+ghost use Rattle.std.specs.Prelude.{Err, IfErr, IfNone, IfOk, IfSome, IsErrOf, IsOk, IsOkUnless};
 ghost use Rattle.std.specs.Iterator.{IsFinite};
 ghost use Rattle.normalizer_tables.specs.ShortLists.{text_of};
 ghost use Rattle.normalizer_text.specs.Encodings.{first_in};
@@ -9,9 +9,9 @@ ghost use Rattle.normalizer_iterators.specs.CharactersLeft.{characters_left};
 ghost use Rattle.normalizer_calls.specs.Forms.{form_in, HasShortUnits};
 ghost use Rattle.normalizer_calls.specs.inner.FormsOfOne.{text_of_one};
 ghost use Rattle.normalizer_calls.specs.inner.Offences.{IsFirstOrNone};
-ghost use Rattle.normalizer_calls.specs.inner.PassthroughRuns.{IsComposite, IsSegmentEnd};
+ghost use Rattle.normalizer_calls.specs.inner.PassthroughRuns.{IsComposite, IsFrontSegment, IsSegmentEnd};
 ghost use Rattle.normalizer_calls.specs.Writing.{TellsLengthFirst};
-ghost use Rattle.normalizer_calls.specs.inner.WrittenParts.{NothingOffered, WritesPart, WritesText, WritesUnits};
+ghost use Rattle.normalizer_calls.specs.inner.WrittenParts.{NothingOffered, WritesPart, WritesSegment, WritesText, WritesUnits};
 
 use crate::form_of_one::FormOfOne;
 use crate::forming::Forming;
@@ -143,61 +143,39 @@ fn write_marks<U: Units, O: Output<U>>(
     Ok(())
 }
 
-/// Writes the form of what the units decode to, character by character, however long it is: from a run of marks, or
-/// from an iterator. The first step is read again: if it was passed, each segment's would go through memory.
-#[inline(never)]
-fn write_long<U: Units, N: Forming, O: Output<U>>(
-    normalizer: &N,
-    units: U,
-    output: &mut O,
-) -> Result<(), NormalizeError>
-    requires { 0 < length (U.units units) }
-    ensures text { WritesText U.encoding O.Output NothingOffered
-        (form_in (N.made_form normalizer.now) U.encoding (U.units units)) output.old result output.new }
-    ensures room { HasShortUnits (N.made_form normalizer.now) U.encoding (U.units units) →
-        ¬ IsErrOf result NormalizeError.Memory }
-{
-    if let Some((run, end)) = normalizer.mark_run(units, units.step_at(0))? {
-        if end == units.len() {
-            return write_marks::<U, O>(run, output);
-        }
-    }
-    normalizer.write_items(units, output)
-}
-
-/// Writes the form of what the units decode to, character by character: what they were seen to become, or from the list
-/// of a single character, from the buffers if it fits, or from what fits any length. The first step was read before.
+/// Writes the form of what the units decode to, character by character, if it is short: what they were seen to become,
+/// the list of a single character, or what fits the buffers. The first step was read before.
 #[inline(always)]
-fn write_segment<U: Units, N: Forming, O: Output<U>>(
+fn write_if_short<U: Units, N: Forming, O: Output<U>>(
     normalizer: &N,
     units: U,
     first: Step,
     composite: Option<Composite>,
     buffers: &mut SegmentBuffers,
     output: &mut O,
-) -> Result<(), NormalizeError>
+) -> Option<Result<(), NormalizeError>>
     requires some { 0 < length (U.units units) }
     requires first { first ≡ first_in U.encoding (U.units units) }
     requires composite { IfSome composite
         (λ c. form_in (N.made_form normalizer.now) U.encoding (U.units units) ≡ c.character ∷ []) }
-    ensures text { WritesText U.encoding O.Output NothingOffered
-        (form_in (N.made_form normalizer.now) U.encoding (U.units units)) output.old result output.new }
-    ensures room { HasShortUnits (N.made_form normalizer.now) U.encoding (U.units units) →
-        ¬ IsErrOf result NormalizeError.Memory }
+    ensures text { IfSome result (λ written. WritesText U.encoding O.Output NothingOffered
+        (form_in (N.made_form normalizer.now) U.encoding (U.units units)) output.old written output.new) }
+    ensures none { IfNone result (output.new ≡ output.old) }
+    ensures room { IfSome result (λ written. ¬ IsErrOf written NormalizeError.Memory) }
 {
     if let Some(composite) = composite {
         let character = composite.character;
-        return write_text::<U, O>(&[character], output);
+        return Some(write_text::<U, O>(&[character], output));
     }
     if first.width == units.len() {
         if let Some(form) = normalizer.form_of_one(first.character) {
-            return write_form_of_one::<U, O>(form, output);
+            return Some(write_form_of_one::<U, O>(form, output));
         }
     }
     if normalizer.short_form(units, buffers) {
-        return write_text::<U, O>(buffers.text(), output);
+        return Some(write_text::<U, O>(buffers.text(), output));
     }
-    write_long(normalizer, units, output)
+    None
 }
 
 /// Writes the front of the units that is kept as it is, in one piece, and returns its end, 0 if there is none, the step
@@ -239,10 +217,7 @@ fn segment_ahead<U: Units, N: Forming>(
     requires first { first ≡ first_in U.encoding (U.units units) }
     requires composite { IfSome composite
         (λ c. IsSegmentEnd (N.beginning normalizer.now) U.encoding (U.units units) c.end) }
-    ensures end { IfSome result (λ segment. IsSegmentEnd (N.beginning normalizer.now)
-        U.encoding (U.units units) segment.end) }
-    ensures next { IfSome result (λ segment. IfSome segment.next
-        (λ next. next ≡ first_in U.encoding (drop segment.end (U.units units)))) }
+    ensures segment { IfSome result (IsFrontSegment (N.beginning normalizer.now) U.encoding (U.units units)) }
     ensures composite { IfSome result (λ segment. IfSome composite (λ c. segment.end ≡ c.end)) }
 {
     match composite {
@@ -265,14 +240,8 @@ fn write_long_segment<U: Units, N: Forming, O: Output<U>>(
     output: &mut O,
 ) -> Result<Segment, NormalizeError>
     requires { 0 < length (U.units units) }
-    ensures segment { IfOk result (λ segment. IsSegmentEnd (N.beginning normalizer.now)
-        U.encoding (U.units units) segment.end) }
-    ensures next { IfOk result (λ segment. IfSome segment.next
-        (λ next. next ≡ first_in U.encoding (drop segment.end (U.units units)))) }
-    ensures part { IfOk result (λ segment. WritesPart U.encoding O.Output (N.made_form normalizer.now)
-        (U.units units) output.old segment.end output.new) }
-    ensures refused { IfErr result (λ fault. WritesUnits U.encoding O.Output (N.made_form normalizer.now)
-        (U.units units) output.old (Err fault) output.new) }
+    ensures written { WritesSegment U.encoding O.Output (N.beginning normalizer.now) (N.made_form normalizer.now)
+        (U.units units) output.old result output.new }
     ensures room { HasShortUnits (N.made_form normalizer.now) U.encoding (U.units units) →
         ¬ IsErrOf result NormalizeError.Memory }
 {
@@ -303,14 +272,8 @@ fn write_front_segment<U: Units, N: Forming, O: Output<U>>(
     requires first { IfSome first (λ first. first ≡ first_in U.encoding (U.units units)) }
     requires composite { let m = N.made_form normalizer.now in IfSome composite
         (IsComposite (N.beginning normalizer.now) U.encoding m.reading m.form (U.units units)) }
-    ensures segment { IfOk result (λ segment. IsSegmentEnd (N.beginning normalizer.now)
-        U.encoding (U.units units) segment.end) }
-    ensures next { IfOk result (λ segment. IfSome segment.next
-        (λ next. next ≡ first_in U.encoding (drop segment.end (U.units units)))) }
-    ensures part { IfOk result (λ segment. WritesPart U.encoding O.Output (N.made_form normalizer.now)
-        (U.units units) output.old segment.end output.new) }
-    ensures refused { IfErr result (λ fault. WritesUnits U.encoding O.Output (N.made_form normalizer.now)
-        (U.units units) output.old (Err fault) output.new) }
+    ensures written { WritesSegment U.encoding O.Output (N.beginning normalizer.now) (N.made_form normalizer.now)
+        (U.units units) output.old result output.new }
     ensures room { HasShortUnits (N.made_form normalizer.now) U.encoding (U.units units) →
         ¬ IsErrOf result NormalizeError.Memory }
 {
@@ -319,15 +282,14 @@ fn write_front_segment<U: Units, N: Forming, O: Output<U>>(
     let Some(segment) = segment_ahead(normalizer, units, first, composite) else {
         return write_long_segment(normalizer, units, output);
     };
-    write_segment(
-        normalizer,
-        units.before(segment.end),
-        first,
-        composite,
-        buffers,
-        output,
-    )?;
-    Ok(segment)
+    let front = units.before(segment.end);
+    match write_if_short(normalizer, front, first, composite, buffers, output) {
+        Some(written) => {
+            written?;
+            Ok(segment)
+        }
+        None => write_long_segment(normalizer, units, output),
+    }
 }
 
 /// Returns what is expected from a step on, if that was read: after marks out of order, letters and marks that alternate.

@@ -27,7 +27,7 @@ ghost use Rattle.normalizer_iterators.specs.ComposingInPlace.{ComposesInPlace};
 
 use crate::error::NormalizeError;
 use crate::pending::{PendingChar, read_from};
-use crate::reading::{first_of_list, hold_short, is_at_boundary, read_on, short_of};
+use crate::reading::{first_of_list, hold_short, is_at_boundary, read_leading, read_on, short_of};
 use crate::waiting::{ClassedChar, WaitingList};
 use normalizer_tables::characters::{CharacterData, IgnoredCharacters, Purpose};
 use normalizer_tables::condition::GREATEST_BOUNDS;
@@ -123,9 +123,19 @@ impl<'data, I: Iterator<Item = char> + Drop> Decomposition<'data, I> {
         ensures refused { IfErr result (λ e. (e ≡ NormalizeError.Memory)
             × HasYieldedLongBy I.next_gives characters.entry ignored delegate) }
     {
-        let mut waiting = WaitingList::new(characters.allocator());
         let first = read_from(&characters, 0, delegate.next());
-        match read_on(&characters, ignored, first, &mut delegate, &mut waiting) {
+        if is_at_boundary(&characters, ignored, first) {
+            // The list is made in its place. If it was made before anything is read on, it would be copied.
+            return Ok(Decomposition {
+                waiting: WaitingList::new(characters.allocator()),
+                characters,
+                ignored,
+                delegate,
+                pending: first,
+            });
+        }
+        let mut waiting = WaitingList::new(characters.allocator());
+        match read_leading(&characters, ignored, first, &mut delegate, &mut waiting) {
             Ok(pending) => Ok(Decomposition {
                 characters,
                 ignored,

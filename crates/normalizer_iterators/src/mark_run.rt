@@ -1,8 +1,7 @@
 //! The normal form of a character and the marks after it, however many these are.
 ghost use Rattle.std.specs.Prelude.{◌≡◌, ◌+◌, ◌<◌, ◌≤◌, ◌∷◌, [], List, ℕ, drop, length, take};
-ghost use Rattle.std.specs.Prelude.{IfOk, IfSome, IfNone, IsOk, IsTrue, OnOk};
+ghost use Rattle.std.specs.Prelude.{IfOk, IfSome, IfNone, IsOk, OnOk, None};
 ghost use Rattle.normal_forms.specs.CompositionByStarters.{compose_by_starters};
-ghost use Rattle.normal_forms.specs.Decomposition.{expand};
 ghost use Rattle.normal_forms.specs.Forms.{nfc, nfd};
 ghost use Rattle.normal_forms.specs.Hypotheses.{HasStarterResults};
 ghost use Rattle.normal_forms.specs.Reading.{Reading};
@@ -12,10 +11,9 @@ ghost use Rattle.normalizer_tables.specs.Characters.{class_of, has_class_form, l
 ghost use Rattle.normalizer_tables.specs.declared.characters.IgnoredCharacters.TheVariants.{Dropped};
 ghost use Rattle.normalizer_text.specs.DecodingSteps.{IsBoundary};
 ghost use Rattle.normalizer_text.specs.Encodings.{decoded_in, first_in};
-ghost use Rattle.normalizer_iterators.specs.CharactersLeft.{characters_left};
+ghost use Rattle.normalizer_iterators.specs.CharactersLeft.{characters_left, mark_class, EndsMarks};
 ghost use Rattle.normalizer_iterators.specs.LazyReading.{HasShortLazyRuns};
 ghost use Rattle.normalizer_iterators.specs.Reads.{HasOwnWord};
-ghost use Rattle.normalizer_iterators.specs.CharactersLeft.{EndsFront};
 ghost use Rattle.normalizer_iterators.specs.WaitingList.{item_count, AgreesWith, HasOnlyMarks};
 ghost use Rattle.normalizer_iterators.specs.inner.Segments.{HasPairsOf};
 ghost use Rattle.normalizer_iterators.specs.inner.MarkReads.{after_starter, starter_of, HasRoomForMarks, IsUncomposed};
@@ -55,7 +53,7 @@ impl MarkRun {
         requires first { first ≡ first_in U.encoding (U.units units) }
         ensures form { IfOk result (λ made. characters_left made.0 ≡
             nfd (reading_by characters.now ignored []) (decoded_in U.encoding (take made.1 (U.units units)))) }
-        ensures end { IfOk result (λ made. EndsFront U.encoding (U.units units) made.1) }
+        ensures end { IfOk result (λ made. EndsMarks characters.now U.encoding (U.units units) made.1) }
         ensures room { HasShortLazyRuns characters.now ignored (decoded_in U.encoding (U.units units)) → IsOk result }
     {
         read_run(characters, ignored, units, first)
@@ -77,7 +75,8 @@ impl MarkRun {
         requires results { HasStarterResults (reading_by characters.now Dropped pairs.now) }
         ensures form { IfOk result (λ made. IfSome made (λ it. characters_left it.0 ≡
             nfc (reading_by characters.now ignored pairs.now) (decoded_in U.encoding (take it.1 (U.units units))))) }
-        ensures end { IfOk result (λ made. IfSome made (λ it. EndsFront U.encoding (U.units units) it.1)) }
+        ensures end { IfOk result (λ made. IfSome made (λ it.
+            EndsMarks characters.now U.encoding (U.units units) it.1)) }
         ensures room { HasShortLazyRuns characters.now ignored (decoded_in U.encoding (U.units units)) → IsOk result }
     {
         let (mut run, end) = read_run(characters, ignored, units, first)?;
@@ -127,7 +126,7 @@ fn read_run<U: Units>(
     requires first { first ≡ first_in U.encoding (U.units units) }
     ensures text { IfOk result (λ read. IsUncomposed (reading_by characters.now ignored [])
         (nfd (reading_by characters.now ignored []) (decoded_in U.encoding (take read.1 (U.units units)))) read.0) }
-    ensures end { IfOk result (λ read. EndsFront U.encoding (U.units units) read.1) }
+    ensures end { IfOk result (λ read. EndsMarks characters.now U.encoding (U.units units) read.1) }
     ensures room { HasShortLazyRuns characters.now ignored (decoded_in U.encoding (U.units units)) → IsOk result }
 {
     let mut waiting = WaitingList::new(characters.allocator());
@@ -180,6 +179,8 @@ fn read_marks<U: Units>(
     requires classes { AgreesWith (reading_by characters.now ignored []) waiting.old }
     ensures read { IfOk result (λ end. MarksReadTo (has_class_form characters.now)
         (reading_by characters.now ignored []) U.encoding (U.units units) position waiting.old end waiting.new) }
+    ensures end { IfOk result (λ end. end < length (U.units units) →
+        mark_class characters.now (first_in U.encoding (drop end (U.units units))).character ≡ None) }
     ensures room { HasRoomForMarks characters.now ignored waiting.old
         (decoded_in U.encoding (drop position (U.units units)))
         → IsOk result × (item_count waiting.new ≤ buffer_limit) }
@@ -196,9 +197,11 @@ fn read_marks<U: Units>(
     Ok(place)
 }
 
-/// Returns the class of a mark that is its own list.
+/// Returns the class of a mark whose word says that it is its own list.
 #[inline(always)]
+#[tactic(auto, unfolding(crate::specs::CharactersLeft::mark_class))]
 fn class_of_mark(characters: &CharacterData<'_>, character: char) -> Option<u8>
+    ensures exact { result ≡ mark_class characters.now character }
     ensures mark { IfSome result (λ class. 0 < class) }
     ensures class { IfSome result (λ class. class ≡ class_of characters.now character) }
     ensures itself { (ignored : List ℕ) →

@@ -54,6 +54,28 @@ pub(crate) fn read_on<I: Iterator<Item = char> + Drop>(
     Ok(None)
 }
 
+/// The same at the front of a text. It isn't inlined, since few texts begin with a character that continues.
+#[inline(never)]
+pub(crate) fn read_leading<I: Iterator<Item = char> + Drop>(
+    characters: &CharacterData<'_>,
+    ignored: IgnoredCharacters,
+    first: Option<PendingChar>,
+    delegate: &mut I,
+    waiting: &mut WaitingList,
+) -> Result<Option<PendingChar>, AllocError>
+    requires ready { IsReadyAfter I.can_next I.remaining (character_of first) delegate.old }
+    requires words { HasOwnWords characters.now first }
+    requires classes { AgreesWith (reading_by characters.now ignored []) waiting.old }
+    ensures ok { IfOk result (λ pending. ReadsOnAfter I.Iterator characters.now ignored
+        (character_of first) delegate.old waiting.old (character_of pending) delegate.new waiting.new) }
+    ensures words { IfOk result (HasOwnWords characters.now) }
+    ensures classes { OnOk result (AgreesWith (reading_by characters.now ignored []) waiting.new) }
+    ensures err { OnErr result (DidNotFitAfter I.next_gives I.remaining characters.now ignored (character_of first)
+        delegate.old waiting.old) }
+{
+    read_on(characters, ignored, first, delegate, waiting)
+}
+
 /// Whether a boundary precedes a character that was read, or none was.
 #[inline(always)]
 pub(crate) fn is_at_boundary(

@@ -16,7 +16,9 @@ use Rattle.normalizer_text.specs.InputCut.{IsInputNormalized}
 use Rattle.normalizer_calls.specs.BoundaryBefore.{HasBoundaryBefore}
 use Rattle.normalizer_calls.specs.Forms.{MadeForm}
 use Rattle.normalizer_calls.specs.declared.runs.Composite.{Composite}
+use Rattle.normalizer_calls.specs.declared.runs.Kept.{Kept}
 use Rattle.normalizer_calls.specs.declared.runs.RunSoFar.{RunSoFar}
+use Rattle.normalizer_calls.specs.declared.runs.Segment.{Segment}
 
 -- however much of the rest is read after the front, both are normalized apart
 abbrev pub Divides : Reading → Form → List ℕ → List ℕ → Type 0
@@ -101,6 +103,11 @@ pub record IsSegmentEnd (beginning : ℕ → Bool) (e : Encoding) (units : List 
   pub boundary : IsBoundary (first_in e) units end
   pub next : end < length units → beginning (first_in e (drop end units)).character ≡ true
 
+-- a segment ends at its end, and its step, if it has one, is the one after that
+pub record IsFrontSegment (beginning : ℕ → Bool) (e : Encoding) (units : List ℕ) (segment : Segment) : Type 0 where
+  pub end : IsSegmentEnd beginning e units segment.end
+  pub next : IfSome segment.next (λ next. next ≡ first_in e (drop segment.end units))
+
 -- the units up to a place, which are normalized apart from the others, whatever comes before them
 pub record IsPart (e : Encoding) (d : Reading) (form : Form) (units : List ℕ) (end : ℕ) : Type 0 where
   pub some : 0 < end
@@ -130,6 +137,12 @@ pub record IsComposite (beginning : ℕ → Bool) (e : Encoding) (d : Reading) (
     (c : Composite) : Type 0 where
   pub segment : IsSegmentEnd beginning e units c.end
   pub form_is : normal_form d form (decoded_in e (take c.end units)) ≡ c.character ∷ []
+
+-- the units up to its end are kept, its step, if it has one, is the one after that, and its composite the segment there
+pub record IsKept (beginning : ℕ → Bool) (e : Encoding) (m : MadeForm) (units : List ℕ) (found : Kept) : Type 0 where
+  pub kept : IsKeptTo e m.reading m.form units found.end
+  pub next : IfSome found.next (λ next. next ≡ first_in e (drop found.end units))
+  pub composite : IfSome found.composite (IsComposite beginning e m.reading m.form (drop found.end units))
 
 -- c composes to itself, and its list begins with a starter and ends with a character of class `last`
 pub record IsStableStarter (d : Reading) (c last : ℕ) : Type 0 where

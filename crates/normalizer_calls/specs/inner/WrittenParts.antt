@@ -1,5 +1,6 @@
 -- What private contracts say that a text was written to an output, or only a beginning of it.
-use Rattle.std.specs.Prelude.{◌≡◌, ℕ, ◌≤◌, ◌⊎◌, List, ◌++◌, length, take, Result, ⊤, OnOk, IsErrOf}
+use Rattle.std.specs.Prelude.{◌≡◌, ℕ, ◌≤◌, ◌⊎◌, Bool, List, ◌++◌, length, take, ⊤}
+use Rattle.std.specs.Prelude.{Result, Err, IfErr, IfOk, IsErrOf, OnOk}
 use Rattle.normal_forms.specs.Reading.{Reading}
 use Rattle.normal_forms.specs.declared.Form.{Form}
 use Rattle.normalizer_text.specs.Encodings.{Encoding, encoded_in}
@@ -9,7 +10,8 @@ use Rattle.normalizer_iterators.specs.declared.error.NormalizeError.{NormalizeEr
 use Rattle.normalizer_iterators.specs.declared.error.NormalizeError.TheVariants.{Memory, Sink}
 use Rattle.normalizer_calls.specs.Forms.{MadeForm, form_in}
 use Rattle.normalizer_calls.specs.Writing.{TookBeginning}
-use Rattle.normalizer_calls.specs.inner.PassthroughRuns.{IsPart, StandsInInput}
+use Rattle.normalizer_calls.specs.declared.runs.Segment.{Segment}
+use Rattle.normalizer_calls.specs.inner.PassthroughRuns.{IsFrontSegment, IsPart, StandsInInput}
 
 -- what is said of an output S of pieces of U: what it has taken, what a refused call leaves, what its refusal says,
 -- and what a hint may return
@@ -55,3 +57,10 @@ module _ {S U : Type 0} (e : Encoding) (into : Target S U) where
   -- the same, of a form with its reading
   abbrev pub WritesPart : MadeForm → List ℕ → S → ℕ → S → Type 0
   WritesPart m units = WrotePart m.reading m.form units
+
+  -- the segment in front of the units was written, or the output refused a piece of it, or memory ran out
+  pub record WritesSegment (beginning : ℕ → Bool) (m : MadeForm) (units : List ℕ) (old : S)
+      (result : Result Segment NormalizeError) (new : S) : Type 0 where
+    pub segment : IfOk result (IsFrontSegment beginning e units)
+    pub part : IfOk result (λ segment. WritesPart m units old segment.end new)
+    pub refused : IfErr result (λ fault. WritesUnits m units old (Err fault) new)

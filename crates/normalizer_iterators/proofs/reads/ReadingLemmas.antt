@@ -183,6 +183,15 @@ module _ {I : Type 0} (from : Source I) where
       → OnSome given (from.can_next after × IsFinite (from.remaining after) × (size (from.remaining after) < size (from.remaining before))) → HasRead from.next_gives from.remaining before read after
   HasRead-as before after given read same step h = rw same (HasRead-next before after given step h)
 
+  -- nothing is read on if a boundary comes before the first character
+  pub ReadsOn-none : (f : ℕ → Bool) (d : Reading) (before after : I) (given read : Option ℕ) (waiting : WaitingList) → read ≡ given → from.next_gives before given after
+      → OnSome given (from.can_next after × IsFinite (from.remaining after) × (size (from.remaining after) < size (from.remaining before)))
+      → ordered_text waiting ≡ [] → unordered_text waiting ≡ [] → AgreesWith d waiting → IfSome read (λ c. continues f d c ≡ false) → ReadsOn from f d before waiting read after waiting
+  ReadsOn-none f d before after given read waiting same step near front open_marks agrees at_boundary =
+      let r = HasRead-as before after given read same step near in
+      ReadSoFar-done from f d before before after waiting waiting waiting read (ReadSoFar-none from f d before waiting agrees) r.step at_boundary
+      (front ∙ sym (reordered-nothing d waiting [] front open_marks ∙ order-nil d)) open_marks (rw same (IsReadyAfter-next before after given near)) r.nearer
+
   module _ (f : ℕ → Bool) (d : Reading) (first : Option ℕ) (delegate : I) (waiting : WaitingList) where
     pub ReadsAhead-none : IsReadyAfter from.can_next from.remaining first delegate → AgreesWith d waiting → ReadsAhead from f d first delegate waiting first delegate waiting
     ReadsAhead-none ready agrees = record { ready = ready; agrees = agrees; behind = λ before read. (before, ReadSoFar-none from f d before waiting agrees, read) }

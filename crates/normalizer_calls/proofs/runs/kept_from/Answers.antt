@@ -4,5 +4,9 @@ use Rattle.normalizer_calls.proofs.runs.kept_from.Goals as goal
 pub kept_after-requires : goal.kept_after-requires
 kept_after-requires g c = IsKeptTo-first _ _ _ _ _ c.requires
 
-pub returns-clause-kept : goal.returns-clause-kept
-returns-clause-kept g c = rw c.to.ensures.end (IsKeptTo-first _ _ _ _ _ c.requires)
+pub returns : goal.returns
+returns g c = record {
+  kept = rw c.to.ensures.end (IsKeptTo-first _ _ _ _ _ c.requires);
+  next = rw c.to.ensures.next tt;
+  composite = rw c.to.ensures.composite tt;
+}

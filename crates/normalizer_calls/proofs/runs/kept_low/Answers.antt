@@ -24,24 +24,29 @@ pub returns-then-low-len-clause-kept : goal.returns-then-low-len-clause-kept
 returns-then-low-len-clause-kept g c =
     let law = c.passthrough_is_normalized_apart.ensures in
     let low = c.first_low-low.ensures in
-    rw c.to.ensures.end (IsKeptTo-first _ _ _ _ _ (passed_before_marks _ _ _ _ _ law.apart law.follow _ c.requires _ _ (record {
-      last = 0;
-      run = rw low.starters.0 at (rw low.starters.1 at low.run);
-      stops = λ more. absurd (omega (arith, more, c.len.ensures, c.if-low-len.true));
-    })))
+    record {
+      kept = rw c.to.ensures.end (IsKeptTo-first _ _ _ _ _ (passed_before_marks _ _ _ _ _ law.apart law.follow _ c.requires _ _ (record {
+        last = 0;
+        run = rw low.starters.0 at (rw low.starters.1 at low.run);
+        stops = λ more. absurd (omega (arith, more, c.len.ensures, c.if-low-len.true));
+      })));
+      next = rw c.to.ensures.next tt;
+      composite = rw c.to.ensures.composite tt;
+    }
 
 pub returns-in-Err-clause-kept : goal.returns-in-Err-clause-kept
 returns-in-Err-clause-kept g c =
     let law = c.passthrough_is_normalized_apart.ensures in
     let low = c.first_low-low.ensures in
-    rw c.up_to.ensures.end (IsKeptTo-first _ _ _ _ _ (passed_before_marks _ _ _ _ _ law.apart law.follow _ c.requires _ _ (record {
-      last = 0;
-      run = rw low.starters.0 at (rw low.starters.1 at low.run);
-      stops = λ _. ap (next_class _ _) (sym c.step_at-step.ensures) ∙ c.in-Err.ensures;
-    })))
-
-pub returns-in-Err-clause-next : goal.returns-in-Err-clause-next
-returns-in-Err-clause-next g c = rw c.up_to.ensures.next (rw c.up_to.ensures.end c.step_at-step.ensures)
+    record {
+      kept = rw c.up_to.ensures.end (IsKeptTo-first _ _ _ _ _ (passed_before_marks _ _ _ _ _ law.apart law.follow _ c.requires _ _ (record {
+        last = 0;
+        run = rw low.starters.0 at (rw low.starters.1 at low.run);
+        stops = λ _. ap (next_class _ _) (sym c.step_at-step.ensures) ∙ c.in-Err.ensures;
+      })));
+      next = rw c.up_to.ensures.next (rw c.up_to.ensures.end c.step_at-step.ensures);
+      composite = rw c.up_to.ensures.composite tt;
+    }
 
 pub returns-in-Ok-clause-run : goal.returns-in-Ok-clause-run
 returns-in-Ok-clause-run g c =

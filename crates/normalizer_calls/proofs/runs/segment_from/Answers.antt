@@ -5,11 +5,14 @@ use Rattle.normalizer_calls.proofs.runs.segment_from.Goals as goal
 pub loop-end-init : goal.loop-end-init
 loop-end-init g c = c.requires.front
 
-pub returns-in-Some-clause-end : goal.returns-in-Some-clause-end
-returns-in-Some-clause-end g c = record {
-  some = c.loop-end.invariant.0;
-  boundary = c.loop-end.invariant.1;
-  next = λ _. ap (λ s. g.N.Forming.beginning c.args.normalizer.now s.character) (sym c.step_at-step.ensures) ∙ c.in-Some.ensures;
+pub returns-in-Some-clause-segment : goal.returns-in-Some-clause-segment
+returns-in-Some-clause-segment g c = record {
+  end = record {
+    some = c.loop-end.invariant.0;
+    boundary = c.loop-end.invariant.1;
+    next = λ _. ap (λ s. g.N.Forming.beginning c.args.normalizer.now s.character) (sym c.step_at-step.ensures) ∙ c.in-Some.ensures;
+  };
+  next = c.step_at-step.ensures;
 }
 
 pub overflow_add-end : goal.overflow_add-end

@@ -17,7 +17,7 @@ write_front_segment-requires g c = record {
 pub returns-in_err-segment-clause-text : goal.returns-in_err-segment-clause-text
 returns-in_err-segment-clause-text g c =
     let is : c.from_residual.result ≡ Err c.in_err-segment.field-0.0 = search rules in
-    rw is (WritesText-behind c.loop-position.invariant.0 c.after-rest.ensures (rw c.in_err-segment.was at c.write_front_segment.ensures.refused))
+    rw is (WritesText-behind c.loop-position.invariant.0 c.after-rest.ensures (rw c.in_err-segment.was at c.write_front_segment.ensures.written.refused))
 
 pub returns-in_err-segment-clause-room : goal.returns-in_err-segment-clause-room
 returns-in_err-segment-clause-room g c = λ short.
@@ -27,18 +27,18 @@ returns-in_err-segment-clause-room g c = λ short.
 
 pub overflow_add-position : goal.overflow_add-position
 overflow_add-position g c =
-    let so_far = WroteUpTo-more c.loop-position.invariant.0 c.after-rest.ensures (rw c.in_ok-segment.was at c.write_front_segment.ensures.part) in
+    let so_far = WroteUpTo-more c.loop-position.invariant.0 c.after-rest.ensures (rw c.in_ok-segment.was at c.write_front_segment.ensures.written.part) in
     let most = WroteUpTo-le so_far in
     omega (arith, c.len.ensures)
 
 pub after-requires : goal.after-requires
 after-requires g c =
-    let so_far = WroteUpTo-more c.loop-position.invariant.0 c.after-rest.ensures (rw c.in_ok-segment.was at c.write_front_segment.ensures.part) in
+    let so_far = WroteUpTo-more c.loop-position.invariant.0 c.after-rest.ensures (rw c.in_ok-segment.was at c.write_front_segment.ensures.written.part) in
     so_far.boundary
 
 pub returns-in_err-kept-clause-text : goal.returns-in_err-kept-clause-text
 returns-in_err-kept-clause-text g c =
-    let so_far = WroteUpTo-more c.loop-position.invariant.0 c.after-rest.ensures (rw c.in_ok-segment.was at c.write_front_segment.ensures.part) in
+    let so_far = WroteUpTo-more c.loop-position.invariant.0 c.after-rest.ensures (rw c.in_ok-segment.was at c.write_front_segment.ensures.written.part) in
     let is : c.from_residual-in_err-kept.result ≡ Err c.in_err-kept.field-0.0 = search rules in
     rw is (WritesText-behind so_far c.after.ensures (rw c.in_err-kept.was at c.write_run.ensures.refused))
 
@@ -49,7 +49,7 @@ returns-in_err-kept-clause-room g c = λ short.
 
 pub overflow_add-position-then-segment : goal.overflow_add-position-then-segment
 overflow_add-position-then-segment g c =
-    let so_far = WroteUpTo-more c.loop-position.invariant.0 c.after-rest.ensures (rw c.in_ok-segment.was at c.write_front_segment.ensures.part) in
+    let so_far = WroteUpTo-more c.loop-position.invariant.0 c.after-rest.ensures (rw c.in_ok-segment.was at c.write_front_segment.ensures.written.part) in
     let run = WroteUpTo-maybe so_far c.after.ensures
     (rw c.in_ok-kept.was at c.write_run.ensures.none) (rw c.in_ok-kept.was at c.write_run.ensures.part) in
     let most = WroteUpTo-le run in
@@ -57,7 +57,7 @@ overflow_add-position-then-segment g c =
 
 pub loop-position-preserved-then-segment : goal.loop-position-preserved-then-segment
 loop-position-preserved-then-segment g c =
-    let so_far = WroteUpTo-more c.loop-position.invariant.0 c.after-rest.ensures (rw c.in_ok-segment.was at c.write_front_segment.ensures.part) in (
+    let so_far = WroteUpTo-more c.loop-position.invariant.0 c.after-rest.ensures (rw c.in_ok-segment.was at c.write_front_segment.ensures.written.part) in (
       WroteUpTo-maybe so_far c.after.ensures
           (rw c.in_ok-kept.was at c.write_run.ensures.none) (rw c.in_ok-kept.was at c.write_run.ensures.part),
       first-drop _ _ _ _ _ _ c.after.ensures (rw c.in_ok-kept.was at c.write_run.ensures.next),
@@ -66,14 +66,14 @@ loop-position-preserved-then-segment g c =
 
 pub loop-position-preserved : goal.loop-position-preserved
 loop-position-preserved g c = (
-  WroteUpTo-more c.loop-position.invariant.0 c.after-rest.ensures (rw c.in_ok-segment.was at c.write_front_segment.ensures.part),
-  first-drop _ _ _ _ _ _ c.after-rest.ensures (rw c.in_ok-segment.was at c.write_front_segment.ensures.next),
+  WroteUpTo-more c.loop-position.invariant.0 c.after-rest.ensures (rw c.in_ok-segment.was at c.write_front_segment.ensures.written.part),
+  first-drop _ _ _ _ _ _ c.after-rest.ensures (rw c.in_ok-segment.was at c.write_front_segment.ensures.written.segment).next,
   tt,
 )
 
 pub loop-position-smaller : goal.loop-position-smaller
 loop-position-smaller g c =
-    let some = (rw c.in_ok-segment.was at c.write_front_segment.ensures.part).part.some in
+    let some = (rw c.in_ok-segment.was at c.write_front_segment.ensures.written.part).part.some in
     omega arith
 
 pub returns-clause-text : goal.returns-clause-text

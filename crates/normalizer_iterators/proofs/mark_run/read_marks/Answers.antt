@@ -1,10 +1,11 @@
-use Rattle.std.proofs.Common.{[], arith, sym, ◌∙◌}
+use Rattle.std.proofs.Common.{[], ap, arith, sym, ◌∙◌}
 use Rattle.normalizer_tables.specs.Characters.{has_class_form}
 use Rattle.normalizer_tables.specs.Readings.{reading_by}
 use Rattle.normalizer_tables.specs.Ignored.{ignored_list}
 use Rattle.normalizer_text.proofs.steps.StepBoundaries.{step-some}
 use Rattle.normalizer_iterators.proofs.reads.LazyLemmas.{class-reading_by, list-reading_by}
 use Rattle.normalizer_iterators.proofs.segments.BufferedMarks.{MarksReadTo-fits, MarksReadTo-more, MarksReadTo-none}
+use Rattle.normalizer_iterators.specs.CharactersLeft.{mark_class}
 use Rattle.normalizer_iterators.proofs.mark_run.read_marks.Goals as goal
 
 pub loop-place-init : goal.loop-place-init
@@ -43,3 +44,10 @@ returns-in_err-push_mark-clause-room g c = λ fits.
     cc (c.in_err-push_mark.ensures.succeeds
     (MarksReadTo-fits (has_class_form s) d g.U.Units.encoding (g.U.Units.units c.args.units) c.args.position c.args.waiting.now c.loop-place.place c.step_at-step.result c.loop-place.waiting
     c.loop-place.invariant (omega (arith, c.len.ensures)) c.step_at-step.ensures own (omega (arith, c.in-Some.ensures.mark, class)) fits.0 fits.1))
+
+pub returns-in_default-clause-end : goal.returns-in_default-clause-end
+returns-in_default-clause-end g c =
+    λ _. ap (λ step. mark_class c.args.characters.now step.character) (sym c.step_at-step.ensures) ∙ sym c.class_of_mark.ensures.exact ∙ c.in_default.is
+
+pub returns-clause-end : goal.returns-clause-end
+returns-clause-end g c = λ more. absurd (omega (arith, more, c.len.ensures, c.loop-place-test.false))

@@ -62,4 +62,5 @@ returns-clause-text g c =
 pub returns-clause-end : goal.returns-clause-end
 returns-clause-end g c =
     let s = c.args.characters.now in
-    read_run-end (reading_by s c.args.ignored []) g.U.Units.encoding (g.U.Units.units c.args.units) c.args.first c.requires.some c.requires.first (has_class_form s) _ _ _ c.in_ok-end.ensures.read
+    let read = c.in_ok-end.ensures in
+    (read_run-end (reading_by s c.args.ignored []) g.U.Units.encoding (g.U.Units.units c.args.units) c.args.first c.requires.some c.requires.first (has_class_form s) _ _ _ read.read, read.end)

@@ -11,13 +11,13 @@ use Rattle.normalizer_iterators.specs.DecompositionItems.{WillYield, StaysShort,
 use Rattle.normalizer_iterators.specs.Reads.{character_of}
 use Rattle.normalizer_iterators.specs.WaitingList.{AgreesWith}
 use Rattle.normalizer_iterators.proofs.items.DecompositionLemmas.{at_some}
-use Rattle.normalizer_iterators.proofs.reads.ReadingLemmas.{HasRead-as, IsReadyAfter-next}
+use Rattle.normalizer_iterators.proofs.reads.ReadingLemmas.{HasRead-as, IsReadyAfter-next, ReadsOn-none}
 use Rattle.normalizer_iterators.proofs.items.ToComeLemmas.{HasYieldedLong-start, IsToCome-start, came_start, AreShortToCome-start, short_start_fits, long_start}
 use Rattle.normalizer_iterators.proofs.items.ItemLemmas.{YieldsForm-made, YieldsFormOfRun-decomposition, SpellsOk-decomposition, SpellsUnless-decomposition}
 use Rattle.normalizer_iterators.proofs.decomposition.Decomposition.over.Goals as goal
 
-pub read_on-requires-clause-ready : goal.read_on-requires-clause-ready
-read_on-requires-clause-ready g c =
+pub read_leading-requires-clause-ready : goal.read_leading-requires-clause-ready
+read_leading-requires-clause-ready g c =
     rw c.read_from-first.ensures.character (IsReadyAfter-next g.I.Iterator _ _ _ (c.next.ensures.goes.on c.requires.ends))
 
 pub returns-in-Ok-clause-text : goal.returns-in-Ok-clause-text
@@ -75,9 +75,9 @@ returns-in-Ok-clause-ready g c =
     let on = c.in-Ok.ensures.ok _ read in
     on.ready
 
-pub invariant_of-result : goal.invariant_of-result
+pub invariant_of-result-in-Ok : goal.invariant_of-result-in-Ok
 unfolding AgreesWith
-invariant_of-result g c =
+invariant_of-result-in-Ok g c =
     let read =
     HasRead-as g.I.Iterator _ _ _ _ c.read_from-first.ensures.character c.next.ensures.steps
     (c.next.ensures.goes.on c.requires.ends) in
@@ -116,3 +116,70 @@ returns-clause-form g c =
     (λ it. came it × long it) (λ it known. YieldsFormOfRun-decomposition g.I.Iterator (has_class_form s) d (nfd d) c.args.delegate it known.0 known.1)
     (HasShortRuns (has_class_form s) d) (λ x runs. runs)
     (Err _) tt tt (returns-clause-succeeds g c) tt (returns-clause-refused g c)
+
+-- a boundary is at once there
+
+pub invariant_of-result : goal.invariant_of-result
+unfolding AgreesWith
+invariant_of-result g c = record {
+  suits = c.requires.suits;
+  at_boundary = at_some (character_of c.read_from-first.result) (λ b. continues (has_class_form c.args.characters) (reading_by c.args.characters c.args.ignored []) b ≡ false)
+      (c.is_at_boundary.ensures c.if-is_at_boundary.true);
+  word = c.read_from-first.ensures.word;
+  settled = c.new.ensures.unordered;
+  classes = c.new.ensures.classes (reading_by c.args.characters c.args.ignored []);
+}
+
+pub returns-then-is_at_boundary-clause-text : goal.returns-then-is_at_boundary-clause-text
+returns-then-is_at_boundary-clause-text g c = λ x spells.
+    let s = c.args.characters in
+    let d = reading_by s c.args.ignored [] in
+    let on =
+    ReadsOn-none g.I.Iterator (has_class_form s) d _ _ _ _ _ c.read_from-first.ensures.character c.next.ensures.steps (c.next.ensures.goes.on c.requires.ends)
+    c.new.ensures.ordered c.new.ensures.unordered (c.new.ensures.classes d) (c.is_at_boundary.ensures c.if-is_at_boundary.true) in
+    IsToCome-start g.I.Iterator (has_class_form s) _ c.requires.suits c.args.delegate _ _ _ _ x c.new.ensures.ordered c.new.ensures.unordered on spells
+
+pub returns-then-is_at_boundary-clause-came : goal.returns-then-is_at_boundary-clause-came
+returns-then-is_at_boundary-clause-came g c = λ e out h.
+    let s = c.args.characters in
+    let d = reading_by s c.args.ignored [] in
+    let on =
+    ReadsOn-none g.I.Iterator (has_class_form s) d _ _ _ _ _ c.read_from-first.ensures.character c.next.ensures.steps (c.next.ensures.goes.on c.requires.ends)
+    c.new.ensures.ordered c.new.ensures.unordered (c.new.ensures.classes d) (c.is_at_boundary.ensures c.if-is_at_boundary.true) in
+    came_start g.I.Iterator (has_class_form s) _ c.requires.suits e c.args.delegate _ _ _ _ out c.new.ensures.ordered c.new.ensures.unordered on h
+
+pub returns-then-is_at_boundary-clause-long : goal.returns-then-is_at_boundary-clause-long
+returns-then-is_at_boundary-clause-long g c = λ h.
+    let s = c.args.characters in
+    let d = reading_by s c.args.ignored [] in
+    let on =
+    ReadsOn-none g.I.Iterator (has_class_form s) d _ _ _ _ _ c.read_from-first.ensures.character c.next.ensures.steps (c.next.ensures.goes.on c.requires.ends)
+    c.new.ensures.ordered c.new.ensures.unordered (c.new.ensures.classes d) (c.is_at_boundary.ensures c.if-is_at_boundary.true) in
+    HasYieldedLong-start g.I.Iterator (has_class_form s) _ c.requires.suits c.args.delegate _ _ _ _ h.out c.new.ensures.ordered c.new.ensures.unordered on h.comes h.long
+
+pub returns-then-is_at_boundary-clause-short : goal.returns-then-is_at_boundary-clause-short
+returns-then-is_at_boundary-clause-short g c = λ x spells short.
+    let s = c.args.characters in
+    let d = reading_by s c.args.ignored [] in
+    let on =
+    ReadsOn-none g.I.Iterator (has_class_form s) d _ _ _ _ _ c.read_from-first.ensures.character c.next.ensures.steps (c.next.ensures.goes.on c.requires.ends)
+    c.new.ensures.ordered c.new.ensures.unordered (c.new.ensures.classes d) (c.is_at_boundary.ensures c.if-is_at_boundary.true) in
+    AreShortToCome-start g.I.Iterator (has_class_form s) _ c.args.delegate _ _ _ _ x on spells short
+
+pub returns-then-is_at_boundary-clause-ready : goal.returns-then-is_at_boundary-clause-ready
+returns-then-is_at_boundary-clause-ready g c =
+    rw c.read_from-first.ensures.character (IsReadyAfter-next g.I.Iterator _ _ _ (c.next.ensures.goes.on c.requires.ends))
+
+pub returns-then-is_at_boundary-clause-form : goal.returns-then-is_at_boundary-clause-form
+returns-then-is_at_boundary-clause-form g c =
+    let gives = g.I.Iterator.next_gives in
+    let s = c.args.characters in
+    let d = reading_by s c.args.ignored [] in
+    let came : Decomposition g.row.I.Denot → Type 0 = IsFormOfSource gives (λ e. WillYield (MayYield gives e)) (nfd d) c.args.delegate in
+    let long : Decomposition g.row.I.Denot → Type 0 = λ it. IsLong gives it → HasYieldedLong gives (has_class_form s) d c.args.delegate in
+    YieldsForm-made gives (WillYield (Spells gives)) (StaysShort gives) (DecompositionSteps g.I.Iterator) (SpellsUnless-decomposition g.I.Iterator) (SpellsOk-decomposition g.I.Iterator)
+    (has_class_form s) d nfd c.args.delegate
+    (λ it. came it × long it) (λ it known. YieldsFormOfRun-decomposition g.I.Iterator (has_class_form s) d (nfd d) c.args.delegate it known.0 known.1)
+    (HasShortRuns (has_class_form s) d) (λ x runs. runs)
+    (Ok _) (returns-then-is_at_boundary-clause-text g c) (returns-then-is_at_boundary-clause-short g c) (λ x spells short. refl)
+    (returns-then-is_at_boundary-clause-came g c, returns-then-is_at_boundary-clause-long g c) tt

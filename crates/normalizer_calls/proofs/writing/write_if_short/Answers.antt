@@ -2,7 +2,7 @@ use Rattle.std.proofs.Common.{ap, sym, ◌∙◌}
 use Rattle.normal_forms.specs.Forms.{normal_form}
 use Rattle.normalizer_calls.proofs.written_forms.MemberLemmas.{decoded-one}
 use Rattle.normalizer_calls.proofs.written_forms.WritingLemmas.{WritesText-same}
-use Rattle.normalizer_calls.proofs.writing.write_segment.Goals as goal
+use Rattle.normalizer_calls.proofs.writing.write_if_short.Goals as goal
 
 pub returns-in-Some-form_of_one-clause-text : goal.returns-in-Some-form_of_one-clause-text
 returns-in-Some-form_of_one-clause-text g c =
