@@ -2,6 +2,7 @@
 use crate::fault::Fault;
 use icu_normalizer::{
     AnyNormalizerBorrowed, ComposingNormalizerBorrowed, DecomposingNormalizerBorrowed, NormalForm,
+    NormalizeError,
 };
 use std::alloc::Global;
 use std::borrow::CowStr;
@@ -51,15 +52,24 @@ pub(crate) struct Text<'a> {
     pub(crate) utf16: &'a [u16],
 }
 
-/// What a call wrote, in UTF-8 or in UTF-16.
+/// What a call wrote, in UTF-8 or in UTF-16, or what a check found.
 #[derive(Drop)]
 pub(crate) struct Written {
     pub(crate) utf8: String,
     pub(crate) utf16: Vec<u16>,
+    pub(crate) is_normalized: bool,
 }
 
 impl Call {
-    /// Makes the call once. It adds the form to an empty text, or one character if the text is normalized.
+    /// Whether it writes nothing.
+    pub(crate) fn is_check(self) -> bool {
+        matches!(
+            self,
+            Call::Check | Call::CheckUtf8 | Call::CheckUtf16 | Call::PortCheck
+        )
+    }
+
+    /// Makes the call once. It adds the form to an empty text, or says whether the text is normalized.
     pub(crate) fn make(
         self,
         alloc: Global,
@@ -67,30 +77,95 @@ impl Call {
         form: NormalForm,
         text: &Text<'_>,
         written: &mut Written,
-    ) -> Result<(), Fault> {
-        let to = &mut written.utf8;
+    ) -> Result<(), NormalizeError> {
+        let Written {
+            utf8,
+            utf16,
+            is_normalized,
+        } = written;
         match self {
-            Call::Write => Ok(normalizer.normalize_to(text.utf8, to)?),
-            Call::Check => tell(normalizer.is_normalized(text.utf8)?, to),
-            Call::Own => own(normalizer, text.utf8, to),
-            Call::Iterate => iterate(normalizer, text.utf8, to),
-            Call::WriteUtf8 => Ok(normalizer.normalize_utf8_to(text.utf8.as_bytes(), to)?),
-            Call::WriteUtf16 => Ok(normalizer.normalize_utf16_to(text.utf16, &mut written.utf16)?),
-            Call::CheckUtf8 => tell(normalizer.is_normalized_utf8(text.utf8.as_bytes())?, to),
-            Call::CheckUtf16 => tell(normalizer.is_normalized_utf16(text.utf16)?, to),
-            Call::PortWrite => write_by_port(alloc, form, text.utf8, to),
-            Call::PortCheck => tell(checked_by_port(alloc, form, text.utf8)?, to),
-            Call::PortIterate => iterate_by_port(alloc, form, text.utf8, to),
+            Call::Write => write(normalizer, text.utf8, utf8),
+            Call::Check => check(normalizer, text.utf8, is_normalized),
+            Call::Own => own(normalizer, text.utf8, utf8),
+            Call::Iterate => iterate(normalizer, text.utf8, utf8),
+            Call::WriteUtf8 => write_utf8(normalizer, text.utf8, utf8),
+            Call::WriteUtf16 => write_utf16(normalizer, text.utf16, utf16),
+            Call::CheckUtf8 => check_utf8(normalizer, text.utf8, is_normalized),
+            Call::CheckUtf16 => check_utf16(normalizer, text.utf16, is_normalized),
+            Call::PortWrite => write_by_port(alloc, form, text.utf8, utf8),
+            Call::PortCheck => check_by_port(alloc, form, text.utf8, is_normalized),
+            Call::PortIterate => iterate_by_port(alloc, form, text.utf8, utf8),
         }
     }
 }
 
+// Each call is in a function of its own, as it is in a program that makes one: otherwise it would also clear the frames
+// of those that it doesn't make.
+
+#[inline(never)]
+fn write(
+    normalizer: &AnyNormalizerBorrowed<'_>,
+    text: &str,
+    written: &mut String,
+) -> Result<(), NormalizeError> {
+    normalizer.normalize_to(text, written)
+}
+
+#[inline(never)]
+fn write_utf8(
+    normalizer: &AnyNormalizerBorrowed<'_>,
+    text: &str,
+    written: &mut String,
+) -> Result<(), NormalizeError> {
+    normalizer.normalize_utf8_to(text.as_bytes(), written)
+}
+
+#[inline(never)]
+fn write_utf16(
+    normalizer: &AnyNormalizerBorrowed<'_>,
+    text: &[u16],
+    written: &mut Vec<u16>,
+) -> Result<(), NormalizeError> {
+    normalizer.normalize_utf16_to(text, written)
+}
+
+#[inline(never)]
+fn check(
+    normalizer: &AnyNormalizerBorrowed<'_>,
+    text: &str,
+    is_normalized: &mut bool,
+) -> Result<(), NormalizeError> {
+    *is_normalized = normalizer.is_normalized(text)?;
+    Ok(())
+}
+
+#[inline(never)]
+fn check_utf8(
+    normalizer: &AnyNormalizerBorrowed<'_>,
+    text: &str,
+    is_normalized: &mut bool,
+) -> Result<(), NormalizeError> {
+    *is_normalized = normalizer.is_normalized_utf8(text.as_bytes())?;
+    Ok(())
+}
+
+#[inline(never)]
+fn check_utf16(
+    normalizer: &AnyNormalizerBorrowed<'_>,
+    text: &[u16],
+    is_normalized: &mut bool,
+) -> Result<(), NormalizeError> {
+    *is_normalized = normalizer.is_normalized_utf16(text)?;
+    Ok(())
+}
+
 /// Sets `written` to the form that is returned, copied if it is borrowed.
+#[inline(never)]
 fn own(
     normalizer: &AnyNormalizerBorrowed<'_>,
     text: &str,
     written: &mut String,
-) -> Result<(), Fault> {
+) -> Result<(), NormalizeError> {
     match normalizer.normalize(text)? {
         CowStr::Borrowed(text) => written.push_str(text)?,
         CowStr::Owned(made) => *written = made,
@@ -103,22 +178,19 @@ fn iterate(
     normalizer: &AnyNormalizerBorrowed<'_>,
     text: &str,
     written: &mut String,
-) -> Result<(), Fault> {
+) -> Result<(), NormalizeError> {
     match normalizer {
         AnyNormalizerBorrowed::Decomposing(n) => iterate_decomposing(n, text, written),
         AnyNormalizerBorrowed::Composing(n) => iterate_composing(n, text, written),
     }
 }
 
-// Each kind of iterator is in a function of its own, as it is in a program that makes one kind: otherwise a call would
-// also clear the frame of those that it doesn't make.
-
 #[inline(never)]
 fn iterate_decomposing(
     normalizer: &DecomposingNormalizerBorrowed<'_>,
     text: &str,
     written: &mut String,
-) -> Result<(), Fault> {
+) -> Result<(), NormalizeError> {
     for item in normalizer.normalize_iter(text.chars())? {
         written.push(item?)?;
     }
@@ -130,26 +202,20 @@ fn iterate_composing(
     normalizer: &ComposingNormalizerBorrowed<'_>,
     text: &str,
     written: &mut String,
-) -> Result<(), Fault> {
+) -> Result<(), NormalizeError> {
     for item in normalizer.normalize_iter(text.chars())? {
         written.push(item?)?;
     }
     Ok(())
 }
 
-fn tell(is_normalized: bool, written: &mut String) -> Result<(), Fault> {
-    if is_normalized {
-        written.push('y')?;
-    }
-    Ok(())
-}
-
+#[inline(never)]
 fn write_by_port(
     alloc: Global,
     form: NormalForm,
     text: &str,
     written: &mut String,
-) -> Result<(), Fault> {
+) -> Result<(), NormalizeError> {
     *written = match form {
         NormalForm::Nfd => to_nfd(alloc, text)?,
         NormalForm::Nfc => to_nfc(alloc, text)?,
@@ -159,13 +225,20 @@ fn write_by_port(
     Ok(())
 }
 
-fn checked_by_port(alloc: Global, form: NormalForm, text: &str) -> Result<bool, Fault> {
-    Ok(match form {
+#[inline(never)]
+fn check_by_port(
+    alloc: Global,
+    form: NormalForm,
+    text: &str,
+    is_normalized: &mut bool,
+) -> Result<(), NormalizeError> {
+    *is_normalized = match form {
         NormalForm::Nfd => is_nfd(text),
         NormalForm::Nfc => is_nfc(alloc, text)?,
         NormalForm::Nfkd => is_nfkd(text),
         NormalForm::Nfkc => is_nfkc(alloc, text)?,
-    })
+    };
+    Ok(())
 }
 
 fn iterate_by_port(
@@ -173,7 +246,7 @@ fn iterate_by_port(
     form: NormalForm,
     text: &str,
     written: &mut String,
-) -> Result<(), Fault> {
+) -> Result<(), NormalizeError> {
     match form {
         NormalForm::Nfd => iterate_nfd_by_port(alloc, text, written),
         NormalForm::Nfc => iterate_nfc_by_port(alloc, text, written),
@@ -183,7 +256,11 @@ fn iterate_by_port(
 }
 
 #[inline(never)]
-fn iterate_nfd_by_port(alloc: Global, text: &str, written: &mut String) -> Result<(), Fault> {
+fn iterate_nfd_by_port(
+    alloc: Global,
+    text: &str,
+    written: &mut String,
+) -> Result<(), NormalizeError> {
     for item in text.nfd(alloc) {
         written.push(item?)?;
     }
@@ -191,7 +268,11 @@ fn iterate_nfd_by_port(alloc: Global, text: &str, written: &mut String) -> Resul
 }
 
 #[inline(never)]
-fn iterate_nfc_by_port(alloc: Global, text: &str, written: &mut String) -> Result<(), Fault> {
+fn iterate_nfc_by_port(
+    alloc: Global,
+    text: &str,
+    written: &mut String,
+) -> Result<(), NormalizeError> {
     for item in text.nfc(alloc) {
         written.push(item?)?;
     }
@@ -199,7 +280,11 @@ fn iterate_nfc_by_port(alloc: Global, text: &str, written: &mut String) -> Resul
 }
 
 #[inline(never)]
-fn iterate_nfkd_by_port(alloc: Global, text: &str, written: &mut String) -> Result<(), Fault> {
+fn iterate_nfkd_by_port(
+    alloc: Global,
+    text: &str,
+    written: &mut String,
+) -> Result<(), NormalizeError> {
     for item in text.nfkd(alloc) {
         written.push(item?)?;
     }
@@ -207,7 +292,11 @@ fn iterate_nfkd_by_port(alloc: Global, text: &str, written: &mut String) -> Resu
 }
 
 #[inline(never)]
-fn iterate_nfkc_by_port(alloc: Global, text: &str, written: &mut String) -> Result<(), Fault> {
+fn iterate_nfkc_by_port(
+    alloc: Global,
+    text: &str,
+    written: &mut String,
+) -> Result<(), NormalizeError> {
     for item in text.nfkc(alloc) {
         written.push(item?)?;
     }

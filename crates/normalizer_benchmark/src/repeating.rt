@@ -61,6 +61,7 @@ fn repeat(alloc: Global, prepared: &[u8], task: &Task<'_>) -> Result<Vec<u8>, Fa
     let mut written = Written {
         utf8: String::new(alloc),
         utf16: Vec::new(alloc),
+        is_normalized: false,
     };
     let owned = PreparedData::read(alloc, prepared)?.normalizer(form)?;
     let normalizer = owned.as_borrowed();
@@ -69,7 +70,18 @@ fn repeat(alloc: Global, prepared: &[u8], task: &Task<'_>) -> Result<Vec<u8>, Fa
         written.utf16.clear();
         call.make(alloc, &normalizer, form, &text, &mut written)?;
     }
+    if call.is_check() {
+        return Ok(byte_if(alloc, written.is_normalized)?);
+    }
     Ok(bytes_of(alloc, &written)?)
+}
+
+fn byte_if(alloc: Global, is_normalized: bool) -> Result<Vec<u8>, AllocError> {
+    let mut bytes = Vec::new(alloc);
+    if is_normalized {
+        bytes.push(b'y')?;
+    }
+    Ok(bytes)
 }
 
 fn units_of(alloc: Global, text: &str) -> Result<Vec<u16>, AllocError> {
