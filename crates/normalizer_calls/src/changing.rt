@@ -56,8 +56,8 @@ pub(crate) fn changes_first<U: Units, N: Forming>(
     units: U,
     composite: Option<Composite>,
 ) -> bool
-    requires { let m = N.made_form normalizer.now in IfSome composite
-        (IsComposite (N.beginning normalizer.now) U.encoding m.reading m.form (U.units units)) }
+    requires { IfSome composite
+        (IsComposite (N.beginning normalizer.now) U.encoding (N.made_form normalizer.now) (U.units units)) }
     ensures { let m = N.made_form normalizer.now in
         IsTrue result → ¬ IsInputNormalized U.encoding m.reading m.form (U.units units) }
 {

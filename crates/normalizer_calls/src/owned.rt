@@ -73,8 +73,8 @@ fn change_of<U: Expected, N: Forming>(
     normalizer: &N,
     units: U,
 ) -> Result<Option<Change>, NormalizeError>
-    ensures change { let m = N.made_form normalizer.now in IfOk result (ChangesUnlessNormalized
-        (N.beginning normalizer.now) U.encoding m.reading m.form (U.units units)) }
+    ensures change { IfOk result (ChangesUnlessNormalized
+        (N.beginning normalizer.now) U.encoding (N.made_form normalizer.now) (U.units units)) }
     ensures room { HasShortUnits (N.made_form normalizer.now) U.encoding (U.units units) → IsOk result }
     ensures refused { IsOkUnless result NormalizeError.Memory }
 {
@@ -115,8 +115,8 @@ fn write_from_change<U: Units, N: Forming, O: Growing<U>>(
 ) -> Result<(), NormalizeError>
     requires place { let m = N.made_form normalizer.now in
         QualifiesForInputCut U.encoding m.reading m.form (U.units units) change.place }
-    requires composite { let m = N.made_form normalizer.now in IfSome change.composite (IsComposite
-        (N.beginning normalizer.now) U.encoding m.reading m.form (drop change.place (U.units units))) }
+    requires composite { IfSome change.composite (IsComposite (N.beginning normalizer.now) U.encoding
+        (N.made_form normalizer.now) (drop change.place (U.units units))) }
     ensures { let m = N.made_form normalizer.now in OnOk result (O.text_taken output.new ≡
         O.text_taken output.old ++ encoded_form U.encoding m.reading m.form (U.units units)) }
 {

@@ -898,6 +898,7 @@ fn kept_low<U: Units, N: Forming>(normalizer: &N, units: U) -> Result<Kept, RunS
     requires { N.held_back ≡ false }
     ensures kept { IfOk result
         (IsKept (N.beginning normalizer.now) U.encoding (N.made_form normalizer.now) (U.units units)) }
+    ensures composite { IfOk result (λ kept. kept.composite ≡ None) }
     ensures run { IfErr result (IsRunSoFar (N.passthrough_class normalizer.now) U.encoding (U.units units)) }
 {
     normalizer.passthrough_is_normalized_apart();

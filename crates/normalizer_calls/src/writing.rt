@@ -192,8 +192,8 @@ fn write_run<U: Units, N: Forming, O: Output<U>>(
         (U.units units) output.old kept.end output.new) }
     ensures next { IfOk result (λ kept. IfSome kept.next
         (λ next. next ≡ first_in U.encoding (drop kept.end (U.units units)))) }
-    ensures composite { let m = N.made_form normalizer.now in IfOk result (λ kept. IfSome kept.composite (IsComposite
-        (N.beginning normalizer.now) U.encoding m.reading m.form (drop kept.end (U.units units)))) }
+    ensures composite { IfOk result (λ kept. IfSome kept.composite (IsComposite (N.beginning normalizer.now) U.encoding
+        (N.made_form normalizer.now) (drop kept.end (U.units units)))) }
     ensures refused { IfErr result (λ fault. WritesUnits U.encoding O.Output (N.made_form normalizer.now)
         (U.units units) output.old (Err fault) output.new) }
     ensures room { ¬ IsErrOf result NormalizeError.Memory }
@@ -270,8 +270,8 @@ fn write_front_segment<U: Units, N: Forming, O: Output<U>>(
 ) -> Result<Segment, NormalizeError>
     requires some { 0 < length (U.units units) }
     requires first { IfSome first (λ first. first ≡ first_in U.encoding (U.units units)) }
-    requires composite { let m = N.made_form normalizer.now in IfSome composite
-        (IsComposite (N.beginning normalizer.now) U.encoding m.reading m.form (U.units units)) }
+    requires composite { IfSome composite
+        (IsComposite (N.beginning normalizer.now) U.encoding (N.made_form normalizer.now) (U.units units)) }
     ensures written { WritesSegment U.encoding O.Output (N.beginning normalizer.now) (N.made_form normalizer.now)
         (U.units units) output.old result output.new }
     ensures room { HasShortUnits (N.made_form normalizer.now) U.encoding (U.units units) →
@@ -313,8 +313,8 @@ fn write_segments<U: Units, N: Forming, O: Output<U>>(
     buffers: &mut SegmentBuffers,
     output: &mut O,
 ) -> Result<(), NormalizeError>
-    requires { let m = N.made_form normalizer.now in IfSome composite
-        (IsComposite (N.beginning normalizer.now) U.encoding m.reading m.form (U.units units)) }
+    requires { IfSome composite
+        (IsComposite (N.beginning normalizer.now) U.encoding (N.made_form normalizer.now) (U.units units)) }
     ensures text { WritesUnits U.encoding O.Output (N.made_form normalizer.now) (U.units units)
         output.old result output.new }
     ensures room { HasShortUnits (N.made_form normalizer.now) U.encoding (U.units units) →
@@ -350,8 +350,8 @@ pub(crate) fn write_changed<U: Units, N: Forming, O: Output<U>>(
     composite: Option<Composite>,
     output: &mut O,
 ) -> Result<(), NormalizeError>
-    requires { let m = N.made_form normalizer.now in IfSome composite
-        (IsComposite (N.beginning normalizer.now) U.encoding m.reading m.form (U.units units)) }
+    requires { IfSome composite
+        (IsComposite (N.beginning normalizer.now) U.encoding (N.made_form normalizer.now) (U.units units)) }
     ensures text { WritesUnits U.encoding O.Output (N.made_form normalizer.now) (U.units units)
         output.old result output.new }
     ensures room { HasShortUnits (N.made_form normalizer.now) U.encoding (U.units units) →

@@ -8,10 +8,9 @@ ghost use Rattle.normalizer_tables.specs.Characters.{class_of, has_class_form, l
 ghost use Rattle.normalizer_tables.specs.Ignored.{ignored_list};
 ghost use Rattle.normalizer_tables.specs.Readings.{reading_by};
 ghost use Rattle.normalizer_tables.specs.ShortLists.{text_of};
-ghost use Rattle.normalizer_iterators.specs.Delegate.{IsReadyAfter};
 ghost use Rattle.normalizer_iterators.specs.LazyReading.{HasClassesFrom};
 ghost use Rattle.normalizer_iterators.specs.WaitingList.{item_count, reordered_text, AgreesWith};
-ghost use Rattle.normalizer_iterators.specs.inner.ReadingOn.{Adds, KeepsClasses, ReadsOnAfter, DidNotFitAfter};
+ghost use Rattle.normalizer_iterators.specs.inner.ReadingOn.{Adds, CanReadOn, DidNotFitAfter, KeepsClasses, ReadsOnTo};
 ghost use Rattle.normalizer_iterators.specs.Reads.{character_of, HasOwnWord, HasOwnWords};
 
 use crate::pending::{PendingChar, read_from};
@@ -31,13 +30,9 @@ pub(crate) fn read_on<I: Iterator<Item = char> + Drop>(
     delegate: &mut I,
     waiting: &mut WaitingList,
 ) -> Result<Option<PendingChar>, AllocError>
-    requires ready { IsReadyAfter I.can_next I.remaining (character_of first) delegate.old }
-    requires words { HasOwnWords characters.now first }
-    requires classes { AgreesWith (reading_by characters.now ignored []) waiting.old }
-    ensures ok { IfOk result (λ pending. ReadsOnAfter I.Iterator characters.now ignored
-        (character_of first) delegate.old waiting.old (character_of pending) delegate.new waiting.new) }
-    ensures words { IfOk result (HasOwnWords characters.now) }
-    ensures classes { OnOk result (AgreesWith (reading_by characters.now ignored []) waiting.new) }
+    requires { CanReadOn I.Iterator characters.now ignored first delegate.old waiting.old }
+    ensures ok { IfOk result (λ pending. ReadsOnTo I.Iterator characters.now ignored (character_of first) delegate.old
+        waiting.old pending delegate.new waiting.new) }
     ensures err { OnErr result (DidNotFitAfter I.next_gives I.remaining characters.now ignored (character_of first)
         delegate.old waiting.old) }
 {
@@ -63,13 +58,9 @@ pub(crate) fn read_leading<I: Iterator<Item = char> + Drop>(
     delegate: &mut I,
     waiting: &mut WaitingList,
 ) -> Result<Option<PendingChar>, AllocError>
-    requires ready { IsReadyAfter I.can_next I.remaining (character_of first) delegate.old }
-    requires words { HasOwnWords characters.now first }
-    requires classes { AgreesWith (reading_by characters.now ignored []) waiting.old }
-    ensures ok { IfOk result (λ pending. ReadsOnAfter I.Iterator characters.now ignored
-        (character_of first) delegate.old waiting.old (character_of pending) delegate.new waiting.new) }
-    ensures words { IfOk result (HasOwnWords characters.now) }
-    ensures classes { OnOk result (AgreesWith (reading_by characters.now ignored []) waiting.new) }
+    requires { CanReadOn I.Iterator characters.now ignored first delegate.old waiting.old }
+    ensures ok { IfOk result (λ pending. ReadsOnTo I.Iterator characters.now ignored (character_of first) delegate.old
+        waiting.old pending delegate.new waiting.new) }
     ensures err { OnErr result (DidNotFitAfter I.next_gives I.remaining characters.now ignored (character_of first)
         delegate.old waiting.old) }
 {

@@ -6,6 +6,7 @@ use Rattle.normal_forms.specs.declared.Form.{Form}
 use Rattle.normal_forms.specs.Offence.{IsFirst}
 use Rattle.normalizer_text.specs.Encodings.{Encoding}
 use Rattle.normalizer_text.specs.InputCut.{IsInputNormalized, IsInputCut, QualifiesForInputCut}
+use Rattle.normalizer_calls.specs.Forms.{MadeForm}
 use Rattle.normalizer_calls.specs.declared.owned.Change.{Change}
 use Rattle.normalizer_calls.specs.inner.PassthroughRuns.{IsComposite}
 
@@ -16,11 +17,11 @@ IsCutUnlessNormalized e d form units result = MatchOption result (IsInputNormali
 
 -- a place that qualifies for the cut of the units, and the segment after it, if that is seen to become one character; or
 -- nothing, if they are well-formed and normalized
-abbrev pub ChangesUnlessNormalized : (ℕ → Bool) → Encoding → Reading → Form → List ℕ → Option Change → Type 0
-ChangesUnlessNormalized beginning e d form units result = MatchOption result (IsInputNormalized e d form units)
-    (λ change. (IsInputNormalized e d form units → ⊥)
-    × QualifiesForInputCut e d form units change.place
-    × IfSome change.composite (IsComposite beginning e d form (drop change.place units)))
+abbrev pub ChangesUnlessNormalized : (ℕ → Bool) → Encoding → MadeForm → List ℕ → Option Change → Type 0
+ChangesUnlessNormalized beginning e m units result = MatchOption result (IsInputNormalized e m.reading m.form units)
+    (λ change. (IsInputNormalized e m.reading m.form units → ⊥)
+    × QualifiesForInputCut e m.reading m.form units change.place
+    × IfSome change.composite (IsComposite beginning e m (drop change.place units)))
 
 -- what x begins with, or nothing if x is empty
 abbrev pub IsFirstOrNone : List ℕ → Option ℕ → Type 0

@@ -14,7 +14,7 @@ use Rattle.normalizer_text.specs.Encodings.{Encoding, first_in, encoded_in, deco
 use Rattle.normalizer_text.specs.DecodingSteps.{IsBoundary, IsLastStep}
 use Rattle.normalizer_text.specs.InputCut.{IsInputNormalized}
 use Rattle.normalizer_calls.specs.BoundaryBefore.{HasBoundaryBefore}
-use Rattle.normalizer_calls.specs.Forms.{MadeForm}
+use Rattle.normalizer_calls.specs.Forms.{MadeForm, form_in}
 use Rattle.normalizer_calls.specs.declared.runs.Composite.{Composite}
 use Rattle.normalizer_calls.specs.declared.runs.Kept.{Kept}
 use Rattle.normalizer_calls.specs.declared.runs.RunSoFar.{RunSoFar}
@@ -133,16 +133,16 @@ pub record IsSeenSegment (beginning : ℕ → Bool) (e : Encoding) (d : Reading)
   pub one : IfSome becomes (λ c. normal_form d form (decoded_in e (take end units)) ≡ c ∷ [])
 
 -- a segment ends there, and its form is that character
-pub record IsComposite (beginning : ℕ → Bool) (e : Encoding) (d : Reading) (form : Form) (units : List ℕ)
-    (c : Composite) : Type 0 where
+pub record IsComposite (beginning : ℕ → Bool) (e : Encoding) (m : MadeForm) (units : List ℕ) (c : Composite)
+    : Type 0 where
   pub segment : IsSegmentEnd beginning e units c.end
-  pub form_is : normal_form d form (decoded_in e (take c.end units)) ≡ c.character ∷ []
+  pub form_is : form_in m e (take c.end units) ≡ c.character ∷ []
 
 -- the units up to its end are kept, its step, if it has one, is the one after that, and its composite the segment there
 pub record IsKept (beginning : ℕ → Bool) (e : Encoding) (m : MadeForm) (units : List ℕ) (found : Kept) : Type 0 where
   pub kept : IsKeptTo e m.reading m.form units found.end
   pub next : IfSome found.next (λ next. next ≡ first_in e (drop found.end units))
-  pub composite : IfSome found.composite (IsComposite beginning e m.reading m.form (drop found.end units))
+  pub composite : IfSome found.composite (IsComposite beginning e m (drop found.end units))
 
 -- c composes to itself, and its list begins with a starter and ends with a character of class `last`
 pub record IsStableStarter (d : Reading) (c last : ℕ) : Type 0 where

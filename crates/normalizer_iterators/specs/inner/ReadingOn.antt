@@ -15,6 +15,8 @@ use Rattle.normalizer_iterators.specs.declared.waiting.WaitingList.{WaitingList}
 use Rattle.normalizer_iterators.specs.WaitingList.{ordered_text, unordered_text, item_count, reordered_text, AgreesWith}
 use Rattle.normalizer_iterators.specs.Delegate.{HasRead, HasYieldedLong, IsReadyAfter, Source}
 use Rattle.normalizer_iterators.specs.LazyReading.{HasClassesFrom}
+use Rattle.normalizer_iterators.specs.Reads.{character_of, HasOwnWords}
+use Rattle.normalizer_iterators.specs.declared.pending.PendingChar.{PendingChar}
 
 -- by each reading that has the classes of the data: these characters were added, and classes are still right
 abbrev pub Adds : Characters → List ℕ → WaitingList → WaitingList → Type 0
@@ -100,6 +102,21 @@ abbrev pub ReadsOnAfter : {I : Type 0} → Source I → Characters
 ReadsOnAfter {I = I} from s ignored last delegate waiting pending delegate_after waiting_after =
     (before : I) → HasRead from.next_gives from.remaining before last delegate → ReadsOn from (has_class_form s)
     (reading_by s ignored []) before waiting pending delegate_after waiting_after
+
+-- what was read from it before and what is buffered suit the data
+pub record CanReadOn {I : Type 0} (from : Source I) (s : Characters) (ignored : IgnoredCharacters)
+    (first : Option PendingChar) (delegate : I) (waiting : WaitingList) : Type 0 where
+  pub ready : IsReadyAfter from.can_next from.remaining (character_of first) delegate
+  pub words : HasOwnWords s first
+  pub classes : AgreesWith (reading_by s ignored []) waiting
+
+-- it was read on, and what is pending and what is buffered suit the data
+pub record ReadsOnTo {I : Type 0} (from : Source I) (s : Characters) (ignored : IgnoredCharacters) (last : Option ℕ)
+    (delegate : I) (waiting : WaitingList) (pending : Option PendingChar) (delegate_after : I)
+    (waiting_after : WaitingList) : Type 0 where
+  pub read : ReadsOnAfter from s ignored last delegate waiting (character_of pending) delegate_after waiting_after
+  pub words : HasOwnWords s pending
+  pub classes : AgreesWith (reading_by s ignored []) waiting_after
 
 abbrev pub DidNotFitAfter : {I : Type 0} → (I → Option ℕ → I → Type 0) → (I → Count) → Characters
     → IgnoredCharacters → Option ℕ → I → WaitingList → Type 0

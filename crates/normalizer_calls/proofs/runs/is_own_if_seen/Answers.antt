@@ -31,6 +31,6 @@ returns-then-changes_alone g c =
     let dropped = length-drop c.with_few-run.result.end (g.U.Units.units c.args.units) in
     let less = step_at-step-requires g (search rules) in
     let m = g.N.Forming.made_form c.args.normalizer.now in
-    let no = later_changes g.U.Units.encoding m.reading m.form (g.met.N.Forming.suits c.args.normalizer.now).laws (g.U.Units.units c.args.units) c.with_few-run.result.end run.to_end.boundary
+    let no = later_changes g.U.Units.encoding m (g.met.N.Forming.suits c.args.normalizer.now).laws (g.U.Units.units c.args.units) c.with_few-run.result.end run.to_end.boundary
     c.step_at-step.result (record { some = omega (arith, dropped, less); is = c.step_at-step.ensures }) (c.changes_alone.ensures c.if-changes_alone.true) in
     (λ yes. absurd (cc yes), λ own. absurd (no own))

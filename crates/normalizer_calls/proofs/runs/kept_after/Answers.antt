@@ -17,7 +17,7 @@ pub returns-in-Some : goal.returns-in-Some
 returns-in-Some g c = record {
   kept = c.loop-end.invariant;
   next = tt;
-  composite = IsComposite-seen _ _ _ _ _ _ (rw (c.in-Some.is, c.after-rest.ensures) at c.in-Ok.ensures);
+  composite = IsComposite-seen _ _ _ _ _ (rw (c.in-Some.is, c.after-rest.ensures) at c.in-Ok.ensures);
 }
 
 pub overflow_add-end : goal.overflow_add-end

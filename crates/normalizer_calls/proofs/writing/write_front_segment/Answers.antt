@@ -13,7 +13,7 @@ pub segment_ahead-requires : goal.segment_ahead-requires
 segment_ahead-requires g c = record {
   some = c.requires.some;
   first = c.first_step-first.ensures;
-  composite = segment_of_composite _ _ _ _ _ _ c.requires.composite;
+  composite = segment_of_composite _ _ _ _ _ c.requires.composite;
 }
 
 pub write_if_short-requires : goal.write_if_short-requires
@@ -22,7 +22,7 @@ write_if_short-requires g c =
     let part = IsPart-segment _ _ _ _ _ c.passthrough_is_normalized_apart.ensures.begins _ end in record {
       some = some_part part c.before-front.ensures;
       first = c.first_step-first.ensures ∙ sym (first-take _ _ _ end.some end.boundary) ∙ ap (first_in g.U.Units.encoding) (sym c.before-front.ensures);
-      composite = form_of_composite _ _ _ _ _ _ _ _ c.requires.composite c.in-Some.ensures.composite c.before-front.ensures;
+      composite = form_of_composite _ _ _ _ _ _ _ c.requires.composite c.in-Some.ensures.composite c.before-front.ensures;
     }
 
 pub returns-in_err-written-in-Some-write_if_short-clause-written : goal.returns-in_err-written-in-Some-write_if_short-clause-written

@@ -61,7 +61,7 @@ loop-position-preserved-then-segment g c =
       WroteUpTo-maybe so_far c.after.ensures
           (rw c.in_ok-kept.was at c.write_run.ensures.none) (rw c.in_ok-kept.was at c.write_run.ensures.part),
       first-drop _ _ _ _ _ _ c.after.ensures (rw c.in_ok-kept.was at c.write_run.ensures.next),
-      composite-drop _ _ _ _ _ _ _ _ _ c.after.ensures (rw c.in_ok-kept.was at c.write_run.ensures.composite),
+      composite-drop _ _ _ _ _ _ _ _ c.after.ensures (rw c.in_ok-kept.was at c.write_run.ensures.composite),
     )
 
 pub loop-position-preserved : goal.loop-position-preserved

@@ -10,7 +10,7 @@ invariant-loop-position g l =
     let m = g.N.Forming.made_form l.normalizer in
     WroteUpTo g.U.Units.encoding g.O.Output m.reading m.form (g.U.Units.units l.units) l.fn.output l.position l.output
     × IfSome l.first (λ first. first ≡ first_in g.U.Units.encoding (drop l.position (g.U.Units.units l.units)))
-    × IfSome l.seen (IsComposite (g.N.Forming.beginning l.normalizer) g.U.Units.encoding m.reading m.form (drop l.position (g.U.Units.units l.units)))
+    × IfSome l.seen (IsComposite (g.N.Forming.beginning l.normalizer) g.U.Units.encoding m (drop l.position (g.U.Units.units l.units)))
 
 abbrev pub decreases-loop-position : goal.decreases-loop-position
 decreases-loop-position g l = length (g.U.Units.units l.units) - l.position

@@ -49,4 +49,4 @@ returns-clause-ok g c =
     λ before read.
     ReadsChunk-from g.I.Iterator f d c.args.read.character c.in_ok-first.first _ before _ _ _ _ is c.in_ok-first.ensures.first
     (c.in_ok-first.ensures.text d same)
-    (c.in_ok-pending.ensures.ok before read)
+    (c.in_ok-pending.ensures.ok.read before read)

@@ -16,9 +16,12 @@ use Rattle.normalizer_iterators.proofs.items.ToComeLemmas.{HasYieldedLong-start,
 use Rattle.normalizer_iterators.proofs.items.ItemLemmas.{YieldsForm-made, YieldsFormOfRun-decomposition, SpellsOk-decomposition, SpellsUnless-decomposition}
 use Rattle.normalizer_iterators.proofs.decomposition.Decomposition.over.Goals as goal
 
-pub read_leading-requires-clause-ready : goal.read_leading-requires-clause-ready
-read_leading-requires-clause-ready g c =
-    rw c.read_from-first.ensures.character (IsReadyAfter-next g.I.Iterator _ _ _ (c.next.ensures.goes.on c.requires.ends))
+pub read_leading-requires : goal.read_leading-requires
+read_leading-requires g c = record {
+  ready = rw c.read_from-first.ensures.character (IsReadyAfter-next g.I.Iterator _ _ _ (c.next.ensures.goes.on c.requires.ends));
+  words = c.read_from-first.ensures.word;
+  classes = c.new-waiting.ensures.classes _;
+}
 
 pub returns-in-Ok-clause-text : goal.returns-in-Ok-clause-text
 returns-in-Ok-clause-text g c = λ x spells.
@@ -26,7 +29,7 @@ returns-in-Ok-clause-text g c = λ x spells.
     HasRead-as g.I.Iterator _ _ _ _ c.read_from-first.ensures.character c.next.ensures.steps
     (c.next.ensures.goes.on c.requires.ends) in
     IsToCome-start g.I.Iterator (has_class_form c.args.characters) _ c.requires.suits c.args.delegate _ _ _ _ x
-    c.new-waiting.ensures.ordered c.new-waiting.ensures.unordered (c.in-Ok.ensures.ok _ read) spells
+    c.new-waiting.ensures.ordered c.new-waiting.ensures.unordered (c.in-Ok.ensures.ok.read _ read) spells
 
 pub returns-in-Ok-clause-came : goal.returns-in-Ok-clause-came
 returns-in-Ok-clause-came g c = λ e out h.
@@ -34,7 +37,7 @@ returns-in-Ok-clause-came g c = λ e out h.
     HasRead-as g.I.Iterator _ _ _ _ c.read_from-first.ensures.character c.next.ensures.steps
     (c.next.ensures.goes.on c.requires.ends) in
     came_start g.I.Iterator (has_class_form c.args.characters) _ c.requires.suits e c.args.delegate _ _ _ _ out
-    c.new-waiting.ensures.ordered c.new-waiting.ensures.unordered (c.in-Ok.ensures.ok _ read) h
+    c.new-waiting.ensures.ordered c.new-waiting.ensures.unordered (c.in-Ok.ensures.ok.read _ read) h
 
 pub returns-in-Ok-clause-long : goal.returns-in-Ok-clause-long
 returns-in-Ok-clause-long g c = λ h.
@@ -42,14 +45,14 @@ returns-in-Ok-clause-long g c = λ h.
     HasRead-as g.I.Iterator _ _ _ _ c.read_from-first.ensures.character c.next.ensures.steps
     (c.next.ensures.goes.on c.requires.ends) in
     HasYieldedLong-start g.I.Iterator (has_class_form c.args.characters) _ c.requires.suits c.args.delegate _ _ _ _ h.out
-    c.new-waiting.ensures.ordered c.new-waiting.ensures.unordered (c.in-Ok.ensures.ok _ read) h.comes h.long
+    c.new-waiting.ensures.ordered c.new-waiting.ensures.unordered (c.in-Ok.ensures.ok.read _ read) h.comes h.long
 
 pub returns-in-Ok-clause-short : goal.returns-in-Ok-clause-short
 returns-in-Ok-clause-short g c = λ x spells short.
     let read =
     HasRead-as g.I.Iterator _ _ _ _ c.read_from-first.ensures.character c.next.ensures.steps
     (c.next.ensures.goes.on c.requires.ends) in
-    AreShortToCome-start g.I.Iterator (has_class_form c.args.characters) _ c.args.delegate _ _ _ _ x (c.in-Ok.ensures.ok _ read) spells short
+    AreShortToCome-start g.I.Iterator (has_class_form c.args.characters) _ c.args.delegate _ _ _ _ x (c.in-Ok.ensures.ok.read _ read) spells short
 
 pub returns-clause-succeeds : goal.returns-clause-succeeds
 returns-clause-succeeds g c = λ x spells short.
@@ -72,7 +75,7 @@ returns-in-Ok-clause-ready g c =
     let read =
     HasRead-as g.I.Iterator _ _ _ _ c.read_from-first.ensures.character c.next.ensures.steps
     (c.next.ensures.goes.on c.requires.ends) in
-    let on = c.in-Ok.ensures.ok _ read in
+    let on = c.in-Ok.ensures.ok.read _ read in
     on.ready
 
 pub invariant_of-result-in-Ok : goal.invariant_of-result-in-Ok
@@ -81,13 +84,13 @@ invariant_of-result-in-Ok g c =
     let read =
     HasRead-as g.I.Iterator _ _ _ _ c.read_from-first.ensures.character c.next.ensures.steps
     (c.next.ensures.goes.on c.requires.ends) in
-    let on = c.in-Ok.ensures.ok _ read in
+    let on = c.in-Ok.ensures.ok.read _ read in
     record {
       suits = c.requires.suits;
       at_boundary = at_some (character_of c.in-Ok.pending) (λ b. continues (has_class_form c.args.characters) (reading_by c.args.characters c.args.ignored []) b ≡ false) on.at_boundary;
-      word = c.in-Ok.ensures.words;
+      word = c.in-Ok.ensures.ok.words;
       settled = on.settled;
-      classes = c.in-Ok.ensures.classes;
+      classes = c.in-Ok.ensures.ok.classes;
     }
 
 pub returns-in-Ok-clause-form : goal.returns-in-Ok-clause-form
