@@ -135,11 +135,13 @@ impl<'data, I: Iterator<Item = char> + Drop> Decomposition<'data, I> {
             });
         }
         let mut waiting = WaitingList::new(characters.allocator());
-        match read_leading(&characters, ignored, first, &mut delegate, &mut waiting) {
+        // Moved, so that only what is read on is borrowed: a delegate that is borrowed is kept in memory.
+        let mut rest = delegate;
+        match read_leading(&characters, ignored, first, &mut rest, &mut waiting) {
             Ok(pending) => Ok(Decomposition {
                 characters,
                 ignored,
-                delegate,
+                delegate: rest,
                 pending,
                 waiting,
             }),
