@@ -280,7 +280,8 @@ fn write_front_segment<U: Units, N: Forming, O: Output<U>>(
     normalizer.passthrough_is_normalized_apart();
     let first = first_step(units, first);
     let Some(segment) = segment_ahead(normalizer, units, first, composite) else {
-        return write_long_segment(normalizer, units, output);
+        // Taken apart, since what a call returns is kept in memory, and then the segments that are short would be too.
+        return Ok(write_long_segment(normalizer, units, output)?);
     };
     let front = units.before(segment.end);
     match write_if_short(normalizer, front, first, composite, buffers, output) {
@@ -288,7 +289,7 @@ fn write_front_segment<U: Units, N: Forming, O: Output<U>>(
             written?;
             Ok(segment)
         }
-        None => write_long_segment(normalizer, units, output),
+        None => Ok(write_long_segment(normalizer, units, output)?),
     }
 }
 

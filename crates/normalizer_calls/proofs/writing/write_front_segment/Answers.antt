@@ -28,7 +28,7 @@ write_if_short-requires g c =
 pub returns-in_err-written-in-Some-write_if_short-clause-written : goal.returns-in_err-written-in-Some-write_if_short-clause-written
 returns-in_err-written-in-Some-write_if_short-clause-written g c =
     let part = IsPart-segment _ _ _ _ _ c.passthrough_is_normalized_apart.ensures.begins _ c.in-Some.ensures.segment.end in
-    let is : c.from_residual.result ≡ Err c.in_err-written-in-Some-write_if_short.field-0.0 = search rules in
+    let is : c.from_residual-in_err-written-in-Some-write_if_short.result ≡ Err c.in_err-written-in-Some-write_if_short.field-0.0 = search rules in
     rw is (record {
       segment = tt;
       part = tt;
@@ -37,7 +37,7 @@ returns-in_err-written-in-Some-write_if_short-clause-written g c =
 
 pub returns-in_err-written-in-Some-write_if_short-clause-room : goal.returns-in_err-written-in-Some-write_if_short-clause-room
 returns-in_err-written-in-Some-write_if_short-clause-room g c =
-    let is : c.from_residual.result ≡ Err c.in_err-written-in-Some-write_if_short.field-0.0 = search rules in
+    let is : c.from_residual-in_err-written-in-Some-write_if_short.result ≡ Err c.in_err-written-in-Some-write_if_short.field-0.0 = search rules in
     λ _. not_handed_on c.in_err-written-in-Some-write_if_short.was is c.in-Some-write_if_short.ensures.room
 
 pub returns-in_ok-written-in-Some-write_if_short-clause-written : goal.returns-in_ok-written-in-Some-write_if_short-clause-written
