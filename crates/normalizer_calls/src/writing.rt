@@ -279,18 +279,18 @@ fn write_front_segment<U: Units, N: Forming, O: Output<U>>(
 {
     normalizer.passthrough_is_normalized_apart();
     let first = first_step(units, first);
-    let Some(segment) = segment_ahead(normalizer, units, first, composite) else {
-        // Taken apart, since what a call returns is kept in memory, and then the segments that are short would be too.
-        return Ok(write_long_segment(normalizer, units, output)?);
-    };
-    let front = units.before(segment.end);
-    match write_if_short(normalizer, front, first, composite, buffers, output) {
-        Some(written) => {
+    if let Some(segment) = segment_ahead(normalizer, units, first, composite) {
+        let front = units.before(segment.end);
+        if let Some(written) = write_if_short(
+            normalizer, front, first, composite, buffers, output,
+        ) {
             written?;
-            Ok(segment)
+            return Ok(segment);
         }
-        None => Ok(write_long_segment(normalizer, units, output)?),
     }
+    // What a call returns is kept in memory. Taken out of that, it isn't where short segments are returned.
+    let segment = write_long_segment(normalizer, units, output)?;
+    Ok(segment)
 }
 
 /// Returns what is expected from a step on, if that was read: after marks out of order, letters and marks that alternate.

@@ -25,25 +25,25 @@ write_if_short-requires g c =
       composite = form_of_composite _ _ _ _ _ _ _ c.requires.composite c.in-Some.ensures.composite c.before-front.ensures;
     }
 
-pub returns-in_err-written-in-Some-write_if_short-clause-written : goal.returns-in_err-written-in-Some-write_if_short-clause-written
-returns-in_err-written-in-Some-write_if_short-clause-written g c =
+pub returns-in_err-written-clause-written : goal.returns-in_err-written-clause-written
+returns-in_err-written-clause-written g c =
     let part = IsPart-segment _ _ _ _ _ c.passthrough_is_normalized_apart.ensures.begins _ c.in-Some.ensures.segment.end in
-    let is : c.from_residual-in_err-written-in-Some-write_if_short.result ≡ Err c.in_err-written-in-Some-write_if_short.field-0.0 = search rules in
+    let is : c.from_residual.result ≡ Err c.in_err-written.field-0.0 = search rules in
     rw is (record {
       segment = tt;
       part = tt;
-      refused = WritesText-segment_refused part c.before-front.ensures (rw c.in_err-written-in-Some-write_if_short.was at c.in-Some-write_if_short.ensures.text);
+      refused = WritesText-segment_refused part c.before-front.ensures (rw c.in_err-written.was at c.in-Some-write_if_short.ensures.text);
     })
 
-pub returns-in_err-written-in-Some-write_if_short-clause-room : goal.returns-in_err-written-in-Some-write_if_short-clause-room
-returns-in_err-written-in-Some-write_if_short-clause-room g c =
-    let is : c.from_residual-in_err-written-in-Some-write_if_short.result ≡ Err c.in_err-written-in-Some-write_if_short.field-0.0 = search rules in
-    λ _. not_handed_on c.in_err-written-in-Some-write_if_short.was is c.in-Some-write_if_short.ensures.room
+pub returns-in_err-written-clause-room : goal.returns-in_err-written-clause-room
+returns-in_err-written-clause-room g c =
+    let is : c.from_residual.result ≡ Err c.in_err-written.field-0.0 = search rules in
+    λ _. not_handed_on c.in_err-written.was is c.in-Some-write_if_short.ensures.room
 
-pub returns-in_ok-written-in-Some-write_if_short-clause-written : goal.returns-in_ok-written-in-Some-write_if_short-clause-written
-returns-in_ok-written-in-Some-write_if_short-clause-written g c =
+pub returns-in-Some-write_if_short-clause-written : goal.returns-in-Some-write_if_short-clause-written
+returns-in-Some-write_if_short-clause-written g c =
     let part = IsPart-segment _ _ _ _ _ c.passthrough_is_normalized_apart.ensures.begins _ c.in-Some.ensures.segment.end in record {
       segment = c.in-Some.ensures.segment;
-      part = WrotePart-segment part c.before-front.ensures (rw c.in_ok-written-in-Some-write_if_short.was at c.in-Some-write_if_short.ensures.text);
+      part = WrotePart-segment part c.before-front.ensures (rw c.in_ok-written.was at c.in-Some-write_if_short.ensures.text);
       refused = tt;
     }
