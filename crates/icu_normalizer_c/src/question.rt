@@ -55,7 +55,7 @@ fn report_over<Q: Question>(
 {
     let owner = handle.take(alloc)?;
     let outcome = report_at(&owner.normalizers, form, question, reported);
-    handle.put(alloc, owner);
+    handle.put(owner);
     outcome
 }
 

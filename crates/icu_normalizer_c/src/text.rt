@@ -64,6 +64,6 @@ fn write_over<T: Text>(
 {
     let owner = handle.take(alloc)?;
     let outcome = text.write(alloc, &owner.normalizers, output, needed);
-    handle.put(alloc, owner);
+    handle.put(owner);
     outcome
 }

@@ -22,29 +22,15 @@ pub struct Handle {
 impl Handle {
     ghost use Rattle.normalizer_handles.specs.Handles.{held_in, held_normalizers, owned_by, Closes, Shares};
 
-    fn of(alloc: Global, value: Option<Box<Owner>>, is_in_use: bool) -> Handle
-        ensures { MatchOption value (held_normalizers result ≡ held_in is_in_use None)
-            (λ b. held_normalizers result ≡ held_in is_in_use (Some b.value)) }
-    {
-        match value {
-            Some(value) => Handle {
-                slot: Slot::of_parts(Parts::of(value)),
-                is_open: true,
-                is_in_use,
-            },
-            None => Handle {
-                slot: Slot::empty(alloc),
-                is_open: false,
-                is_in_use,
-            },
-        }
-    }
-
     /// Returns a handle that has no normalizers.
     pub(crate) fn closed(alloc: Global) -> Handle
         ensures { held_normalizers result ≡ Err NotOpen }
     {
-        Handle::of(alloc, None, false)
+        Handle {
+            slot: Slot::empty(alloc),
+            is_open: false,
+            is_in_use: false,
+        }
     }
 
     fn into_box(self) -> Option<Box<Owner>>
@@ -79,20 +65,25 @@ impl Handle {
         if self.is_in_use {
             return Err(Fault::InUse);
         }
-        match std::mem::replace(self, Handle::of(alloc, None, true)).into_box() {
-            Some(owner) => Ok(owner),
-            None => {
-                *self = Handle::closed(alloc);
-                Err(Fault::NotOpen)
-            }
+        if !self.is_open {
+            return Err(Fault::NotOpen);
         }
+        let slot = std::mem::replace(&mut self.slot, Slot::empty(alloc));
+        self.is_open = false;
+        self.is_in_use = true;
+        Ok(slot.into_parts().into_box())
     }
 
     /// Puts normalizers into the handle, and drops those that were there.
-    pub fn put(&mut self, alloc: Global, owner: Box<Owner>)
+    pub fn put(&mut self, owner: Box<Owner>)
         ensures { held_normalizers self.new ≡ Ok (owned_by owner.value) }
     {
-        std::mem::replace(self, Handle::of(alloc, Some(owner), false)).into_box();
+        let slot = std::mem::replace(&mut self.slot, Slot::of_parts(Parts::of(owner)));
+        let had_one = std::mem::replace(&mut self.is_open, true);
+        self.is_in_use = false;
+        if had_one {
+            slot.into_parts().into_box();
+        }
     }
 
     /// Drops the normalizers of the handle, if it has some. A handle in use stays so.
@@ -117,8 +108,8 @@ impl Handle {
         }
         let owner = self.take(alloc)?;
         let another = owner.another(alloc);
-        self.put(alloc, owner);
-        to.put(alloc, another?);
+        self.put(owner);
+        to.put(another?);
         Ok(())
     }
 }

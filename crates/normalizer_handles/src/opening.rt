@@ -206,7 +206,7 @@ fn hold(alloc: Global, handle: &mut Handle, normalizers: Normalizers) -> Result<
         (λ fault. (held_normalizers handle.new ≡ held_normalizers handle.old) × (fault ≡ Memory)) }
 {
     let owner = Owner::of(alloc, normalizers)?;
-    handle.put(alloc, owner);
+    handle.put(owner);
     Ok(())
 }
 

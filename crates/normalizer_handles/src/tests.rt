@@ -73,7 +73,7 @@ fn is_taken_and_put_back(alloc: Global) -> bool {
     let in_use = !is_opened(alloc, &mut handle, &CODES)
         && handle.share(alloc, &mut other).is_err()
         && other.share(alloc, &mut handle).is_err();
-    handle.put(alloc, owner);
+    handle.put(owner);
     handle.close(alloc);
     opened && in_use
 }
