@@ -3,7 +3,6 @@ ghost use Rattle.std.specs.Prelude.{◌≡◌, ◌↔◌, ◌<◌, ◌||◌, ◌
 ghost use Rattle.std.specs.Prelude.{◌≤◌, All, length, IsTrue, IsOk, IsOkUnless, IsErrOf, Option, Some, None};
 ghost use Rattle.std.specs.Prelude.{if◌then◌else◌, take, MatchOption};
 ghost use Rattle.std.specs.Char.{IsScalar};
-ghost use Rattle.normalizer_sets.specs.CharacterSets.{has};
 ghost use Rattle.normal_forms.specs.Decomposition.{expand};
 ghost use Rattle.normal_forms.specs.ShortRuns.{buffer_limit, HasShortRuns};
 ghost use Rattle.normalizer_check.specs.RequiredConditions.{SuitsTexts};
@@ -19,7 +18,7 @@ ghost use Rattle.normalizer_calls.specs.inner.Offences.{IsFirstOrNone};
 ghost use Rattle.normalizer_calls.specs.inner.PassthroughRuns.{IsSeenSegment, CanFollowMark, CanPassThrough};
 ghost use Rattle.normalizer_calls.specs.inner.ComposingClasses.{composing_class};
 ghost use Rattle.normalizer_calls.specs.inner.FormsOfOne.{text_of_one};
-ghost use Rattle.normalizer_calls.specs.inner.PassthroughRuns.{class_in_order, IsOwnListOfClass};
+ghost use Rattle.normalizer_calls.specs.inner.PassthroughRuns.{class_in_order, IsOwnListOfClass, IsPassingSet};
 ghost use Rattle.normalizer_calls.specs.inner.WrittenParts.{NothingOffered, WritesText};
 
 use crate::boundaries::is_taken_as_boundary;
@@ -34,7 +33,7 @@ use crate::word_classes::{
 };
 use crate::writing::{first_item, write_items};
 use normalizer_iterators::{MarkRun, NormalizeError, SegmentBuffers};
-use normalizer_sets::CharacterSet;
+use normalizer_sets::KnownSet;
 use normalizer_tables::characters::{CharacterData, IgnoredCharacters};
 use normalizer_tables::may_be_second;
 use normalizer_tables::word::{is_class_form, is_ordinary_class_form, is_plain, low_byte};
@@ -82,8 +81,8 @@ pub trait Forming {
         ensures in_order { IfSome result (λ class. class_in_order last class ≡ Some class) };
 
     /// Returns a set of characters that are passed on, with class 0. They aren't looked up.
-    fn passing(&self) -> &CharacterSet
-        ensures { (c : ℕ) → has result.now c ≡ true → passthrough_class self.now c ≡ Some 0 };
+    fn passing(&self) -> KnownSet<'_>
+        ensures { IsPassingSet (passthrough_class self.now) result.set.now };
 
     /// Returns the bound below which every character is passed on, with class 0.
     fn passthrough_bound(&self) -> u32
@@ -248,8 +247,9 @@ impl<'a> Forming for DecomposingForm<'a> {
         self.seen_class(last, character)
     }
 
-    fn passing(&self) -> &CharacterSet {
-        self.characters.plain()
+    #[inline(always)]
+    fn passing(&self) -> KnownSet<'_> {
+        KnownSet::of(self.characters.plain())
     }
 
     fn passthrough_bound(&self) -> u32 {
@@ -388,8 +388,9 @@ impl<'a> Forming for ComposingForm<'a> {
     }
 
     #[tactic(auto, unfolding(crate::specs::inner::ComposingClasses::composing_class, normalizer_tables::specs::conditions::PairConditions::is_composing_passthrough, normalizer_tables::specs::TableSets::has_no_flag))]
-    fn passing(&self) -> &CharacterSet {
-        self.characters.unflagged()
+    #[inline(always)]
+    fn passing(&self) -> KnownSet<'_> {
+        KnownSet::of(self.characters.unflagged())
     }
 
     fn passthrough_bound(&self) -> u32 {

@@ -95,7 +95,7 @@ pub(crate) fn seen_segment<U: Units>(
         if form.begins_by(step.character, word) {
             return Ok(SeenSegment {
                 end,
-                is_before_run: form.passing().contains(step.character),
+                is_before_run: form.passing().set.contains(step.character),
                 becomes: None,
             });
         }

@@ -87,7 +87,7 @@ fn classes_of_block<N: Forming>(normalizer: &N, number: usize) -> [u8; 64]
     requires { number < 2048 }
     ensures { AreOfBlock (N.passthrough_class normalizer.now) (64 * number) result }
 {
-    if has_block(normalizer.passing(), number) {
+    if has_block(normalizer.passing().set, number) {
         return [0; BLOCK];
     }
     let mut block = [UNKNOWN; BLOCK];
@@ -130,7 +130,7 @@ fn known_class<N: Forming>(normalizer: &N, number: u32) -> u8
     let Some(character) = char::from_u32(number) else {
         return UNKNOWN;
     };
-    if normalizer.passing().contains(character) {
+    if normalizer.passing().set.contains(character) {
         return 0;
     }
     normalizer.passthrough_class(character).unwrap_or(UNKNOWN)

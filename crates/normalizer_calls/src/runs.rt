@@ -6,11 +6,12 @@ ghost use Rattle.normalizer_text.specs.DecodingSteps.{IsBoundary};
 ghost use Rattle.normalizer_text.specs.InputCut.{IsInputNormalized};
 ghost use Rattle.normalizer_iterators.specs.CharactersLeft.{EndsFront};
 ghost use Rattle.normalizer_calls.specs.inner.PassthroughRuns.{next_class, IsBeforeLast, IsFrontSegment, IsKept, IsKeptTo};
-ghost use Rattle.normalizer_calls.specs.inner.PassthroughRuns.{GoesOn, IsPassedFront, IsRun, IsRunEnd, IsRunSoFar};
+ghost use Rattle.normalizer_calls.specs.inner.PassthroughRuns.{GoesOn, IsPassedFront, IsPassingSet, IsRun, IsRunEnd, IsRunSoFar};
 
 use crate::changing::changes_alone;
 use crate::forming::Forming;
 use crate::kept::Unseen;
+use normalizer_sets::KnownSet;
 use normalizer_text::{Chars, Step, Units};
 
 /// A run of characters that are passed on as they are: where the marks at its end begin, where it ends, and the character
@@ -235,11 +236,17 @@ fn with_several<U: Units, N: Forming>(normalizer: &N, units: U, run: RunSoFar) -
 
 /// Returns the run with the members of a set after it, which are passed over together.
 #[inline(always)]
-fn with_members<U: Units, N: Forming>(normalizer: &N, units: U, run: RunSoFar) -> RunSoFar
-    requires { IsRunSoFar (N.passthrough_class normalizer.now) U.encoding (U.units units) run }
+fn with_members<U: Units, N: Forming>(
+    normalizer: &N,
+    units: U,
+    run: RunSoFar,
+    passing: KnownSet<'_>,
+) -> RunSoFar
+    requires run { IsRunSoFar (N.passthrough_class normalizer.now) U.encoding (U.units units) run }
+    requires passing { IsPassingSet (N.passthrough_class normalizer.now) passing.set.now }
     ensures { GoesOn (N.passthrough_class normalizer.now) U.encoding (U.units units) run result }
 {
-    let end = units.end_of_members(run.end, normalizer.passing());
+    let end = units.end_of_members(run.end, passing);
     let gaps = gaps_after(run.gaps, end - run.end);
     if end == run.end {
         return RunSoFar {
@@ -263,7 +270,7 @@ fn with_low<U: Units, N: Forming>(normalizer: &N, units: U, run: RunSoFar) -> Ru
     requires { IsRunSoFar (N.passthrough_class normalizer.now) U.encoding (U.units units) run }
     ensures { GoesOn (N.passthrough_class normalizer.now) U.encoding (U.units units) run result }
 {
-    let end = units.end_of_low(run.end, normalizer.passing().first_missing());
+    let end = units.end_of_low(run.end, normalizer.passing().low);
     if end == run.end {
         return run;
     }
@@ -278,11 +285,17 @@ fn with_low<U: Units, N: Forming>(normalizer: &N, units: U, run: RunSoFar) -> Ru
 /// Returns the run with what is passed over at once after it. Where letters and marks alternate, each change between the
 /// two kinds of loop is a branch that isn't foreseen.
 #[inline(always)]
-fn with_more<U: Units, N: Forming>(normalizer: &N, units: U, run: RunSoFar) -> RunSoFar
-    requires { IsRunSoFar (N.passthrough_class normalizer.now) U.encoding (U.units units) run }
+fn with_more<U: Units, N: Forming>(
+    normalizer: &N,
+    units: U,
+    run: RunSoFar,
+    passing: KnownSet<'_>,
+) -> RunSoFar
+    requires run { IsRunSoFar (N.passthrough_class normalizer.now) U.encoding (U.units units) run }
+    requires passing { IsPassingSet (N.passthrough_class normalizer.now) passing.set.now }
     ensures { GoesOn (N.passthrough_class normalizer.now) U.encoding (U.units units) run result }
 {
-    let longer = with_members(normalizer, units, run);
+    let longer = with_members(normalizer, units, run, passing);
     if longer.gaps < NEAR {
         // The parts are copied one by one, so that the loop keeps them in registers.
         let RunSoFar {
@@ -331,7 +344,7 @@ fn first_low<U: Units, N: Forming>(normalizer: &N, units: U) -> RunSoFar
     ensures run { IsRunSoFar (N.passthrough_class normalizer.now) U.encoding (U.units units) result }
     ensures starters { (result.marks ≡ result.end) × (result.last ≡ 0) }
 {
-    let end = units.end_of_low_run(0, normalizer.passing().first_missing());
+    let end = units.end_of_low_run(0, normalizer.passing().low);
     RunSoFar {
         marks: end,
         end,
@@ -357,7 +370,7 @@ fn begins_with_low_pair<U: Units>(units: U, bound: u32) -> bool {
 fn first_few<U: Units, N: Forming>(normalizer: &N, units: U) -> RunSoFar
     ensures { IsRunSoFar (N.passthrough_class normalizer.now) U.encoding (U.units units) result }
 {
-    let bound = normalizer.passing().first_missing();
+    let bound = normalizer.passing().low.number;
     let has_latin = bound >= LATIN;
     if has_latin || !normalizer.holds_back() {
         let low = first_low(normalizer, units);
@@ -435,10 +448,14 @@ fn run_end<U: Units, N: Forming>(normalizer: &N, units: U, known: RunSoFar) -> R
         last: known.last,
         gaps: known.gaps,
     };
+    let passing = normalizer.passing();
     while run.end < units.len() {
         let step = units.step_at(run.end);
         match next_class(normalizer, run.last, step) {
-            Ok(class) => run = with_more(normalizer, units, with_step(run, step, class)),
+            Ok(class) => {
+                let longer = with_step(run, step, class);
+                run = with_more(normalizer, units, longer, passing);
+            }
             Err(unseen) => return stopped(run, step, unseen),
         }
     }
@@ -465,7 +482,7 @@ fn with_one_more<U: Units, N: Forming>(
     if step.is_error {
         return None;
     }
-    if (step.character as u32) < normalizer.passing().first_missing() {
+    if (step.character as u32) < normalizer.passing().low.number {
         return Some(with_low(normalizer, units, with_step(run, step, 0)));
     }
     let class = branched_class(normalizer, run.last, step)?;
@@ -691,7 +708,7 @@ fn long_passthrough_end_after<U: Units, N: Forming>(
         last,
         gaps: UNKNOWN,
     };
-    let first = with_members(normalizer, units, known);
+    let first = with_members(normalizer, units, known, normalizer.passing());
     passed_by(normalizer, units, run_end(normalizer, units, first))
 }
 

@@ -1,5 +1,6 @@
 -- Sets of characters, as words of 64 bits.
-use Rattle.std.specs.Prelude.{◌≡◌, ℕ, ◌/◌, ◌%◌, ◌==◌, ◌<◌, ◌&&◌, All, Bool, not, nat_lt, length, List, map, slice_index_or}
+use Rattle.std.specs.Prelude.{◌≡◌, ℕ, ◌+◌, ◌/◌, ◌%◌, ◌==◌, ◌<◌, ◌&&◌, All, Bool, not, min, nat_lt, if◌then◌else◌}
+use Rattle.std.specs.Prelude.{length, List, map, slice_index_or}
 use Rattle.std.specs.Int.{bit_at, is_in_range}
 
 -- the bit of the number is set: bit n of all words together
@@ -13,6 +14,11 @@ may_have n = nat_lt n 0x110000 && not (is_in_range 0xD800 0xDFFF n) && not (n ==
 -- the set of these words has the number
 unfoldable pub has : List ℕ → ℕ → Bool
 has words n = may_have n && has_bit words n
+
+-- the byte below which bytes of well-formed UTF-8 are of characters below the bound: single bytes, and from the bound
+-- U+00C0 on pairs too, of which each first byte has 64 characters
+abbrev pub low_byte : ℕ → ℕ
+low_byte bound = if nat_lt bound 0xC0 then min bound 0x80 else 0xC0 + min (bound / 64) 0x20
 
 -- the words that these numbers have among those that are kept
 abbrev pub words_at : (kept numbers : List ℕ) → List ℕ

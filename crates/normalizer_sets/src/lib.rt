@@ -3,7 +3,7 @@
 
 ghost use Rattle.std.specs.Prelude.{◌≡◌, ◌==◌, ◌+◌, ◌*◌, ◌/◌, ◌<◌, ◌≤◌, ◌&&◌, ℕ, true, false, length, slice_index_or, IfOk, IfSome, IsTrue};
 ghost use Rattle.std.specs.Int.{bit_at};
-ghost use Rattle.normalizer_sets.specs.CharacterSets.{has, has_bit, may_have, words_at, AreNumbers};
+ghost use Rattle.normalizer_sets.specs.CharacterSets.{has, has_bit, low_byte, may_have, words_at, AreNumbers};
 ghost use Rattle.normalizer_sets.specs.inner.Bits.{ArePageNumbers, CharactersOnly, HasPageAt, IsKept, IsPlane};
 ghost use Rattle.normalizer_sets.specs.inner.Bits.{IsPlaneWithoutSurrogates};
 
@@ -25,6 +25,31 @@ const PAGE: usize = 64;
 /// How many pages there are.
 const PAGES: usize = 256;
 
+/// A number, the characters below which are called low, and the byte below which bytes of well-formed UTF-8 are of low
+/// characters.
+#[derive(Clone, Copy)]
+pub struct LowBound {
+    pub number: u32,
+    pub byte: u32,
+    ghost within: { number ≤ 0xD800 },
+    ghost spelled: { byte ≡ low_byte number },
+}
+
+impl LowBound {
+    /// Returns the bound with this number.
+    fn new(number: u32) -> Self
+        requires { number ≤ 0xD800 }
+        ensures { result.number ≡ number }
+    {
+        let byte = if number < 0xC0 {
+            number.min(0x80)
+        } else {
+            0xC0 + (number / 64).min(0x20)
+        };
+        LowBound { number, byte }
+    }
+}
+
 /// A set of characters. U+FFFD is in none, nor are surrogates.
 #[derive(Drop)]
 pub struct CharacterSet {
@@ -33,8 +58,8 @@ pub struct CharacterSet {
     words: Vec<u64>,
     /// Where in `words` each page begins.
     pages: Vec<u16>,
-    /// The least number without a bit.
-    low: u32,
+    /// That of the least number without a bit.
+    low: LowBound,
 }
 
 impl Model for CharacterSet {
@@ -45,7 +70,7 @@ impl Model for CharacterSet {
 
     ghost view = { λ set. all_words set.words.items set.pages.items };
 
-    ghost invariant = { λ set. IsSet set.words.items set.pages.items set.low };
+    ghost invariant = { λ set. IsSet set.words.items set.pages.items set.low.number };
 }
 
 impl CharacterSet {
@@ -60,7 +85,7 @@ impl CharacterSet {
         ensures { IfOk result (λ set. (n : ℕ) → has set n ≡ has (words_at kept.now numbers.now) n) }
     {
         let mut words = plane(alloc, kept, numbers)?;
-        let low = first_missing(&words);
+        let low = LowBound::new(first_missing(&words));
         let mut pages = Vec::with_capacity(alloc, PAGES)?;
         for page in 0..PAGES {
             let start = PLANE + page * PAGE;
@@ -75,11 +100,11 @@ impl CharacterSet {
         *self.words.allocator()
     }
 
-    /// Returns the least number that isn't in the set.
+    /// Returns the bound that is the least number that isn't in the set.
     #[inline(always)]
-    pub fn first_missing(&self) -> u32
-        ensures below { (n : ℕ) → n < result → has self.now n ≡ true }
-        ensures missing { has self.now result ≡ false }
+    pub fn low(&self) -> LowBound
+        ensures below { (n : ℕ) → n < result.number → has self.now n ≡ true }
+        ensures missing { has self.now result.number ≡ false }
     {
         self.low
     }
@@ -138,6 +163,25 @@ impl Clone for CharacterSet {
             pages: self.pages.clone()?,
             low: self.low,
         })
+    }
+}
+
+/// A set whose bound is read, so that loops over it keep the bound in registers.
+#[derive(Clone, Copy)]
+pub struct KnownSet<'a> {
+    pub set: &'a CharacterSet,
+    pub low: LowBound,
+    ghost below: { (n : ℕ) → n < low.number → has set.now n ≡ true },
+}
+
+impl<'a> KnownSet<'a> {
+    /// Reads the bound of a set.
+    #[inline(always)]
+    pub fn of(set: &'a CharacterSet) -> Self
+        ensures { result.set.now ≡ set.now }
+    {
+        let low = set.low();
+        KnownSet { set, low }
     }
 }
 

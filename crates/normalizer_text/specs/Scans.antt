@@ -1,5 +1,5 @@
 -- Scanning units.
-use Rattle.std.specs.Prelude.{ℕ, ◌+◌, ◌/◌, ◌<◌, ◌≤◌, Bool, List, [], ◌∷◌, nat_lt, min, if◌then◌else◌, All}
+use Rattle.std.specs.Prelude.{ℕ, ◌+◌, ◌<◌, ◌≤◌, Bool, List, [], ◌∷◌, nat_lt, if◌then◌else◌, All}
 use Rattle.std.specs.List.{prefix_len, slice_range}
 use Rattle.normalizer_text.specs.Encodings.{Encoding, first_in, decoded_in}
 use Rattle.normalizer_text.specs.declared.decoding_step.Step.{Step}
@@ -14,11 +14,6 @@ pub record EndsLowCharacters (e : Encoding) (units : List ℕ) (from bound to : 
   pub behind : from ≤ to
   pub boundary : IsBoundary (first_in e) units to
   pub low : All (λ c. c < bound) (decoded_in e (slice_range units from to))
-
--- the byte below which bytes of well-formed UTF-8 are of characters below the bound: single bytes, and from the bound
--- U+00C0 on pairs too, of which each first byte has 64 characters
-abbrev pub low_byte : ℕ → ℕ
-low_byte bound = if nat_lt bound 0xC0 then min bound 0x80 else 0xC0 + min (bound / 64) 0x20
 
 -- the number of units that a step takes, if its character passes the test, and otherwise 0
 abbrev pub width_in : (ℕ → Bool) → Step → ℕ

@@ -1,11 +1,12 @@
 //! Passing over bytes of low characters in text that may not be UTF-8: single bytes and sequences of two, as many bytes
 //! at a time as a vector holds.
 ghost use Rattle.std.specs.Prelude.{◌≡◌, ◌+◌, ◌<◌, ◌≤◌, length, IfSome, IsTrue};
-ghost use Rattle.normalizer_text.specs.Scans.{low_byte};
+ghost use Rattle.normalizer_sets.specs.CharacterSets.{low_byte};
 ghost use Rattle.normalizer_text.specs.inner.LowBytes.{leading_linked, EndsLowBytes};
 
 use crate::utf8::Lead;
 use crate::{scan, utf8};
+use normalizer_sets::LowBound;
 use std::simd::prelude::*;
 
 /// How many bytes each vector holds.
@@ -18,13 +19,13 @@ const FEW_PAIRS: u32 = 0x100;
 /// Returns an end of bytes from a position on that are well-formed and of characters below a bound, found by vectors if
 /// the first of them is seen at once to be so.
 #[inline(always)]
-pub(crate) fn end_of_low_bytes(bytes: &[u8], position: usize, bound: u32) -> usize
+pub(crate) fn end_of_low_bytes(bytes: &[u8], position: usize, bound: LowBound) -> usize
     requires { position ≤ length bytes.now }
-    ensures { EndsLowBytes (low_byte bound) bytes.now position result }
+    ensures { EndsLowBytes (low_byte bound.number) bytes.now position result }
 {
-    let end = scan::end_of_below(bytes, position, bound.min(utf8::ASCII));
+    let end = scan::end_of_below(bytes, position, bound.number.min(utf8::ASCII));
     if looks_for_pairs(bytes, end, bound) && is_low_lead(bytes[end], bound) {
-        end_of_pairs(bytes, end, utf8::low_byte_bound(bound))
+        end_of_pairs(bytes, end, bound.byte)
     } else {
         end
     }
@@ -32,15 +33,15 @@ pub(crate) fn end_of_low_bytes(bytes: &[u8], position: usize, bound: u32) -> usi
 
 /// Returns such an end after other characters, if two low bytes are next.
 #[inline(always)]
-pub(crate) fn low_run_after_others(bytes: &[u8], position: usize, bound: u32) -> Option<usize>
+pub(crate) fn low_run_after_others(bytes: &[u8], position: usize, bound: LowBound) -> Option<usize>
     requires { position ≤ length bytes.now }
-    ensures low { IfSome result (EndsLowBytes (low_byte bound) bytes.now position) }
+    ensures low { IfSome result (EndsLowBytes (low_byte bound.number) bytes.now position) }
     ensures further { IfSome result (λ end. position < end) }
 {
     if !looks_for_pairs(bytes, position, bound) {
-        return scan::end_of_run(bytes, position, bound.min(utf8::ASCII));
+        return scan::end_of_run(bytes, position, bound.number.min(utf8::ASCII));
     }
-    let limit = utf8::low_byte_bound(bound);
+    let limit = bound.byte;
     if !scan::begins_run(bytes, position, limit) {
         return None;
     }
@@ -50,17 +51,17 @@ pub(crate) fn low_run_after_others(bytes: &[u8], position: usize, bound: u32) ->
 
 /// Whether sequences of two are looked for: below the bound there are many, and enough bytes are left.
 #[inline(always)]
-fn looks_for_pairs(bytes: &[u8], position: usize, bound: u32) -> bool
+fn looks_for_pairs(bytes: &[u8], position: usize, bound: LowBound) -> bool
     requires { position ≤ length bytes.now }
     ensures { IsTrue result → position + FEWER_LANES < length bytes.now }
 {
-    bound > FEW_PAIRS && bytes.len() - position > FEWER_LANES
+    bound.number > FEW_PAIRS && bytes.len() - position > FEWER_LANES
 }
 
 /// Whether a byte leads a sequence of two, of which all are of characters below the bound.
 #[inline(always)]
-fn is_low_lead(byte: u8, bound: u32) -> bool {
-    Lead::OfTwo.matches(byte) && (u32::from(byte) - 0xBF) * 64 <= bound
+fn is_low_lead(byte: u8, bound: LowBound) -> bool {
+    Lead::OfTwo.matches(byte) && (u32::from(byte) - 0xBF) * 64 <= bound.number
 }
 
 /// Returns such an end of bytes below a limit, up to the last few. It is for bytes among which there are sequences of two:

@@ -6,7 +6,7 @@ ghost use Rattle.std.specs.List.{prefix_len};
 ghost use Rattle.normalizer_sets.specs.CharacterSets.{has};
 ghost use Rattle.normalizer_text.specs.DecodingSteps.{steps, IsBoundary};
 ghost use Rattle.normalizer_text.specs.Encodings.{Encoding, first_in};
-ghost use Rattle.normalizer_text.specs.Scans.{leading_below, low_byte, width_in, width_within, EndsLowCharacters};
+ghost use Rattle.normalizer_text.specs.Scans.{leading_below, width_in, width_within, EndsLowCharacters};
 ghost use Rattle.normalizer_text.specs.Utf16.{first_of_utf16};
 ghost use Rattle.normalizer_text.specs.inner.Leads.{width_led_by, IsLead};
 ghost use Rattle.normalizer_text.specs.inner.PairMembers.{has_pair_in_front};
@@ -16,7 +16,7 @@ use crate::decoding_step::Step;
 use crate::units::Units;
 use crate::utf8::Lead;
 use crate::{low_bytes, scan, utf8, utf16};
-use normalizer_sets::CharacterSet;
+use normalizer_sets::{CharacterSet, KnownSet, LowBound};
 use std::ops::ControlFlow;
 
 /// How many 16-bit units are looked up together.
@@ -41,20 +41,20 @@ pub(crate) trait Members: Copy {
         ensures { result ≡ length (units self) };
 
     /// An end of characters from a position on that are below a bound, found by vectors.
-    fn end_of_low_run(self, position: usize, bound: u32) -> usize
+    fn end_of_low_run(self, position: usize, bound: LowBound) -> usize
         requires { IsBoundary (first_in encoding) (units self) position }
-        ensures { EndsLowCharacters encoding (units self) position bound result };
+        ensures { EndsLowCharacters encoding (units self) position bound.number result };
 
     /// Such an end after other characters, if two low units are next.
-    fn low_run_after_others(self, position: usize, bound: u32) -> Option<usize>
+    fn low_run_after_others(self, position: usize, bound: LowBound) -> Option<usize>
         requires { IsBoundary (first_in encoding) (units self) position }
-        ensures low { IfSome result (EndsLowCharacters encoding (units self) position bound) }
+        ensures low { IfSome result (EndsLowCharacters encoding (units self) position bound.number) }
         ensures further { IfSome result (λ end. position < end) };
 
     /// Such an end, found unit by unit.
-    fn end_of_low(self, position: usize, bound: u32) -> usize
+    fn end_of_low(self, position: usize, bound: LowBound) -> usize
         requires { IsBoundary (first_in encoding) (units self) position }
-        ensures { EndsLowCharacters encoding (units self) position bound result };
+        ensures { EndsLowCharacters encoding (units self) position bound.number result };
 
     /// The step at a position.
     fn step_at(self, position: usize) -> Step
@@ -77,10 +77,10 @@ pub(crate) trait Members: Copy {
 
 /// Returns the end of the steps from a position on whose characters are all in the set.
 #[inline(always)]
-pub(crate) fn end_of_members<M: Members>(units: M, position: usize, set: &CharacterSet) -> usize
+pub(crate) fn end_of_members<M: Members>(units: M, position: usize, set: KnownSet<'_>) -> usize
     requires { IsBoundary (first_in M.encoding) (M.units units) position }
     ensures { result ≡ position
-        + width_within (has set.now) (steps (first_in M.encoding) (drop position (M.units units))) }
+        + width_within (has set.entry.set.now) (steps (first_in M.encoding) (drop position (M.units units))) }
 {
     match passed_members(units, position, set) {
         ControlFlow::Continue(end) => end,
@@ -93,13 +93,13 @@ pub(crate) fn end_of_members<M: Members>(units: M, position: usize, set: &Charac
 fn passed_members<M: Members>(
     units: M,
     position: usize,
-    set: &CharacterSet,
+    set: KnownSet<'_>,
 ) -> ControlFlow<usize, usize>
     requires { IsBoundary (first_in M.encoding) (M.units units) position }
-    ensures { let end = end_within (has set.now) M.encoding (M.units units) position in
+    ensures { let end = end_within (has set.entry.set.now) M.encoding (M.units units) position in
         MatchControlFlow result (λ r. r ≡ end) (λ r. r ≡ end) }
 {
-    let bound = set.first_missing();
+    let bound = set.low;
     let mut end = units.end_of_low_run(position, bound);
     while end < units.len() {
         let next = passed_members_led_by(units, end, set, Lead::OfTwo)?;
@@ -111,10 +111,10 @@ fn passed_members<M: Members>(
 
 /// Returns the same end of a short text. After the low units that it begins with, characters are looked up one by one.
 #[inline(always)]
-pub(crate) fn end_of_few_members<M: Members>(units: M, position: usize, set: &CharacterSet) -> usize
+pub(crate) fn end_of_few_members<M: Members>(units: M, position: usize, set: KnownSet<'_>) -> usize
     requires { IsBoundary (first_in M.encoding) (M.units units) position }
     ensures { result ≡ position
-        + width_within (has set.now) (steps (first_in M.encoding) (drop position (M.units units))) }
+        + width_within (has set.entry.set.now) (steps (first_in M.encoding) (drop position (M.units units))) }
 {
     match passed_few(units, position, set) {
         ControlFlow::Continue(end) => end,
@@ -124,16 +124,12 @@ pub(crate) fn end_of_few_members<M: Members>(units: M, position: usize, set: &Ch
 
 /// Passes over members of a short text, and breaks off at a step that is none.
 #[inline(always)]
-fn passed_few<M: Members>(
-    units: M,
-    position: usize,
-    set: &CharacterSet,
-) -> ControlFlow<usize, usize>
+fn passed_few<M: Members>(units: M, position: usize, set: KnownSet<'_>) -> ControlFlow<usize, usize>
     requires { IsBoundary (first_in M.encoding) (M.units units) position }
-    ensures { let end = end_within (has set.now) M.encoding (M.units units) position in
+    ensures { let end = end_within (has set.entry.set.now) M.encoding (M.units units) position in
         MatchControlFlow result (λ r. r ≡ end) (λ r. r ≡ end) }
 {
-    let bound = set.first_missing();
+    let bound = set.low;
     let mut end = units.end_of_low_run(position, bound);
     while end < units.len() {
         let next = passed_kinds(units, end, set, (Lead::OfTwo, Lead::OfThree))?;
@@ -148,16 +144,16 @@ fn passed_few<M: Members>(
 fn passed_members_led_by<M: Members>(
     units: M,
     position: usize,
-    set: &CharacterSet,
+    set: KnownSet<'_>,
     lead: Lead,
 ) -> ControlFlow<usize, usize>
     requires { IsBoundary (first_in M.encoding) (M.units units) position }
-    ensures { IsPassed (has set.now) M.encoding (M.units units) position result }
+    ensures { IsPassed (has set.entry.set.now) M.encoding (M.units units) position result }
 {
     let width = lead.width();
     let mut end = position;
     while units.len() - end >= width && units.is_lead_at(end, lead) {
-        if !units.has_member_led_by(end, lead, set) {
+        if !units.has_member_led_by(end, lead, set.set) {
             return ControlFlow::Break(end);
         }
         end += width;
@@ -171,13 +167,13 @@ fn passed_members_led_by<M: Members>(
 fn passed_low_or_kinds<M: Members>(
     units: M,
     position: usize,
-    set: &CharacterSet,
+    set: KnownSet<'_>,
 ) -> ControlFlow<usize, usize>
     requires { IsBoundary (first_in M.encoding) (M.units units) position }
-    ensures passed { IsPassed (has set.now) M.encoding (M.units units) position result }
+    ensures passed { IsPassed (has set.entry.set.now) M.encoding (M.units units) position result }
     ensures further { ForContinue result (λ end. position < end) }
 {
-    match units.low_run_after_others(position, set.first_missing()) {
+    match units.low_run_after_others(position, set.low) {
         Some(end) => ControlFlow::Continue(end),
         None => passed_kinds(units, position, set, (Lead::OfOne, Lead::OfFour)),
     }
@@ -189,17 +185,17 @@ fn passed_low_or_kinds<M: Members>(
 fn passed_kinds<M: Members>(
     units: M,
     position: usize,
-    set: &CharacterSet,
+    set: KnownSet<'_>,
     kinds: (Lead, Lead),
 ) -> ControlFlow<usize, usize>
     requires { IsBoundary (first_in M.encoding) (M.units units) position }
-    ensures passed { IsPassed (has set.now) M.encoding (M.units units) position result }
+    ensures passed { IsPassed (has set.entry.set.now) M.encoding (M.units units) position result }
     ensures further { ForContinue result (λ end. position < end) }
 {
     let next = passed_members_led_by(units, position, set, kinds.0)?;
     let end = passed_members_led_by(units, next, set, kinds.1)?;
     if end == position {
-        return passed_step(units, position, set);
+        return passed_step(units, position, set.set);
     }
     ControlFlow::Continue(end)
 }
@@ -235,17 +231,17 @@ impl<'a> Members for &'a str {
     }
 
     #[inline(always)]
-    fn end_of_low_run(self, position: usize, bound: u32) -> usize {
+    fn end_of_low_run(self, position: usize, bound: LowBound) -> usize {
         <&'a str as Units>::end_of_low_run(self, position, bound)
     }
 
     #[inline(always)]
-    fn low_run_after_others(self, position: usize, bound: u32) -> Option<usize> {
-        scan::end_of_run(self.as_bytes(), position, utf8::low_byte_bound(bound))
+    fn low_run_after_others(self, position: usize, bound: LowBound) -> Option<usize> {
+        scan::end_of_run(self.as_bytes(), position, bound.byte)
     }
 
     #[inline(always)]
-    fn end_of_low(self, position: usize, bound: u32) -> usize {
+    fn end_of_low(self, position: usize, bound: LowBound) -> usize {
         <&'a str as Units>::end_of_low(self, position, bound)
     }
 
@@ -274,17 +270,17 @@ impl<'a> Members for &'a [u8] {
     }
 
     #[inline(always)]
-    fn end_of_low_run(self, position: usize, bound: u32) -> usize {
+    fn end_of_low_run(self, position: usize, bound: LowBound) -> usize {
         <&'a [u8] as Units>::end_of_low_run(self, position, bound)
     }
 
     #[inline(always)]
-    fn low_run_after_others(self, position: usize, bound: u32) -> Option<usize> {
+    fn low_run_after_others(self, position: usize, bound: LowBound) -> Option<usize> {
         low_bytes::low_run_after_others(self, position, bound)
     }
 
     #[inline(always)]
-    fn end_of_low(self, position: usize, bound: u32) -> usize {
+    fn end_of_low(self, position: usize, bound: LowBound) -> usize {
         <&'a [u8] as Units>::end_of_low(self, position, bound)
     }
 
@@ -305,18 +301,18 @@ impl<'a> Members for &'a [u8] {
 
 /// Returns the same end of 16-bit units.
 #[inline(always)]
-pub(crate) fn end_of_unit_members(units: &[u16], position: usize, set: &CharacterSet) -> usize
+pub(crate) fn end_of_unit_members(units: &[u16], position: usize, set: KnownSet<'_>) -> usize
     requires { IsBoundary first_of_utf16 units.now position }
     ensures { result ≡ position
-        + width_within (has set.now) (steps first_of_utf16 (drop position units.now)) }
+        + width_within (has set.entry.set.now) (steps first_of_utf16 (drop position units.now)) }
 {
     let mut end = position;
     while end < units.len() {
         end = end_of_single_members(units, end, set);
-        if !has_pair_at(units, end, set) {
+        if !has_pair_at(units, end, set.set) {
             return end;
         }
-        end = end_after_pair(units, end + 2, set);
+        end = end_after_pair(units, end + 2, set.set);
     }
     end
 }
@@ -399,20 +395,20 @@ fn with_step(pairs: u8, width: usize) -> u8
 /// Returns the end of the units from a position on that are members by themselves. Low ones, and then none or one, as a
 /// space between others, are passed over without a call.
 #[inline(always)]
-fn end_of_single_members(units: &[u16], position: usize, set: &CharacterSet) -> usize
+fn end_of_single_members(units: &[u16], position: usize, set: KnownSet<'_>) -> usize
     requires { position ≤ length units.now }
-    ensures { result ≡ position + prefix_len (has set.now) (drop position units.now) }
+    ensures { result ≡ position + prefix_len (has set.entry.set.now) (drop position units.now) }
 {
-    let limit = set.first_missing();
+    let limit = set.low.number;
     let end = scan::end_of_below(units, position, limit);
     if units.len() - end <= FEW {
-        return end_of_few_singles(units, end, set);
+        return end_of_few_singles(units, end, set.set);
     }
-    if !set.has_unit(units[end]) {
+    if !set.set.has_unit(units[end]) {
         return end;
     }
     let next = end + 1;
-    if !set.has_unit(units[next]) {
+    if !set.set.has_unit(units[next]) {
         return next;
     }
     end_of_single_run(units, end, set)
@@ -420,27 +416,27 @@ fn end_of_single_members(units: &[u16], position: usize, set: &CharacterSet) -> 
 
 /// Returns the same end of more units. It isn't inlined, so that its loops have the registers for themselves.
 #[inline(never)]
-fn end_of_single_run(units: &[u16], position: usize, set: &CharacterSet) -> usize
+fn end_of_single_run(units: &[u16], position: usize, set: KnownSet<'_>) -> usize
     requires { position ≤ length units.now }
-    ensures { result ≡ position + prefix_len (has set.now) (drop position units.now) }
+    ensures { result ≡ position + prefix_len (has set.entry.set.now) (drop position units.now) }
 {
-    let limit = set.first_missing();
+    let limit = set.low.number;
     let mut end = position;
     while units.len() - end >= GROUP {
         if is_before_low_run(units, end, limit) {
-            if !set.has_unit(units[end]) {
+            if !set.set.has_unit(units[end]) {
                 return end;
             }
             end = scan::end_of_below(units, end + 1, limit);
         } else {
-            let members = members_in_group(units, end, set);
+            let members = members_in_group(units, end, set.set);
             if members != GROUP {
                 return end + members;
             }
             end += GROUP;
         }
     }
-    end_of_few_singles(units, end, set)
+    end_of_few_singles(units, end, set.set)
 }
 
 /// Returns the same end, unit by unit.

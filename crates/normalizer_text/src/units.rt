@@ -11,7 +11,7 @@ ghost use Rattle.normalizer_text.specs.Scans.{width_within, EndsLowCharacters};
 use crate::decoding_step::Step;
 use crate::utf8::Lead;
 use crate::{low_bytes, members, scan, utf8, utf16};
-use normalizer_sets::CharacterSet;
+use normalizer_sets::{KnownSet, LowBound};
 
 /// No step takes more units.
 const LONGEST_STEP: usize = 4;
@@ -56,27 +56,27 @@ pub trait Units: Copy {
         ensures { units result ≡ drop position (units self) };
 
     /// Returns the end of the steps from a position on whose characters are all in the set.
-    fn end_of_members(self, position: usize, set: &CharacterSet) -> usize
+    fn end_of_members(self, position: usize, set: KnownSet<'_>) -> usize
         requires { IsBoundary (first_in encoding) (units self) position }
         ensures { result ≡ position
-            + width_within (has set.now) (steps (first_in encoding) (drop position (units self))) };
+            + width_within (has set.entry.set.now) (steps (first_in encoding) (drop position (units self))) };
 
     /// Returns the same end, found in fewer instructions if there are few units.
-    fn end_of_few_members(self, position: usize, set: &CharacterSet) -> usize
+    fn end_of_few_members(self, position: usize, set: KnownSet<'_>) -> usize
         requires { IsBoundary (first_in encoding) (units self) position }
         ensures { result ≡ position
-            + width_within (has set.now) (steps (first_in encoding) (drop position (units self))) };
+            + width_within (has set.entry.set.now) (steps (first_in encoding) (drop position (units self))) };
 
     /// Returns an end of characters from a position on that are below a bound. They are passed over unit by unit, up to
     /// the first unit that isn't seen at once to be of such a character.
-    fn end_of_low(self, position: usize, bound: u32) -> usize
+    fn end_of_low(self, position: usize, bound: LowBound) -> usize
         requires { IsBoundary (first_in encoding) (units self) position }
-        ensures { EndsLowCharacters encoding (units self) position bound result };
+        ensures { EndsLowCharacters encoding (units self) position bound.number result };
 
     /// Returns such an end, found by vectors if the first unit is seen at once to be of such a character.
-    fn end_of_low_run(self, position: usize, bound: u32) -> usize
+    fn end_of_low_run(self, position: usize, bound: LowBound) -> usize
         requires { IsBoundary (first_in encoding) (units self) position }
-        ensures { EndsLowCharacters encoding (units self) position bound result };
+        ensures { EndsLowCharacters encoding (units self) position bound.number result };
 
     final fn is_empty(self) -> bool
         ensures { result ≡ (length (units self) == 0) }
@@ -162,22 +162,22 @@ impl<'a> Units for &'a str {
     }
 
     #[inline(always)]
-    fn end_of_low(self, position: usize, bound: u32) -> usize {
-        scan::end_by_units(self.as_bytes(), position, utf8::low_byte_bound(bound))
+    fn end_of_low(self, position: usize, bound: LowBound) -> usize {
+        scan::end_by_units(self.as_bytes(), position, bound.byte)
     }
 
     #[inline(always)]
-    fn end_of_low_run(self, position: usize, bound: u32) -> usize {
-        scan::end_of_below(self.as_bytes(), position, utf8::low_byte_bound(bound))
+    fn end_of_low_run(self, position: usize, bound: LowBound) -> usize {
+        scan::end_of_below(self.as_bytes(), position, bound.byte)
     }
 
     #[inline(always)]
-    fn end_of_members(self, position: usize, set: &CharacterSet) -> usize {
+    fn end_of_members(self, position: usize, set: KnownSet<'_>) -> usize {
         members::end_of_members(self, position, set)
     }
 
     #[inline(always)]
-    fn end_of_few_members(self, position: usize, set: &CharacterSet) -> usize {
+    fn end_of_few_members(self, position: usize, set: KnownSet<'_>) -> usize {
         members::end_of_few_members(self, position, set)
     }
 
@@ -214,22 +214,22 @@ impl<'a> Units for &'a [u8] {
     }
 
     #[inline(always)]
-    fn end_of_low(self, position: usize, bound: u32) -> usize {
-        scan::end_by_units(self, position, bound.min(utf8::ASCII))
+    fn end_of_low(self, position: usize, bound: LowBound) -> usize {
+        scan::end_by_units(self, position, bound.number.min(utf8::ASCII))
     }
 
     #[inline(always)]
-    fn end_of_low_run(self, position: usize, bound: u32) -> usize {
+    fn end_of_low_run(self, position: usize, bound: LowBound) -> usize {
         low_bytes::end_of_low_bytes(self, position, bound)
     }
 
     #[inline(always)]
-    fn end_of_members(self, position: usize, set: &CharacterSet) -> usize {
+    fn end_of_members(self, position: usize, set: KnownSet<'_>) -> usize {
         members::end_of_members(self, position, set)
     }
 
     #[inline(always)]
-    fn end_of_few_members(self, position: usize, set: &CharacterSet) -> usize {
+    fn end_of_few_members(self, position: usize, set: KnownSet<'_>) -> usize {
         members::end_of_few_members(self, position, set)
     }
 
@@ -266,22 +266,22 @@ impl<'a> Units for &'a [u16] {
     }
 
     #[inline(always)]
-    fn end_of_low(self, position: usize, bound: u32) -> usize {
-        scan::end_by_units(self, position, bound.min(utf16::SURROGATES))
+    fn end_of_low(self, position: usize, bound: LowBound) -> usize {
+        scan::end_by_units(self, position, bound.number)
     }
 
     #[inline(always)]
-    fn end_of_low_run(self, position: usize, bound: u32) -> usize {
-        scan::end_of_below(self, position, bound.min(utf16::SURROGATES))
+    fn end_of_low_run(self, position: usize, bound: LowBound) -> usize {
+        scan::end_of_below(self, position, bound.number)
     }
 
     #[inline(always)]
-    fn end_of_members(self, position: usize, set: &CharacterSet) -> usize {
+    fn end_of_members(self, position: usize, set: KnownSet<'_>) -> usize {
         members::end_of_unit_members(self, position, set)
     }
 
     #[inline(always)]
-    fn end_of_few_members(self, position: usize, set: &CharacterSet) -> usize {
+    fn end_of_few_members(self, position: usize, set: KnownSet<'_>) -> usize {
         members::end_of_unit_members(self, position, set)
     }
 

@@ -7,9 +7,6 @@ ghost use Rattle.normalizer_text.specs.Utf16.{is_high, is_low, pair_value, first
 use crate::decoding_step::Step;
 use normalizer_sets::CharacterSet;
 
-/// The first surrogate. Units below it are characters by themselves.
-pub(crate) const SURROGATES: u32 = 0xD800;
-
 /// The first unit of a pair (D72).
 fn is_high_surrogate(unit: u32) -> bool
     ensures { result ≡ is_high unit }

@@ -3,7 +3,7 @@ ghost use Rattle.std.specs.Prelude.{◌≡◌, ◌+◌, ◌<◌, ◌≤◌, if�
 ghost use Rattle.std.specs.Prelude.{length, option_map, slice_index, slice_index_or};
 ghost use Rattle.std.specs.Str.{continuation_len};
 ghost use Rattle.normalizer_sets.specs.CharacterSets.{has};
-ghost use Rattle.normalizer_text.specs.Scans.{low_byte, width_in};
+ghost use Rattle.normalizer_text.specs.Scans.{width_in};
 ghost use Rattle.normalizer_text.specs.DecodingSteps.{IsWellFormed};
 ghost use Rattle.normalizer_text.specs.Utf8.{continuation, allows, row_of, matched_count, scalar_value, first_of_utf8};
 ghost use Rattle.normalizer_text.specs.MaximalSubparts.{IsWellFormedSequence};
@@ -158,17 +158,6 @@ fn length_of_sequence(lead: u8) -> usize
         0xE0..=0xEF => 3,
         _ => 4,
     }
-}
-
-/// A byte below which the bytes of well-formed UTF-8 are of characters below the bound.
-#[inline(always)]
-pub(crate) fn low_byte_bound(bound: u32) -> u32
-    ensures { result ≡ low_byte bound }
-{
-    // Both are computed, so that no branch keeps a caller from computing it once.
-    let single = bound.min(0x80);
-    let pair = 0xC0 + (bound / 64).min(0x20);
-    if bound < 0xC0 { single } else { pair }
 }
 
 /// The first step of well-formed bytes that aren't empty: the first byte says how many it takes.

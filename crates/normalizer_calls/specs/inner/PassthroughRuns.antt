@@ -2,6 +2,7 @@
 use Rattle.std.specs.Prelude.{◌≡◌, ◌≢◌, ℕ, ◌-◌, ◌<◌, ◌≤◌, Bool, true, false, ◌||◌, ◌&&◌, ◌==◌, nat_le}
 use Rattle.std.specs.Prelude.{if◌then◌else◌}
 use Rattle.std.specs.Prelude.{List, [], ◌∷◌, ◌++◌, length, take, drop, All, IfSome, Option, Some, None, option_and_then}
+use Rattle.normalizer_sets.specs.CharacterSets.{has}
 use Rattle.normal_forms.specs.Reading.{Reading, IsStarter, ReadsAsItself}
 use Rattle.normal_forms.specs.declared.Form.{Form}
 use Rattle.normal_forms.specs.declared.Form.TheVariants.{Composing}
@@ -19,6 +20,10 @@ use Rattle.normalizer_calls.specs.declared.runs.Composite.{Composite}
 use Rattle.normalizer_calls.specs.declared.runs.Kept.{Kept}
 use Rattle.normalizer_calls.specs.declared.runs.RunSoFar.{RunSoFar}
 use Rattle.normalizer_calls.specs.declared.runs.Segment.{Segment}
+
+-- each member passes, with class 0
+abbrev pub IsPassingSet : (passed : ℕ → Option ℕ) (set : List ℕ) → Type 0
+IsPassingSet passed set = (c : ℕ) → has set c ≡ true → passed c ≡ Some 0
 
 -- however much of the rest is read after the front, both are normalized apart
 abbrev pub Divides : Reading → Form → List ℕ → List ℕ → Type 0

@@ -13,7 +13,8 @@ use Rattle.std.proofs.lemmas.Simd.{get_or-chunk, length-chunk}
 use Rattle.std.proofs.lemmas.List.Elements.{All-append, All-cons, All-head, All-nil, All-same, All-tail}
 use Rattle.normalizer_text.specs.DecodingSteps.{steps, IsBoundary, IsWellFormed}
 use Rattle.normalizer_text.specs.Encodings.{Encoding}
-use Rattle.normalizer_text.specs.Scans.{leading_below, low_byte, EndsLowCharacters}
+use Rattle.normalizer_sets.specs.CharacterSets.{low_byte}
+use Rattle.normalizer_text.specs.Scans.{leading_below, EndsLowCharacters}
 use Rattle.normalizer_text.specs.Utf8.{allows, continuation, first_of_utf8}
 use Rattle.normalizer_text.specs.inner.LowBytes.{is_linked, leading_linked, EndsLowBytes}
 use Rattle.normalizer_text.proofs.scans.LowLemmas.{character-low, decoded-All, first-ascii}

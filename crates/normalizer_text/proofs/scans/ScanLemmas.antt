@@ -16,7 +16,8 @@ use Rattle.std.proofs.lemmas.Simd.{chunk-drop, length-chunk, get_or-chunk, tops_
 use Rattle.std.proofs.lemmas.List.Sums.{prefix_len-drop_all, prefix_len-le-length, prefix_len_stops, prefix_len_is}
 use Rattle.std.proofs.lemmas.List.Elements.{All-nil, All-cons, All-head, All-tail, All-same, All-weaker}
 use Rattle.normalizer_text.specs.Encodings.{Encoding, first_in, decoded_in}
-use Rattle.normalizer_text.specs.Scans.{leading_below, low_byte, EndsLowCharacters}
+use Rattle.normalizer_sets.specs.CharacterSets.{low_byte}
+use Rattle.normalizer_text.specs.Scans.{leading_below, EndsLowCharacters}
 use Rattle.normalizer_text.specs.DecodingSteps.{read, steps, IsWellFormed, IsBoundary}
 use Rattle.normalizer_text.specs.Utf8.{allows, continuation, first_of_utf8, decoded_utf8}
 use Rattle.normalizer_text.specs.Utf16.{first_of_utf16}

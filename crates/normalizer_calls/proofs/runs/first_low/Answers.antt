@@ -11,5 +11,5 @@ end_of_low_run-end-requires g c = boundary-start g.U.Units.encoding (g.U.Units.u
 pub returns-clause-run : goal.returns-clause-run
 returns-clause-run g c =
     IsRun-starters _ _ _ _
-    (IsPassthroughTo-low _ _ _ (has c.passing.result.now) (λ n is. ((has-IsCandidate c.passing.result.now n is).other, c.passing.ensures n is)) _ _ _ _
-    c.first_missing.ensures.below c.end_of_low_run-end.ensures (λ _. refl) (IsPassthroughTo-none _ _ _))
+    (IsPassthroughTo-low _ _ _ (has c.passing.result.set.now) (λ n is. ((has-IsCandidate c.passing.result.set.now n is).other, c.passing.ensures n is)) _ _ _ _
+    c.passing.result.below c.end_of_low_run-end.ensures (λ _. refl) (IsPassthroughTo-none _ _ _))

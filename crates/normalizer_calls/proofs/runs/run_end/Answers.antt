@@ -6,21 +6,21 @@ use Rattle.normalizer_calls.proofs.runs.run_end.Goals as goal
 pub loop-run-init : goal.loop-run-init
 loop-run-init g c = c.requires
 
-pub with_step-requires : goal.with_step-requires
-with_step-requires g c =
+pub with_step-longer-requires : goal.with_step-longer-requires
+with_step-longer-requires g c =
     omega (arith, c.len.ensures, step-some g.U.Units.encoding (g.U.Units.units c.args.units) c.loop-run.run.end c.step_at-step.result (omega (arith, c.len.ensures)) c.step_at-step.ensures)
 
-pub with_more-run-requires : goal.with_more-run-requires
-with_more-run-requires g c =
+pub with_more-run-requires-clause-run : goal.with_more-run-requires-clause-run
+with_more-run-requires-clause-run g c =
     IsRun-longer _ _ _ _ _ c.step_at-step.ensures (omega (arith, c.len.ensures)) _ _ _ _ _ _ c.loop-run.invariant c.in-Ok.ensures
-    c.with_step.ensures.end c.with_step.ensures.last c.with_step.ensures.starter c.with_step.ensures.mark
+    c.with_step-longer.ensures.end c.with_step-longer.ensures.last c.with_step-longer.ensures.starter c.with_step-longer.ensures.mark
 
 pub loop-run-preserved : goal.loop-run-preserved
 loop-run-preserved g c = c.with_more-run.ensures.0
 
 pub loop-run-smaller : goal.loop-run-smaller
 loop-run-smaller g c =
-    omega (arith, c.len.ensures, c.with_more-run.ensures.1, c.with_step.ensures.end, step-some g.U.Units.encoding (g.U.Units.units c.args.units) c.loop-run.run.end c.step_at-step.result (omega (arith, c.len.ensures)) c.step_at-step.ensures)
+    omega (arith, c.len.ensures, c.with_more-run.ensures.1, c.with_step-longer.ensures.end, step-some g.U.Units.encoding (g.U.Units.units c.args.units) c.loop-run.run.end c.step_at-step.result (omega (arith, c.len.ensures)) c.step_at-step.ensures)
 
 pub returns-clause-next : goal.returns-clause-next
 returns-clause-next g c =

@@ -9,7 +9,7 @@ end_of_low-end-requires g c = c.requires.to_end.boundary
 pub returns : goal.returns
 returns g c = (
   IsRun-starters _ _ _ _
-      (IsPassthroughTo-low _ _ _ (has c.passing.result.now) (λ n is. ((has-IsCandidate c.passing.result.now n is).other, c.passing.ensures n is)) _ _ _ _
-      c.first_missing.ensures.below c.end_of_low-end.ensures (λ same. absurd (c.if-end-run.false same)) c.requires.to_end),
+      (IsPassthroughTo-low _ _ _ (has c.passing.result.set.now) (λ n is. ((has-IsCandidate c.passing.result.set.now n is).other, c.passing.ensures n is)) _ _ _ _
+      c.passing.result.below c.end_of_low-end.ensures (λ same. absurd (c.if-end-run.false same)) c.requires.to_end),
   c.end_of_low-end.ensures.behind,
 )

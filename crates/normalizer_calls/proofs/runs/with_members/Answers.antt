@@ -5,12 +5,12 @@ use Rattle.normalizer_calls.proofs.passthrough.RunSteps.{IsPassthroughTo-members
 use Rattle.normalizer_calls.proofs.runs.with_members.Goals as goal
 
 pub end_of_members-end-requires : goal.end_of_members-end-requires
-end_of_members-end-requires g c = c.requires.to_end.boundary
+end_of_members-end-requires g c = c.requires.run.to_end.boundary
 
 pub returns : goal.returns
 returns g c = (
   IsRun-starters _ _ _ _
-      (IsPassthroughTo-members _ _ _ (has c.passing.result.now) (λ n is. ((has-IsCandidate c.passing.result.now n is).other, c.passing.ensures n is)) _ _ _
-      c.end_of_members-end.ensures (λ same. absurd (c.if-end-run.false same)) c.requires.to_end),
+      (IsPassthroughTo-members _ _ _ (has c.args.passing.set.now) (λ n is. ((has-IsCandidate c.args.passing.set.now n is).other, c.requires.passing n is)) _ _ _
+      c.end_of_members-end.ensures (λ same. absurd (c.if-end-run.false same)) c.requires.run.to_end),
   omega (arith, c.end_of_members-end.ensures),
 )

@@ -1,10 +1,11 @@
-use Rattle.std.proofs.Common.{◌≡◌, ◌+◌, ◌*◌, get_or, arith, ap, subst, ◌∙◌}
+use Rattle.std.proofs.Common.{◌≡◌, ◌+◌, ◌*◌, get_or, arith, ap, subst, sym, ◌∙◌}
 use Rattle.normalizer_sets.specs.CharacterSets.{words_at}
+use Rattle.normalizer_sets.specs.inner.Bits.{IsSet}
 use Rattle.normalizer_sets.proofs.SetLemmas.{get_or-page, has-packed, length-words_at, surrogate_unset, IsPackedTo, IsPackedTo-more, IsSet-packed}
 use Rattle.normalizer_sets.proofs.CharacterSet.from_blocks.Goals as goal
 
-pub first_missing-low-requires : goal.first_missing-low-requires
-first_missing-low-requires c =
+pub first_missing-requires : goal.first_missing-requires
+first_missing-requires c =
     let plane = c.in_ok-words.ensures in
     rw c.deref.ensures.value (record { long = plane.long; surrogate = surrogate_unset _ _ plane })
 
@@ -24,11 +25,12 @@ pub invariant_of-result : goal.invariant_of-result
 invariant_of-result c =
     let words = words_at c.args.kept.now c.args.numbers.now in
     let first = c.in_ok-words.words.items in
-    let found = c.first_missing-low.ensures in
+    let found = c.first_missing.ensures in
     let all : c.loop-page.page ≡ 256 = omega (arith, c.loop-page-test.false, c.loop-page.auto.page-end) in
-    IsSet-packed words first c.loop-page.words.items c.loop-page.pages.items (length-words_at _ _ ∙ c.requires.long) c.in_ok-words.ensures
+    subst (IsSet c.loop-page.words.items c.loop-page.pages.items) (sym c.new-low.ensures)
+    (IsSet-packed words first c.loop-page.words.items c.loop-page.pages.items (length-words_at _ _ ∙ c.requires.long) c.in_ok-words.ensures
     (subst (IsPackedTo words first c.loop-page.words.items c.loop-page.pages.items) all c.loop-page.invariant) _ found.low
-    (λ n below. rw (← c.deref.ensures.value) (found.below n below)) (rw (← c.deref.ensures.value) found.missing)
+    (λ n below. rw (← c.deref.ensures.value) (found.below n below)) (rw (← c.deref.ensures.value) found.missing))
 
 pub returns : goal.returns
 returns c =

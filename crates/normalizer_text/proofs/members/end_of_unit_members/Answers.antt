@@ -11,28 +11,28 @@ end_of_single_members-end-requires c = boundary-le Encoding.Utf16 c.args.units.n
 pub has_pair_at-requires : goal.has_pair_at-requires
 has_pair_at-requires c =
     let all : (k : ℕ) → get_or c.args.units.now k 0 < 0x10000 = λ k. let f = (c.type_inv.units k).fits in omega arith in
-    let alone = alone-passed c.args.set.now c.args.units.now all c.loop-end.end c.end_of_single_members-end.result c.loop-end.invariant.0 c.end_of_single_members-end.ensures in
+    let alone = alone-passed c.args.set.set.now c.args.units.now all c.loop-end.end c.end_of_single_members-end.result c.loop-end.invariant.0 c.end_of_single_members-end.ensures in
     boundary-le Encoding.Utf16 c.args.units.now c.end_of_single_members-end.result alone.0
 
 pub returns-then-not-has_pair_at : goal.returns-then-not-has_pair_at
 returns-then-not-has_pair_at c =
     let all : (k : ℕ) → get_or c.args.units.now k 0 < 0x10000 = λ k. let f = (c.type_inv.units k).fits in omega arith in
-    let alone = alone-passed c.args.set.now c.args.units.now all c.loop-end.end c.end_of_single_members-end.result c.loop-end.invariant.0 c.end_of_single_members-end.ensures in
-    sym (alone-end c.args.set.now c.args.units.now all c.loop-end.end c.end_of_single_members-end.result c.loop-end.invariant.0 c.end_of_single_members-end.ensures (sym c.has_pair_at.ensures ∙ c.if-not-has_pair_at.true))
+    let alone = alone-passed c.args.set.set.now c.args.units.now all c.loop-end.end c.end_of_single_members-end.result c.loop-end.invariant.0 c.end_of_single_members-end.ensures in
+    sym (alone-end c.args.set.set.now c.args.units.now all c.loop-end.end c.end_of_single_members-end.result c.loop-end.invariant.0 c.end_of_single_members-end.ensures (sym c.has_pair_at.ensures ∙ c.if-not-has_pair_at.true))
     ∙ alone.1 ∙ c.loop-end.invariant.1
 
 pub end_after_pair-end-requires : goal.end_after_pair-end-requires
 end_after_pair-end-requires c =
     let all : (k : ℕ) → get_or c.args.units.now k 0 < 0x10000 = λ k. let f = (c.type_inv.units k).fits in omega arith in
-    let alone = alone-passed c.args.set.now c.args.units.now all c.loop-end.end c.end_of_single_members-end.result c.loop-end.invariant.0 c.end_of_single_members-end.ensures in
-    let passed = pair-passed c.args.set.now c.args.units.now c.end_of_single_members-end.result alone.0 (sym c.has_pair_at.ensures ∙ c.if-not-has_pair_at.false) in
+    let alone = alone-passed c.args.set.set.now c.args.units.now all c.loop-end.end c.end_of_single_members-end.result c.loop-end.invariant.0 c.end_of_single_members-end.ensures in
+    let passed = pair-passed c.args.set.set.now c.args.units.now c.end_of_single_members-end.result alone.0 (sym c.has_pair_at.ensures ∙ c.if-not-has_pair_at.false) in
     passed.0
 
 pub loop-end-preserved : goal.loop-end-preserved
 loop-end-preserved c =
     let all : (k : ℕ) → get_or c.args.units.now k 0 < 0x10000 = λ k. let f = (c.type_inv.units k).fits in omega arith in
-    let alone = alone-passed c.args.set.now c.args.units.now all c.loop-end.end c.end_of_single_members-end.result c.loop-end.invariant.0 c.end_of_single_members-end.ensures in
-    let passed = pair-passed c.args.set.now c.args.units.now c.end_of_single_members-end.result alone.0 (sym c.has_pair_at.ensures ∙ c.if-not-has_pair_at.false) in
+    let alone = alone-passed c.args.set.set.now c.args.units.now all c.loop-end.end c.end_of_single_members-end.result c.loop-end.invariant.0 c.end_of_single_members-end.ensures in
+    let passed = pair-passed c.args.set.set.now c.args.units.now c.end_of_single_members-end.result alone.0 (sym c.has_pair_at.ensures ∙ c.if-not-has_pair_at.false) in
     (c.end_after_pair-end.ensures.0, c.end_after_pair-end.ensures.2 ∙ passed.2 ∙ alone.1 ∙ c.loop-end.invariant.1)
 
 pub loop-end-smaller : goal.loop-end-smaller
@@ -42,4 +42,4 @@ loop-end-smaller c =
 
 pub returns : goal.returns
 returns c =
-    sym (members-end (has c.args.set.now) Encoding.Utf16 c.args.units.now c.loop-end.end (omega arith)) ∙ c.loop-end.invariant.1
+    sym (members-end (has c.args.set.set.now) Encoding.Utf16 c.args.units.now c.loop-end.end (omega arith)) ∙ c.loop-end.invariant.1

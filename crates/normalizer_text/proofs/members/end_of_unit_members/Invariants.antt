@@ -9,7 +9,7 @@ use Rattle.normalizer_text.proofs.members.end_of_unit_members.Given as goal
 abbrev pub invariant-loop-end : goal.invariant-loop-end
 invariant-loop-end l =
     IsBoundary first_of_utf16 l.units l.end
-    × (l.end + width_within (has l.set) (steps first_of_utf16 (drop l.end l.units)) ≡ l.position + width_within (has l.set) (steps first_of_utf16 (drop l.position l.units)))
+    × (l.end + width_within (has l.set.set.now) (steps first_of_utf16 (drop l.end l.units)) ≡ l.position + width_within (has l.set.set.now) (steps first_of_utf16 (drop l.position l.units)))
 
 abbrev pub decreases-loop-end : goal.decreases-loop-end
 decreases-loop-end l = length l.units - l.end

@@ -5,10 +5,10 @@ use Rattle.normalizer_text.proofs.members.passed_members.Goals as goal
 
 pub loop-end-init : goal.loop-end-init
 loop-end-init g c =
-    let low = members-passed (has c.args.set.now) g.M.Members.encoding (g.M.Members.units c.args.units) c.args.position _ _ c.requires c.end_of_low_run-end.ensures c.first_missing-bound.ensures.below in
+    let low = members-passed (has c.args.set.set.now) g.M.Members.encoding (g.M.Members.units c.args.units) c.args.position _ _ c.requires c.end_of_low_run-end.ensures c.args.set.below in
     (low.0, low.2)
 
 pub returns : goal.returns
 returns g c =
-    sym (members-end (has c.args.set.now) g.M.Members.encoding (g.M.Members.units c.args.units) c.loop-end.end (omega (arith, c.len.ensures)))
+    sym (members-end (has c.args.set.set.now) g.M.Members.encoding (g.M.Members.units c.args.units) c.loop-end.end (omega (arith, c.len.ensures)))
     ∙ c.loop-end.invariant.1

@@ -10,7 +10,7 @@ abbrev pub invariant-loop-end : goal.invariant-loop-end
 invariant-loop-end g l =
     let units = g.M.Members.units l.units in
     IsBoundary (first_in g.M.Members.encoding) units l.end
-    × (end_within (has l.set) g.M.Members.encoding units l.end ≡ end_within (has l.set) g.M.Members.encoding units l.position)
+    × (end_within (has l.set.set.now) g.M.Members.encoding units l.end ≡ end_within (has l.set.set.now) g.M.Members.encoding units l.position)
 
 abbrev pub decreases-loop-end : goal.decreases-loop-end
 decreases-loop-end g l = length (g.M.Members.units l.units) - l.end

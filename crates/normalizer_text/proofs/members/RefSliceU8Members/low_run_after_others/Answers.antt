@@ -7,4 +7,4 @@ pub low_run_after_others-requires : goal.low_run_after_others-requires
 low_run_after_others-requires c = boundary-le Encoding.Utf8 c.args.self.now c.args.position c.requires
 
 pub returns-clause-low : goal.returns-clause-low
-returns-clause-low c = EndsLowCharacters-run c.args.self.now c.args.position c.args.bound c.low_run_after_others.result c.requires c.low_run_after_others.ensures.low
+returns-clause-low c = EndsLowCharacters-run c.args.self.now c.args.position c.args.bound.number c.low_run_after_others.result c.requires c.low_run_after_others.ensures.low

@@ -13,6 +13,6 @@ end_of_run-requires c =
 
 pub returns-clause-low : goal.returns-clause-low
 returns-clause-low c =
-    let of_bytes = subst (λ bytes. IfSome c.end_of_run.result (λ to. to ≡ c.args.position + leading_below c.low_byte_bound.result (drop c.args.position bytes))) c.as_bytes.ensures.value c.end_of_run.ensures.end in
-    EndsLowCharacters-text_run c.args.self.now (IsWellFormed-IsUtf8 c.args.self.now c.utf8.self) c.args.position c.args.bound c.end_of_run.result c.requires
-    (subst (λ l. IfSome c.end_of_run.result (λ to. to ≡ c.args.position + leading_below l (drop c.args.position c.args.self.now))) c.low_byte_bound.ensures of_bytes)
+    let of_bytes = subst (λ bytes. IfSome c.end_of_run.result (λ to. to ≡ c.args.position + leading_below c.args.bound.byte (drop c.args.position bytes))) c.as_bytes.ensures.value c.end_of_run.ensures.end in
+    EndsLowCharacters-text_run c.args.self.now (IsWellFormed-IsUtf8 c.args.self.now c.utf8.self) c.args.position c.args.bound.number c.end_of_run.result c.requires
+    (subst (λ l. IfSome c.end_of_run.result (λ to. to ≡ c.args.position + leading_below l (drop c.args.position c.args.self.now))) c.args.bound.spelled of_bytes)

@@ -10,5 +10,5 @@ end_of_below-requires c = boundary-le Encoding.Utf16 c.args.self.now c.args.posi
 
 pub returns : goal.returns
 returns c =
-    EndsLowCharacters-single Encoding.Utf16 c.args.bound c.args.self.now c.args.position c.requires _ (omega (arith, c.min.ensures))
-    (λ u us l. first-low_unit u us (omega (arith, c.min.ensures))) _ c.end_of_below.ensures
+    EndsLowCharacters-single Encoding.Utf16 c.args.bound.number c.args.self.now c.args.position c.requires _ (omega (arith, c.args.bound.within))
+    (λ u us l. first-low_unit u us (omega (arith, c.args.bound.within))) _ c.end_of_below.ensures

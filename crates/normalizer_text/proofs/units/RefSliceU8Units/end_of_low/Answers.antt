@@ -10,5 +10,5 @@ end_by_units-requires c = boundary-le Encoding.Utf8 c.args.self.now c.args.posit
 
 pub returns : goal.returns
 returns c =
-    EndsLowCharacters-single Encoding.Utf8 c.args.bound c.args.self.now c.args.position c.requires _ (omega (arith, c.min.ensures))
+    EndsLowCharacters-single Encoding.Utf8 c.args.bound.number c.args.self.now c.args.position c.requires _ (omega (arith, c.min.ensures))
     (λ u us l. first-ascii u us (omega (arith, c.min.ensures))) _ c.end_by_units.ensures

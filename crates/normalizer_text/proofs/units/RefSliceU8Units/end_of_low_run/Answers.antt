@@ -7,4 +7,4 @@ pub end_of_low_bytes-requires : goal.end_of_low_bytes-requires
 end_of_low_bytes-requires c = boundary-le Encoding.Utf8 c.args.self.now c.args.position c.requires
 
 pub returns : goal.returns
-returns c = EndsLowCharacters-bytes c.args.self.now c.args.position c.args.bound c.end_of_low_bytes.result c.requires c.end_of_low_bytes.ensures
+returns c = EndsLowCharacters-bytes c.args.self.now c.args.position c.args.bound.number c.end_of_low_bytes.result c.requires c.end_of_low_bytes.ensures

@@ -13,7 +13,7 @@ end_by_units-requires c =
 pub returns : goal.returns
 returns c =
     let same = c.end_by_units.ensures
-    ∙ ap (λ bytes. c.args.position + leading_below c.low_byte_bound.result (drop c.args.position bytes)) c.as_bytes.ensures.value
-    ∙ ap (λ l. c.args.position + leading_below l (drop c.args.position c.args.self.now)) c.low_byte_bound.ensures in
-    subst (EndsLowCharacters Encoding.Utf8 c.args.self.now c.args.position c.args.bound) (sym same)
-    (EndsLowCharacters-text c.args.self.now (IsWellFormed-IsUtf8 c.args.self.now c.utf8.self) c.args.position c.args.bound c.requires)
+    ∙ ap (λ bytes. c.args.position + leading_below c.args.bound.byte (drop c.args.position bytes)) c.as_bytes.ensures.value
+    ∙ ap (λ l. c.args.position + leading_below l (drop c.args.position c.args.self.now)) c.args.bound.spelled in
+    subst (EndsLowCharacters Encoding.Utf8 c.args.self.now c.args.position c.args.bound.number) (sym same)
+    (EndsLowCharacters-text c.args.self.now (IsWellFormed-IsUtf8 c.args.self.now c.utf8.self) c.args.position c.args.bound.number c.requires)
