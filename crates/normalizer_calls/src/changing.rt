@@ -38,9 +38,7 @@ pub(crate) fn has_unordered_marks<U: Units, N: Forming>(normalizer: &N, units: U
     false
 }
 
-/// Whether a character becomes others by itself. If so, no text that has it is normalized. It isn't inlined, so that a
-/// check of a short text that passes has a small frame.
-#[inline(never)]
+/// Whether a character becomes others by itself. If so, no text that has it is normalized.
 pub(crate) fn changes_alone<N: Forming>(normalizer: &N, character: char) -> bool
     ensures { let m = N.made_form normalizer.now in
         IsTrue result → ¬ IsNormalized m.reading m.form (character ∷ []) }

@@ -1,5 +1,5 @@
 //! Scanning units for the first one that is not below a bound, as many at a time as a vector holds.
-ghost use Rattle.std.specs.Prelude.{◌≡◌, ◌==◌, ℕ, ◌+◌, ◌<◌, ◌≤◌, nat_lt, if◌then◌else◌};
+ghost use Rattle.std.specs.Prelude.{◌≡◌, ◌==◌, ℕ, ◌+◌, ◌-◌, ◌/◌, ◌^◌, ◌<◌, ◌≤◌, nat_lt, if◌then◌else◌};
 ghost use Rattle.std.specs.Prelude.{List, length, take, drop, slice_index, IfSome, IsTrue};
 ghost use Rattle.std.specs.Int.{w64, trailing_zeros};
 ghost use Rattle.normalizer_text.specs.Scans.{leading_below};
@@ -39,6 +39,14 @@ pub(crate) trait Lanes: Copy {
     fn more_lanes_below(self, position: usize, bound: u32) -> usize
         requires { position + MORE_LANES ≤ length (units self) }
         ensures { result ≡ leading_below bound (take MORE_LANES (drop position (units self))) };
+
+    /// Whether the units from a position on are all below the bound. They are the last ones of a vector of few units,
+    /// which ends where the units do.
+    fn last_lanes_are_below(self, position: usize, bound: u32) -> bool
+        requires room { FEWER_LANES ≤ length (units self) }
+        requires few { length (units self) ≤ position + FEWER_LANES }
+        requires within { position < length (units self) }
+        ensures { IsTrue result → leading_below bound (drop position (units self)) ≡ length (units self) - position };
 }
 
 /// Returns the end of the units from a position on that are all below the bound. That of a run that is longer than the
@@ -101,18 +109,21 @@ fn end_of_few<L: Lanes>(units: L, position: usize, bound: u32) -> usize
     end_of_fewer(units, position + LANES, bound)
 }
 
-/// Returns the same end, if few units are left: by vectors of which all units are below, and then unit by unit, so that
-/// what comes next doesn't wait for a vector's mask.
+/// Returns the same end, if few units are left.
 #[inline(always)]
 fn end_of_fewer<L: Lanes>(units: L, position: usize, bound: u32) -> usize
     requires { position ≤ length (L.units units) }
     ensures { result ≡ position + leading_below bound (drop position (L.units units)) }
 {
     let mut end = position;
-    while units.len() - end >= FEWER_LANES && units.fewer_lanes_below(end, bound) == FEWER_LANES {
+    while units.len() - end >= FEWER_LANES {
+        let below = units.fewer_lanes_below(end, bound);
+        if below != FEWER_LANES {
+            return end + below;
+        }
         end += FEWER_LANES;
     }
-    end_by_units(units, end, bound)
+    end_of_last_few(units, end, bound)
 }
 
 /// Returns the same end, unit by unit.
@@ -126,6 +137,22 @@ pub(crate) fn end_by_units<L: Lanes>(units: L, position: usize, bound: u32) -> u
         end += 1;
     }
     end
+}
+
+/// Returns the same end. If few units are left, a vector that ends with them tells at once whether all are below.
+#[inline(always)]
+pub(crate) fn end_of_last_few<L: Lanes>(units: L, position: usize, bound: u32) -> usize
+    requires { position ≤ length (L.units units) }
+    ensures { result ≡ position + leading_below bound (drop position (L.units units)) }
+{
+    let len = units.len();
+    if len >= FEWER_LANES
+        && matches!(len - position, 3..=FEWER_LANES)
+        && units.last_lanes_are_below(position, bound)
+    {
+        return len;
+    }
+    end_by_units(units, position, bound)
 }
 
 /// Returns the same end, if two such units are at the position: fewer are looked at faster than a vector is read.
@@ -165,6 +192,15 @@ pub(crate) fn lanes_before_set(mask: u64, lanes: usize) -> usize
     }
 }
 
+/// Whether no bit is set from that of a lane on.
+#[inline(always)]
+fn is_clear_from(mask: u64, lane: usize) -> bool
+    requires { lane < 64 }
+    ensures { result ≡ (mask / 2 ^ lane == 0) }
+{
+    mask >> lane == 0
+}
+
 /// Returns how many of the N bytes at a position come before the first one that is not below the bound.
 #[inline(always)]
 fn byte_lanes_below<const N: usize>(bytes: &[u8], position: usize, bound: u32) -> usize
@@ -177,6 +213,24 @@ fn byte_lanes_below<const N: usize>(bytes: &[u8], position: usize, bound: u32) -
     };
     let vector = Simd::<u8, N>::from_slice(&bytes[position..]);
     lanes_before_set(vector.simd_ge(Simd::splat(bound)).to_bitmask(), N)
+}
+
+/// Whether the bytes from a position on, which are among the last N, are all below the bound.
+#[inline(always)]
+fn last_bytes_are_below<const N: usize>(bytes: &[u8], position: usize, bound: u32) -> bool
+    requires most { N ≤ 64 }
+    requires room { N ≤ length bytes.now }
+    requires few { length bytes.now ≤ position + N }
+    requires within { position < length bytes.now }
+    ensures { IsTrue result → leading_below bound (drop position bytes.now) ≡ length bytes.now - position }
+{
+    let Ok(bound) = u8::try_from(bound) else {
+        return false;
+    };
+    let start = bytes.len() - N;
+    let vector = Simd::<u8, N>::from_slice(&bytes[start..]);
+    let mask = vector.simd_ge(Simd::splat(bound)).to_bitmask();
+    is_clear_from(mask, position - start)
 }
 
 impl<'a> Lanes for &'a [u8] {
@@ -206,6 +260,11 @@ impl<'a> Lanes for &'a [u8] {
     fn more_lanes_below(self, position: usize, bound: u32) -> usize {
         byte_lanes_below::<MORE_LANES>(self, position, bound)
     }
+
+    #[inline(always)]
+    fn last_lanes_are_below(self, position: usize, bound: u32) -> bool {
+        last_bytes_are_below::<FEWER_LANES>(self, position, bound)
+    }
 }
 
 /// Returns how many of the N 16-bit units at a position come before the first one that is not below the bound.
@@ -220,6 +279,24 @@ fn unit_lanes_below<const N: usize>(units: &[u16], position: usize, bound: u32) 
     };
     let vector = Simd::<u16, N>::from_slice(&units[position..]);
     lanes_before_set(vector.simd_ge(Simd::splat(bound)).to_bitmask(), N)
+}
+
+/// Whether the 16-bit units from a position on, which are among the last N, are all below the bound.
+#[inline(always)]
+fn last_units_are_below<const N: usize>(units: &[u16], position: usize, bound: u32) -> bool
+    requires most { N ≤ 64 }
+    requires room { N ≤ length units.now }
+    requires few { length units.now ≤ position + N }
+    requires within { position < length units.now }
+    ensures { IsTrue result → leading_below bound (drop position units.now) ≡ length units.now - position }
+{
+    let Ok(bound) = u16::try_from(bound) else {
+        return false;
+    };
+    let start = units.len() - N;
+    let vector = Simd::<u16, N>::from_slice(&units[start..]);
+    let mask = vector.simd_ge(Simd::splat(bound)).to_bitmask();
+    is_clear_from(mask, position - start)
 }
 
 impl<'a> Lanes for &'a [u16] {
@@ -248,5 +325,10 @@ impl<'a> Lanes for &'a [u16] {
     #[inline(always)]
     fn more_lanes_below(self, position: usize, bound: u32) -> usize {
         unit_lanes_below::<MORE_LANES>(self, position, bound)
+    }
+
+    #[inline(always)]
+    fn last_lanes_are_below(self, position: usize, bound: u32) -> bool {
+        last_units_are_below::<FEWER_LANES>(self, position, bound)
     }
 }

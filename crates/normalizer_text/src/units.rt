@@ -163,7 +163,7 @@ impl<'a> Units for &'a str {
 
     #[inline(always)]
     fn end_of_low(self, position: usize, bound: LowBound) -> usize {
-        scan::end_by_units(self.as_bytes(), position, bound.byte)
+        scan::end_of_last_few(self.as_bytes(), position, bound.byte)
     }
 
     #[inline(always)]
@@ -215,7 +215,7 @@ impl<'a> Units for &'a [u8] {
 
     #[inline(always)]
     fn end_of_low(self, position: usize, bound: LowBound) -> usize {
-        scan::end_by_units(self, position, bound.number.min(utf8::ASCII))
+        scan::end_of_last_few(self, position, bound.number.min(utf8::ASCII))
     }
 
     #[inline(always)]
@@ -267,7 +267,7 @@ impl<'a> Units for &'a [u16] {
 
     #[inline(always)]
     fn end_of_low(self, position: usize, bound: LowBound) -> usize {
-        scan::end_by_units(self, position, bound.number)
+        scan::end_of_last_few(self, position, bound.number)
     }
 
     #[inline(always)]

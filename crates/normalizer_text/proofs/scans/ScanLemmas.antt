@@ -1,7 +1,7 @@
 -- Stretches of units below a bound.
-use Rattle.std.proofs.Common.{◌≡◌, ℕ, suc, ◌+◌, ◌-◌, ◌*◌, ◌/◌, ◌%◌, ◌^◌, ◌<◌, ◌≤◌, ◌⊎◌, Bool, false, not, cond, eqb, leb, ltb, replicate}
+use Rattle.std.proofs.Common.{◌≡◌, ℕ, zero, suc, ◌+◌, ◌-◌, ◌*◌, ◌/◌, ◌%◌, ◌^◌, ◌<◌, ◌≤◌, ◌⊎◌, Bool, false, not, cond, eqb, leb, ltb, replicate}
 use Rattle.std.proofs.Common.{inl, inr, List, [], ◌∷◌, ◌++◌, length, take, drop, get_or, map, arith, refl, ap, sym, subst, ◌∙◌, ⊎_elim}
-use Rattle.std.proofs.Math.Nat.{min-le_left, min-le_right, le-min, le-div_iff_mul-le}
+use Rattle.std.proofs.Math.Nat.{min-le_left, min-le_right, le-min, le-div_iff_mul-le, mul_comm, pow-suc, zero-div, div-one, div-div-eq-div-mul}
 use Rattle.std.specs.Prelude.{All, min, nat_lt, true, if◌then◌else◌}
 use Rattle.std.specs.List.{prefix_len}
 use lib.Count.{count_trailing_zeros}
@@ -10,9 +10,9 @@ use mir.Syntax.{Width}
 use mir.Val.{Fits, bits, hbits}
 use Rattle.std.proofs.lemmas.Bool.Decides.{nat_tests}
 use Rattle.std.proofs.lemmas.Bool.{cases_lt, ne_eqb, eq-eqb, le-leb, lt-leb, cond-true, cond-false, lt-ltb, le-ltb, true≢false, false_from_ne_true}
-use Rattle.std.proofs.lemmas.List.{append-nil, length-map}
+use Rattle.std.proofs.lemmas.List.{append-nil, length-map, take_all, drop-drop, length-drop}
 use Rattle.std.proofs.lemmas.List.Folds.{prefix_len-append}
-use Rattle.std.proofs.lemmas.Simd.{chunk-drop, length-chunk, get_or-chunk, tops_compared, zip2_splat_left, mask_l-mod, first_set_mask_l}
+use Rattle.std.proofs.lemmas.Simd.{chunk-drop, length-chunk, get_or-chunk, tops_compared, zip2_splat_left, mask_l-mod, first_set_mask_l, leading_from_mask_l}
 use Rattle.std.proofs.lemmas.List.Sums.{prefix_len-drop_all, prefix_len-le-length, prefix_len_stops, prefix_len_is}
 use Rattle.std.proofs.lemmas.List.Elements.{All-nil, All-cons, All-head, All-tail, All-same, All-weaker}
 use Rattle.normalizer_text.specs.Encodings.{Encoding, first_in, decoded_in}
@@ -108,6 +108,38 @@ lanes-below w bound v n mask long few is =
     ap (λ m. cond (eqb m 0) n (count_trailing_zeros 64 m)) whole
     ∙ first_set_mask_l (λ x. leb bound x) v n long few
     ∙ prefix_len-same (λ x. not (leb bound x)) (λ x. ltb x bound) (not-leb bound) v
+
+-- the mask of lanes without the first k
+half : (b : Bool) (n : ℕ) → (cond b 1 0 + 2 * n) / 2 ≡ n
+half true n = omega arith
+half false n = omega arith
+
+mask-drop : (p : ℕ → Bool) (k : ℕ) (v : List ℕ) → mask_l (map p v) / 2 ^ k ≡ mask_l (map p (drop k v))
+mask-drop p zero v = div-one (mask_l (map p v))
+mask-drop p (suc k) [] = zero-div (2 ^ suc k)
+mask-drop p (suc k) (x ∷ v) =
+    ap (λ n. mask_l (map p (x ∷ v)) / n) (pow-suc 2 k ∙ mul_comm (2 ^ k) 2) ∙ sym (div-div-eq-div-mul (mask_l (map p (x ∷ v))) 2 (2 ^ k))
+    ∙ ap (λ n. n / 2 ^ k) (half (p x) (mask_l (map p v))) ∙ mask-drop p k v
+
+-- the last lanes are all below the bound, if none of their bits is set in the mask of a vector that ends with them
+pub last_lanes-below : (w : Width) (bound : ℕ) (units : List ℕ) (n at mask : ℕ) → n ≤ 64 → n ≤ length units → length units ≤ at + n → at ≤ length units
+    → mask ≡ mask_l (map (top (hbits w)) (zip2 (λ a b. cond (leb a b) (2 ^ bits w - 1) 0) (replicate n bound) (chunk (length units - n) n units))) % 2 ^ 64
+    → mask / 2 ^ (at - (length units - n)) ≡ 0 → leading_below bound (drop at units) ≡ length units - at
+last_lanes-below w bound units n at mask few room most within is none =
+    let reaches = λ (x : ℕ). leb bound x in
+    let start = length units - n in
+    let k = at - start in
+    let v = chunk start n units in
+    let long = length-chunk start n units (omega arith) in
+    let marks = tops_compared w leb (replicate n bound) v ∙ zip2_splat_left leb bound n v long in
+    let whole = is ∙ ap (λ l. mask_l l % 2 ^ 64) marks ∙ mask_l-mod (map reaches v) 64 (omega (arith, length-map v reaches)) in
+    let rest : drop k v ≡ drop at units =
+    ap (drop k) (take_all n (drop start units) (omega (arith, length-drop start units)))
+    ∙ drop-drop k start units ∙ ap (λ i. drop i units) (let same : start + k ≡ at = omega arith in same) in
+    ap (leading_below bound) (sym rest)
+    ∙ prefix_len-same (λ x. ltb x bound) (λ x. not (reaches x)) (λ x. sym (not-leb bound x)) (drop k v)
+    ∙ leading_from_mask_l reaches (drop k v) (sym (mask-drop reaches k v) ∙ ap (λ m. m / 2 ^ k) (sym whole) ∙ none)
+    ∙ ap length rest ∙ length-drop at units
 
 -- and if the bound is too high for any of them to reach it
 pub lanes-below_all : (w : Width) (bound : ℕ) (units : List ℕ) (at n : ℕ) → at + n ≤ length units → ((k : ℕ) → Fits w (get_or units k 0)) → 2 ^ bits w ≤ bound

@@ -1,10 +1,28 @@
 use Rattle.std.proofs.Common.{◌+◌, ◌≤◌, ◌∙◌, length, arith}
-use Rattle.normalizer_text.proofs.scans.ScanLemmas.{leading_below-past}
+use Rattle.normalizer_text.proofs.scans.ScanLemmas.{leading_below-few, leading_below-past, leading_below-within}
 use Rattle.normalizer_text.proofs.scan.end_of_fewer.Goals as goal
 
 pub loop-end-preserved : goal.loop-end-preserved
 loop-end-preserved g c =
     let units = g.L.Lanes.units c.args.units in
-    let room : c.loop-end.end + 8 ≤ length units = omega (arith, c.len.ensures) in
-    let past = leading_below-past c.args.bound units c.loop-end.end 8 c.fewer_lanes_below.result room c.fewer_lanes_below.ensures (omega (arith, c.if-fewer_lanes_below-eq-FEWER_LANES.true)) in
-    (past.0, past.1 ∙ c.loop-end.invariant.1)
+    let room : c.loop-end.end + 8 ≤ length units = omega arith in
+    let past = leading_below-past c.args.bound units c.loop-end.end 8 c.fewer_lanes_below-below.result room c.fewer_lanes_below-below.ensures (omega arith) in
+    (past.0, omega (arith, past.1))
+
+pub overflow_add-result : goal.overflow_add-result
+overflow_add-result g c =
+    let units = g.L.Lanes.units c.args.units in
+    let room : c.loop-end.end + 8 ≤ length units = omega arith in
+    let some = leading_below-few c.args.bound units c.loop-end.end 8 _ room c.fewer_lanes_below-below.ensures c.if-below-ne-FEWER_LANES.true in
+    omega arith
+
+pub returns-then-below-ne-FEWER_LANES : goal.returns-then-below-ne-FEWER_LANES
+returns-then-below-ne-FEWER_LANES g c =
+    let units = g.L.Lanes.units c.args.units in
+    let room : c.loop-end.end + 8 ≤ length units = omega arith in
+    let some = leading_below-few c.args.bound units c.loop-end.end 8 _ room c.fewer_lanes_below-below.ensures c.if-below-ne-FEWER_LANES.true in
+    let within = leading_below-within c.args.bound units c.loop-end.end 8 _ room c.fewer_lanes_below-below.ensures some in
+    omega (arith, within)
+
+pub returns : goal.returns
+returns g c = c.end_of_last_few.ensures ∙ c.loop-end.invariant.1

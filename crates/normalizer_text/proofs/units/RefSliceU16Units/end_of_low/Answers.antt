@@ -5,10 +5,10 @@ use Rattle.normalizer_text.proofs.scans.ScanLemmas.{EndsLowCharacters-single}
 use Rattle.normalizer_text.proofs.steps.StepBoundaries.{boundary-le}
 use Rattle.normalizer_text.proofs.units.RefSliceU16Units.end_of_low.Goals as goal
 
-pub end_by_units-requires : goal.end_by_units-requires
-end_by_units-requires c = boundary-le Encoding.Utf16 c.args.self.now c.args.position c.requires
+pub end_of_last_few-requires : goal.end_of_last_few-requires
+end_of_last_few-requires c = boundary-le Encoding.Utf16 c.args.self.now c.args.position c.requires
 
 pub returns : goal.returns
 returns c =
     EndsLowCharacters-single Encoding.Utf16 c.args.bound.number c.args.self.now c.args.position c.requires _ (omega (arith, c.args.bound.within))
-    (λ u us l. first-low_unit u us (omega (arith, c.args.bound.within))) _ c.end_by_units.ensures
+    (λ u us l. first-low_unit u us (omega (arith, c.args.bound.within))) _ c.end_of_last_few.ensures

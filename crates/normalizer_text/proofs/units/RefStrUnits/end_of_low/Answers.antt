@@ -6,13 +6,13 @@ use Rattle.normalizer_text.proofs.rules.StrLemmas.{IsWellFormed-IsUtf8}
 use Rattle.normalizer_text.proofs.steps.StepBoundaries.{boundary-le}
 use Rattle.normalizer_text.proofs.units.RefStrUnits.end_of_low.Goals as goal
 
-pub end_by_units-requires : goal.end_by_units-requires
-end_by_units-requires c =
+pub end_of_last_few-requires : goal.end_of_last_few-requires
+end_of_last_few-requires c =
     subst (λ bytes. c.args.position ≤ length bytes) (sym c.as_bytes.ensures.value) (boundary-le Encoding.Utf8 c.args.self.now c.args.position c.requires)
 
 pub returns : goal.returns
 returns c =
-    let same = c.end_by_units.ensures
+    let same = c.end_of_last_few.ensures
     ∙ ap (λ bytes. c.args.position + leading_below c.args.bound.byte (drop c.args.position bytes)) c.as_bytes.ensures.value
     ∙ ap (λ l. c.args.position + leading_below l (drop c.args.position c.args.self.now)) c.args.bound.spelled in
     subst (EndsLowCharacters Encoding.Utf8 c.args.self.now c.args.position c.args.bound.number) (sym same)
