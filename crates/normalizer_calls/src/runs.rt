@@ -370,7 +370,7 @@ fn begins_with_low_pair<U: Units>(units: U, bound: u32) -> bool {
 fn first_few<U: Units, N: Forming>(normalizer: &N, units: U) -> RunSoFar
     ensures { IsRunSoFar (N.passthrough_class normalizer.now) U.encoding (U.units units) result }
 {
-    let bound = normalizer.passing().low.number;
+    let bound = u32::from(normalizer.passing().low.number);
     let has_latin = bound >= LATIN;
     if has_latin || !normalizer.holds_back() {
         let low = first_low(normalizer, units);
@@ -482,7 +482,7 @@ fn with_one_more<U: Units, N: Forming>(
     if step.is_error {
         return None;
     }
-    if (step.character as u32) < normalizer.passing().low.number {
+    if (step.character as u32) < u32::from(normalizer.passing().low.number) {
         return Some(with_low(normalizer, units, with_step(run, step, 0)));
     }
     let class = branched_class(normalizer, run.last, step)?;

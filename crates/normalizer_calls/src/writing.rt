@@ -298,7 +298,7 @@ fn write_front_segment<U: Units, N: Forming, O: Output<U>>(
 fn expected_from<N: Forming>(normalizer: &N, step: Option<Step>, unordered: bool) -> ExpectedFront {
     match step {
         _ if unordered => ExpectedFront::Alternating,
-        Some(step) if (step.character as u32) < normalizer.passing().low.number => {
+        Some(step) if (step.character as u32) < u32::from(normalizer.passing().low.number) => {
             ExpectedFront::Low
         }
         _ => ExpectedFront::Run,

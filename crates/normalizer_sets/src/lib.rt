@@ -25,19 +25,20 @@ const PAGE: usize = 64;
 /// How many pages there are.
 const PAGES: usize = 256;
 
-/// A number, the characters below which are called low, and the byte below which bytes of well-formed UTF-8 are of low
-/// characters.
+/// The bound of low characters.
 #[derive(Clone, Copy)]
 pub struct LowBound {
-    pub number: u32,
-    pub byte: u32,
+    /// Characters below this number are low. It is that of the first surrogate, or less.
+    pub number: u16,
+    /// Bytes of well-formed UTF-8 below this one are of low characters.
+    pub byte: u8,
     ghost within: { number ≤ 0xD800 },
     ghost spelled: { byte ≡ low_byte number },
 }
 
 impl LowBound {
     /// Returns the bound with this number.
-    fn new(number: u32) -> Self
+    fn new(number: u16) -> Self
         requires { number ≤ 0xD800 }
         ensures { result.number ≡ number }
     {
@@ -46,7 +47,10 @@ impl LowBound {
         } else {
             0xC0 + (number / 64).min(0x20)
         };
-        LowBound { number, byte }
+        LowBound {
+            number,
+            byte: byte as u8,
+        }
     }
 }
 
@@ -169,7 +173,9 @@ impl Clone for CharacterSet {
 /// A set whose bound is read, so that loops over it keep the bound in registers.
 #[derive(Clone, Copy)]
 pub struct KnownSet<'a> {
+    /// The set.
     pub set: &'a CharacterSet,
+    /// Its bound: low characters are members.
     pub low: LowBound,
     ghost below: { (n : ℕ) → n < low.number → has set.now n ≡ true },
 }
@@ -210,7 +216,7 @@ fn characters_only(place: usize, word: u64) -> u64
 }
 
 /// The least number whose bit isn't set: at most that of the first surrogate.
-fn first_missing(words: &[u64]) -> u32
+fn first_missing(words: &[u64]) -> u16
     requires { IsPlaneWithoutSurrogates words.now }
     ensures low { result ≤ 0xD800 }
     ensures below { (n : ℕ) → n < result → has_bit words.now n ≡ true }
@@ -218,10 +224,10 @@ fn first_missing(words: &[u64]) -> u32
 {
     for number in 0..SURROGATE {
         if !has_bit(words, number) {
-            return number as u32;
+            return number as u16;
         }
     }
-    SURROGATE as u32
+    SURROGATE as u16
 }
 
 /// Whether the bit of a number is set.

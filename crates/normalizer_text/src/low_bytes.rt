@@ -14,7 +14,7 @@ const LANES: usize = 32;
 /// How many bytes a vector holds if fewer are left.
 const FEWER_LANES: usize = 16;
 /// Below this bound there are so few sequences of two that none is looked for.
-const FEW_PAIRS: u32 = 0x100;
+const FEW_PAIRS: u16 = 0x100;
 
 /// Returns an end of bytes from a position on that are well-formed and of characters below a bound, found by vectors if
 /// the first of them is seen at once to be so.
@@ -23,9 +23,9 @@ pub(crate) fn end_of_low_bytes(bytes: &[u8], position: usize, bound: LowBound) -
     requires { position ≤ length bytes.now }
     ensures { EndsLowBytes (low_byte bound.number) bytes.now position result }
 {
-    let end = scan::end_of_below(bytes, position, bound.number.min(utf8::ASCII));
+    let end = scan::end_of_below(bytes, position, u32::from(bound.number).min(utf8::ASCII));
     if looks_for_pairs(bytes, end, bound) && is_low_lead(bytes[end], bound) {
-        end_of_pairs(bytes, end, bound.byte)
+        end_of_pairs(bytes, end, u32::from(bound.byte))
     } else {
         end
     }
@@ -39,9 +39,9 @@ pub(crate) fn low_run_after_others(bytes: &[u8], position: usize, bound: LowBoun
     ensures further { IfSome result (λ end. position < end) }
 {
     if !looks_for_pairs(bytes, position, bound) {
-        return scan::end_of_run(bytes, position, bound.number.min(utf8::ASCII));
+        return scan::end_of_run(bytes, position, u32::from(bound.number).min(utf8::ASCII));
     }
-    let limit = bound.byte;
+    let limit = u32::from(bound.byte);
     if !scan::begins_run(bytes, position, limit) {
         return None;
     }
@@ -61,7 +61,7 @@ fn looks_for_pairs(bytes: &[u8], position: usize, bound: LowBound) -> bool
 /// Whether a byte leads a sequence of two, of which all are of characters below the bound.
 #[inline(always)]
 fn is_low_lead(byte: u8, bound: LowBound) -> bool {
-    Lead::OfTwo.matches(byte) && (u32::from(byte) - 0xBF) * 64 <= bound.number
+    Lead::OfTwo.matches(byte) && (u16::from(byte) - 0xBF) * 64 <= bound.number
 }
 
 /// Returns such an end of bytes below a limit, up to the last few. It is for bytes among which there are sequences of two:

@@ -51,7 +51,7 @@ pub(crate) trait Members: Copy {
         ensures low { IfSome result (EndsLowCharacters encoding (units self) position bound.number) }
         ensures further { IfSome result (λ end. position < end) };
 
-    /// Such an end, found unit by unit.
+    /// Such an end, found unit by unit, and of the last few units by a vector.
     fn end_of_low(self, position: usize, bound: LowBound) -> usize
         requires { IsBoundary (first_in encoding) (units self) position }
         ensures { EndsLowCharacters encoding (units self) position bound.number result };
@@ -237,7 +237,7 @@ impl<'a> Members for &'a str {
 
     #[inline(always)]
     fn low_run_after_others(self, position: usize, bound: LowBound) -> Option<usize> {
-        scan::end_of_run(self.as_bytes(), position, bound.byte)
+        scan::end_of_run(self.as_bytes(), position, u32::from(bound.byte))
     }
 
     #[inline(always)]
@@ -399,7 +399,7 @@ fn end_of_single_members(units: &[u16], position: usize, set: KnownSet<'_>) -> u
     requires { position ≤ length units.now }
     ensures { result ≡ position + prefix_len (has set.entry.set.now) (drop position units.now) }
 {
-    let limit = set.low.number;
+    let limit = u32::from(set.low.number);
     let end = scan::end_of_below(units, position, limit);
     if units.len() - end <= FEW {
         return end_of_few_singles(units, end, set.set);
@@ -420,7 +420,7 @@ fn end_of_single_run(units: &[u16], position: usize, set: KnownSet<'_>) -> usize
     requires { position ≤ length units.now }
     ensures { result ≡ position + prefix_len (has set.entry.set.now) (drop position units.now) }
 {
-    let limit = set.low.number;
+    let limit = u32::from(set.low.number);
     let mut end = position;
     while units.len() - end >= GROUP {
         if is_before_low_run(units, end, limit) {

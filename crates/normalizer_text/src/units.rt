@@ -67,8 +67,8 @@ pub trait Units: Copy {
         ensures { result ≡ position
             + width_within (has set.entry.set.now) (steps (first_in encoding) (drop position (units self))) };
 
-    /// Returns an end of characters from a position on that are below a bound. They are passed over unit by unit, up to
-    /// the first unit that isn't seen at once to be of such a character.
+    /// Returns an end of characters from a position on that are below a bound. They are passed over up to the first unit
+    /// that isn't seen at once to be of such a character: unit by unit, and the last few by a vector.
     fn end_of_low(self, position: usize, bound: LowBound) -> usize
         requires { IsBoundary (first_in encoding) (units self) position }
         ensures { EndsLowCharacters encoding (units self) position bound.number result };
@@ -163,12 +163,12 @@ impl<'a> Units for &'a str {
 
     #[inline(always)]
     fn end_of_low(self, position: usize, bound: LowBound) -> usize {
-        scan::end_of_last_few(self.as_bytes(), position, bound.byte)
+        scan::end_of_last_few(self.as_bytes(), position, u32::from(bound.byte))
     }
 
     #[inline(always)]
     fn end_of_low_run(self, position: usize, bound: LowBound) -> usize {
-        scan::end_of_below(self.as_bytes(), position, bound.byte)
+        scan::end_of_below(self.as_bytes(), position, u32::from(bound.byte))
     }
 
     #[inline(always)]
@@ -215,7 +215,7 @@ impl<'a> Units for &'a [u8] {
 
     #[inline(always)]
     fn end_of_low(self, position: usize, bound: LowBound) -> usize {
-        scan::end_of_last_few(self, position, bound.number.min(utf8::ASCII))
+        scan::end_of_last_few(self, position, u32::from(bound.number).min(utf8::ASCII))
     }
 
     #[inline(always)]
@@ -267,12 +267,12 @@ impl<'a> Units for &'a [u16] {
 
     #[inline(always)]
     fn end_of_low(self, position: usize, bound: LowBound) -> usize {
-        scan::end_of_last_few(self, position, bound.number)
+        scan::end_of_last_few(self, position, u32::from(bound.number))
     }
 
     #[inline(always)]
     fn end_of_low_run(self, position: usize, bound: LowBound) -> usize {
-        scan::end_of_below(self, position, bound.number)
+        scan::end_of_below(self, position, u32::from(bound.number))
     }
 
     #[inline(always)]

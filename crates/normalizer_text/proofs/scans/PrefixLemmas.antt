@@ -41,15 +41,15 @@ module _ (test : ℕ → Bool) where
       ]
 
   -- units below a limit, under which all pass
-  pub prefix-below : (limit : ℕ) → ((u : ℕ) → u < limit → test u ≡ true) → (units : List ℕ) (n m : ℕ) → n ≤ length units → m ≡ n + leading_below limit (drop n units)
+  pub prefix-below : (bound limit : ℕ) → limit ≡ bound → ((u : ℕ) → u < bound → test u ≡ true) → (units : List ℕ) (n m : ℕ) → n ≤ length units → m ≡ n + leading_below limit (drop n units)
       → (m ≤ length units) × (m + prefix_len test (drop m units) ≡ n + prefix_len test (drop n units))
-  prefix-below limit low units n m room is =
+  prefix-below bound limit same low units n m room is =
       let below = λ (u : ℕ). ltb u limit in
       let rest = drop n units in
       let k = leading_below limit rest in
       let few = prefix_len-le-length below rest in
       let place : drop k rest ≡ drop m units = drop-drop k n units ∙ ap (λ i. drop i units) (sym is) in
-      let stricter = prefix-stricter below (λ u l. low u (ltb-true u limit l)) rest in
+      let stricter = prefix-stricter below (λ u l. low u (let within = ltb-true u limit l in omega arith)) rest in
       (omega (arith, length-drop n units), omega (arith, stricter, ap (prefix_len test) place))
 
   -- some units at a place

@@ -7,13 +7,13 @@ use Rattle.std.specs.List.{prefix_len}
 use lib.Count.{count_trailing_zeros}
 use lib.Lanes.{chunk, zip2, mask_l, top}
 use mir.Syntax.{Width}
-use mir.Val.{Fits, bits, hbits}
+use mir.Val.{bits, hbits}
 use Rattle.std.proofs.lemmas.Bool.Decides.{nat_tests}
 use Rattle.std.proofs.lemmas.Bool.{cases_lt, ne_eqb, eq-eqb, le-leb, lt-leb, cond-true, cond-false, lt-ltb, le-ltb, true≢false, false_from_ne_true}
 use Rattle.std.proofs.lemmas.List.{append-nil, length-map, take_all, drop-drop, length-drop}
 use Rattle.std.proofs.lemmas.List.Folds.{prefix_len-append}
-use Rattle.std.proofs.lemmas.Simd.{chunk-drop, length-chunk, get_or-chunk, tops_compared, zip2_splat_left, mask_l-mod, first_set_mask_l, leading_from_mask_l}
-use Rattle.std.proofs.lemmas.List.Sums.{prefix_len-drop_all, prefix_len-le-length, prefix_len_stops, prefix_len_is}
+use Rattle.std.proofs.lemmas.Simd.{chunk-drop, length-chunk, tops_compared, zip2_splat_left, mask_l-mod, first_set_mask_l}
+use Rattle.std.proofs.lemmas.List.Sums.{prefix_len-drop_all, prefix_len-le-length, prefix_len_stops}
 use Rattle.std.proofs.lemmas.List.Elements.{All-nil, All-cons, All-head, All-tail, All-same, All-weaker}
 use Rattle.normalizer_text.specs.Encodings.{Encoding, first_in, decoded_in}
 use Rattle.normalizer_sets.specs.CharacterSets.{low_byte}
@@ -98,18 +98,30 @@ not-leb bound x = ⊎_elim
     (λ g. ap not (le-leb bound x g) ∙ sym (le-ltb x bound g))
     (cases_lt x bound)
 
--- the first lane that reaches the bound, by the mask of a comparison
-pub lanes-below : (w : Width) (bound : ℕ) (v : List ℕ) (n mask : ℕ) → length v ≡ n → n ≤ 64
-    → mask ≡ mask_l (map (top (hbits w)) (zip2 (λ a b. cond (leb a b) (2 ^ bits w - 1) 0) (replicate n bound) v)) % 2 ^ 64
-    → cond (eqb mask 0) n (count_trailing_zeros 64 mask) ≡ leading_below bound v
-lanes-below w bound v n mask long few is =
-    let marks = tops_compared w leb (replicate n bound) v ∙ zip2_splat_left leb bound n v long in
-    let whole = is ∙ ap (λ l. mask_l l % 2 ^ 64) marks ∙ mask_l-mod (map (λ x. leb bound x) v) 64 (omega (arith, length-map v (λ x. leb bound x))) in
-    ap (λ m. cond (eqb m 0) n (count_trailing_zeros 64 m)) whole
-    ∙ first_set_mask_l (λ x. leb bound x) v n long few
+-- ---- a mask of the units that reach the bound
+
+-- by a comparison of vectors
+pub reaching : (w : Width) (bound : ℕ) (v : List ℕ) (n : ℕ) → length v ≡ n → n ≤ 64
+    → mask_l (map (top (hbits w)) (zip2 (λ a b. cond (leb a b) (2 ^ bits w - 1) 0) (replicate n bound) v)) % 2 ^ 64 ≡ mask_l (map (leb bound) v)
+reaching w bound v n long few =
+    ap (λ l. mask_l l % 2 ^ 64) (tops_compared w leb (replicate n bound) v ∙ zip2_splat_left leb bound n v long)
+    ∙ mask_l-mod (map (leb bound) v) 64 (omega (arith, length-map v (leb bound)))
+
+-- if the bound is too high for any of them, it is empty
+pub reaching-none : (bound : ℕ) (v : List ℕ) → ((k : ℕ) → k < length v → get_or v k 0 < bound) → mask_l (map (leb bound) v) ≡ 0
+reaching-none bound [] low = refl
+reaching-none bound (u ∷ us) low =
+    ap (λ b. cond b 1 0 + 2 * mask_l (map (leb bound) us)) (lt-leb bound u (low 0 (omega arith)))
+    ∙ omega (arith, reaching-none bound us (λ k h. low (suc k) (omega arith)))
+
+-- the first of them
+pub first-reaching : (bound : ℕ) (v : List ℕ) (n : ℕ) → length v ≡ n → n ≤ 64
+    → cond (eqb (mask_l (map (leb bound) v)) 0) n (count_trailing_zeros 64 (mask_l (map (leb bound) v))) ≡ leading_below bound v
+first-reaching bound v n long few =
+    first_set_mask_l (leb bound) v n long few
     ∙ prefix_len-same (λ x. not (leb bound x)) (λ x. ltb x bound) (not-leb bound) v
 
--- the mask of lanes without the first k
+-- without the first k units
 half : (b : Bool) (n : ℕ) → (cond b 1 0 + 2 * n) / 2 ≡ n
 half true n = omega arith
 half false n = omega arith
@@ -121,34 +133,19 @@ mask-drop p (suc k) (x ∷ v) =
     ap (λ n. mask_l (map p (x ∷ v)) / n) (pow-suc 2 k ∙ mul_comm (2 ^ k) 2) ∙ sym (div-div-eq-div-mul (mask_l (map p (x ∷ v))) 2 (2 ^ k))
     ∙ ap (λ n. n / 2 ^ k) (half (p x) (mask_l (map p v))) ∙ mask-drop p k v
 
--- the last lanes are all below the bound, if none of their bits is set in the mask of a vector that ends with them
-pub last_lanes-below : (w : Width) (bound : ℕ) (units : List ℕ) (n at mask : ℕ) → n ≤ 64 → n ≤ length units → length units ≤ at + n → at ≤ length units
-    → mask ≡ mask_l (map (top (hbits w)) (zip2 (λ a b. cond (leb a b) (2 ^ bits w - 1) 0) (replicate n bound) (chunk (length units - n) n units))) % 2 ^ 64
-    → mask / 2 ^ (at - (length units - n)) ≡ 0 → leading_below bound (drop at units) ≡ length units - at
-last_lanes-below w bound units n at mask few room most within is none =
-    let reaches = λ (x : ℕ). leb bound x in
+-- the first of the last units, by a vector that ends with them
+pub last-reaching : (bound : ℕ) (units : List ℕ) (n at mask : ℕ) → n ≤ 64 → n ≤ length units → length units ≤ at + n → at ≤ length units
+    → mask ≡ mask_l (map (leb bound) (chunk (length units - n) n units)) / 2 ^ (at - (length units - n))
+    → cond (eqb mask 0) (length units - at) (count_trailing_zeros 64 mask) ≡ leading_below bound (drop at units)
+last-reaching bound units n at mask few room last within is =
     let start = length units - n in
     let k = at - start in
-    let v = chunk start n units in
-    let long = length-chunk start n units (omega arith) in
-    let marks = tops_compared w leb (replicate n bound) v ∙ zip2_splat_left leb bound n v long in
-    let whole = is ∙ ap (λ l. mask_l l % 2 ^ 64) marks ∙ mask_l-mod (map reaches v) 64 (omega (arith, length-map v reaches)) in
-    let rest : drop k v ≡ drop at units =
+    let rest : drop k (chunk start n units) ≡ drop at units =
     ap (drop k) (take_all n (drop start units) (omega (arith, length-drop start units)))
     ∙ drop-drop k start units ∙ ap (λ i. drop i units) (let same : start + k ≡ at = omega arith in same) in
-    ap (leading_below bound) (sym rest)
-    ∙ prefix_len-same (λ x. ltb x bound) (λ x. not (reaches x)) (λ x. sym (not-leb bound x)) (drop k v)
-    ∙ leading_from_mask_l reaches (drop k v) (sym (mask-drop reaches k v) ∙ ap (λ m. m / 2 ^ k) (sym whole) ∙ none)
-    ∙ ap length rest ∙ length-drop at units
-
--- and if the bound is too high for any of them to reach it
-pub lanes-below_all : (w : Width) (bound : ℕ) (units : List ℕ) (at n : ℕ) → at + n ≤ length units → ((k : ℕ) → Fits w (get_or units k 0)) → 2 ^ bits w ≤ bound
-    → n ≡ leading_below bound (take n (drop at units))
-lanes-below_all w bound units at n room fits high =
-    let long = length-chunk at n units room in
-    sym (prefix_len_is (λ u. ltb u bound) (chunk at n units) n 0 (omega arith)
-    (λ k h. lt-ltb _ bound (let f = (fits (at + k)).fits in omega (arith, get_or-chunk at n units k 0 h)))
-    (λ h. absurd (omega arith)))
+    let whole = is ∙ mask-drop (leb bound) k (chunk start n units) ∙ ap (λ v. mask_l (map (leb bound) v)) rest in
+    ap (λ m. cond (eqb m 0) (length units - at) (count_trailing_zeros 64 m)) whole
+    ∙ first-reaching bound (drop at units) (length units - at) (length-drop at units) (omega arith)
 
 -- ---- units that are characters by themselves
 

@@ -14,7 +14,7 @@ loop-end-preserved-then-is_before_low_run c =
     let units = c.args.units.now in
     let some : c.loop-end.end < length units = omega arith in
     let one = prefix_len-drop_yes (has c.args.set.set.now) units c.loop-end.end 0 some (sym c.has_unit.ensures ∙ c.if-not-has_unit.false) in
-    let low = prefix-below (has c.args.set.set.now) c.args.set.low.number c.args.set.below units (c.loop-end.end + 1) _ (omega arith) c.end_of_below-end.ensures in
+    let low = prefix-below (has c.args.set.set.now) c.args.set.low.number _ c.from-limit.ensures c.args.set.below units (c.loop-end.end + 1) _ (omega arith) c.end_of_below-end.ensures in
     (low.0, omega (arith, low.1, one, c.loop-end.invariant.1))
 
 pub loop-end-preserved : goal.loop-end-preserved

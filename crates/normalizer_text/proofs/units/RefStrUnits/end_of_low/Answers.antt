@@ -13,6 +13,7 @@ end_of_last_few-requires c =
 pub returns : goal.returns
 returns c =
     let same = c.end_of_last_few.ensures
+    ∙ ap (λ l. c.args.position + leading_below l (drop c.args.position c.as_bytes.result.now)) c.from.ensures
     ∙ ap (λ bytes. c.args.position + leading_below c.args.bound.byte (drop c.args.position bytes)) c.as_bytes.ensures.value
     ∙ ap (λ l. c.args.position + leading_below l (drop c.args.position c.args.self.now)) c.args.bound.spelled in
     subst (EndsLowCharacters Encoding.Utf8 c.args.self.now c.args.position c.args.bound.number) (sym same)

@@ -1,6 +1,6 @@
 use Rattle.std.proofs.Common.{◌≡◌, ◌+◌, ◌-◌, ◌≤◌, length, drop}
 use Rattle.normalizer_text.specs.Scans.{leading_below}
-use Rattle.normalizer_text.proofs.scan.end_of_fewer.Given as goal
+use Rattle.normalizer_text.proofs.scan.passed_vectors.Given as goal
 
 -- the units passed over are below the bound
 abbrev pub invariant-loop-end : goal.invariant-loop-end
