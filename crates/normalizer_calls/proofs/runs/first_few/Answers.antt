@@ -11,4 +11,4 @@ end_of_few_members-end-requires g c = boundary-start g.U.Units.encoding (g.U.Uni
 pub returns : goal.returns
 returns g c =
     IsRun-starters _ _ _ _
-    (IsPassthroughTo-members _ _ _ (has c.passing.result.set.now) (λ n is. ((has-IsCandidate c.passing.result.set.now n is).other, c.passing.ensures n is)) _ _ _ c.end_of_few_members-end.ensures (λ _. refl) (IsPassthroughTo-none _ _ _))
+    (IsPassthroughTo-members _ _ _ (has c.passing-2.result.set.now) (λ n is. ((has-IsCandidate c.passing-2.result.set.now n is).other, c.passing-2.ensures n is)) _ _ _ c.end_of_few_members-end.ensures (λ _. refl) (IsPassthroughTo-none _ _ _))

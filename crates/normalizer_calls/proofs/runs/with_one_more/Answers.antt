@@ -10,14 +10,14 @@ with_step-requires g c =
 
 pub with_low-requires : goal.with_low-requires
 with_low-requires g c =
-    let is = c.passing.result.below c.args.step.character (omega (arith, c.if-step-passing.true)) in
+    let is = c.passing.result.below c.args.step.character (omega (arith, c.from.ensures, c.if-step-from.true)) in
     IsRun-longer _ _ _ _ _ c.requires.step c.requires.some _ _ _ _ _ _ c.requires.run
     (next_class-member (g.N.Forming.passthrough_class c.args.normalizer.now) c.args.run.last c.args.step
     (has-IsCandidate c.passing.result.set.now c.args.step.character is).other (c.passing.ensures c.args.step.character is))
     c.with_step.ensures.end c.with_step.ensures.last c.with_step.ensures.starter c.with_step.ensures.mark
 
-pub returns-then-step-passing-clause-end : goal.returns-then-step-passing-clause-end
-returns-then-step-passing-clause-end g c =
+pub returns-then-step-from-clause-end : goal.returns-then-step-from-clause-end
+returns-then-step-from-clause-end g c =
     omega (arith, c.with_step.ensures.end, c.with_low.ensures.1, step-some g.U.Units.encoding (g.U.Units.units c.args.units) c.args.run.end c.args.step c.requires.some c.requires.step)
 
 pub with_step-requires-2 : goal.with_step-requires-2
