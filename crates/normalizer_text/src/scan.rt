@@ -135,14 +135,15 @@ fn end_by_vectors<L: Scanned>(units: L, position: usize, bound: u32) -> usize
     }
 }
 
-/// Returns the same end, if few units are left.
+/// Returns the same end, if few units are left: by vectors, and the last ones unit by unit, so that little is inlined into
+/// the loops over characters of a long text.
 #[inline(always)]
 fn end_of_fewer<L: Scanned>(units: L, position: usize, bound: u32) -> usize
     requires { position ≤ length (L.units units) }
     ensures { result ≡ position + leading_below bound (drop position (L.units units)) }
 {
     match passed_vectors::<FEWER_LANES, L>(units, position, bound) {
-        ControlFlow::Continue(next) => end_of_last_few(units, next, bound),
+        ControlFlow::Continue(next) => end_by_units(units, next, bound),
         ControlFlow::Break(end) => end,
     }
 }
