@@ -31,18 +31,24 @@ pub(crate) fn end_of_low_bytes(bytes: &[u8], position: usize, bound: LowBound) -
     }
 }
 
-/// Returns such an end after other characters, if two low bytes are next.
+/// Returns such an end after other characters, if so many low bytes are next, one or two.
 #[inline(always)]
-pub(crate) fn low_run_after_others(bytes: &[u8], position: usize, bound: LowBound) -> Option<usize>
+pub(crate) fn low_run_after_others(
+    bytes: &[u8],
+    position: usize,
+    bound: LowBound,
+    fewest: usize,
+) -> Option<usize>
     requires { position ≤ length bytes.now }
     ensures low { IfSome result (EndsLowBytes (low_byte bound.number) bytes.now position) }
     ensures further { IfSome result (λ end. position < end) }
 {
     if !looks_for_pairs(bytes, position, bound) {
-        return scan::end_of_run(bytes, position, u32::from(bound.number).min(utf8::ASCII));
+        let limit = u32::from(bound.number).min(utf8::ASCII);
+        return scan::end_of_run(bytes, position, limit, fewest);
     }
     let limit = u32::from(bound.byte);
-    if !scan::begins_run(bytes, position, limit) {
+    if !scan::begins_run(bytes, position, limit, fewest) {
         return None;
     }
     let end = end_of_pairs(bytes, position, limit);

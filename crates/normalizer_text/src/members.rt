@@ -28,6 +28,9 @@ const FEW: usize = 16;
 /// Up to so many 16-bit units, pairs aren't looked up together with single units.
 const SHORT: usize = 40;
 
+/// No more bytes of other characters are those of one letter.
+const ONE_LETTER: usize = 3;
+
 /// Units whose steps are looked up one after another.
 pub(crate) trait Members: Copy {
     /// The units.
@@ -45,8 +48,8 @@ pub(crate) trait Members: Copy {
         requires { IsBoundary (first_in encoding) (units self) position }
         ensures { EndsLowCharacters encoding (units self) position bound.number result };
 
-    /// Such an end after other characters, if two low units are next.
-    fn low_run_after_others(self, position: usize, bound: LowBound) -> Option<usize>
+    /// Such an end after other characters, if so many low units are next, one or two.
+    fn low_run_after_others(self, position: usize, bound: LowBound, fewest: usize) -> Option<usize>
         requires { IsBoundary (first_in encoding) (units self) position }
         ensures low { IfSome result (EndsLowCharacters encoding (units self) position bound.number) }
         ensures further { IfSome result (λ end. position < end) };
@@ -104,7 +107,7 @@ fn passed_members<M: Members>(
     while end < units.len() {
         let next = passed_members_led_by(units, end, set, Lead::OfTwo)?;
         let next = passed_members_led_by(units, next, set, Lead::OfThree)?;
-        end = passed_low_or_kinds(units, next, set)?;
+        end = passed_low_or_kinds(units, next, next - end, set)?;
     }
     ControlFlow::Continue(end)
 }
@@ -162,18 +165,21 @@ fn passed_members_led_by<M: Members>(
 }
 
 /// Passes over low characters, or else over members that are single bytes or sequences of four. A single low unit, as a
-/// space between words, is looked up faster than a vector is read.
+/// space between words, is looked up faster than a vector is read. But after one letter with a diacritic it isn't foreseen
+/// whether a second low letter comes, so that there one begins a run.
 #[inline(always)]
 fn passed_low_or_kinds<M: Members>(
     units: M,
     position: usize,
+    passed: usize,
     set: KnownSet<'_>,
 ) -> ControlFlow<usize, usize>
     requires { IsBoundary (first_in M.encoding) (M.units units) position }
     ensures passed { IsPassed (has set.entry.set.now) M.encoding (M.units units) position result }
     ensures further { ForContinue result (λ end. position < end) }
 {
-    match units.low_run_after_others(position, set.low) {
+    let fewest = if passed <= ONE_LETTER { 1 } else { 2 };
+    match units.low_run_after_others(position, set.low, fewest) {
         Some(end) => ControlFlow::Continue(end),
         None => passed_kinds(units, position, set, (Lead::OfOne, Lead::OfFour)),
     }
@@ -236,8 +242,13 @@ impl<'a> Members for &'a str {
     }
 
     #[inline(always)]
-    fn low_run_after_others(self, position: usize, bound: LowBound) -> Option<usize> {
-        scan::end_of_run(self.as_bytes(), position, u32::from(bound.byte))
+    fn low_run_after_others(
+        self,
+        position: usize,
+        bound: LowBound,
+        fewest: usize,
+    ) -> Option<usize> {
+        scan::end_of_run(self.as_bytes(), position, u32::from(bound.byte), fewest)
     }
 
     #[inline(always)]
@@ -275,8 +286,13 @@ impl<'a> Members for &'a [u8] {
     }
 
     #[inline(always)]
-    fn low_run_after_others(self, position: usize, bound: LowBound) -> Option<usize> {
-        low_bytes::low_run_after_others(self, position, bound)
+    fn low_run_after_others(
+        self,
+        position: usize,
+        bound: LowBound,
+        fewest: usize,
+    ) -> Option<usize> {
+        low_bytes::low_run_after_others(self, position, bound, fewest)
     }
 
     #[inline(always)]

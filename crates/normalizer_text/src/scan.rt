@@ -189,29 +189,34 @@ fn end_by_units<L: Scanned>(units: L, position: usize, bound: u32) -> usize
     end
 }
 
-/// Returns the same end, if two such units are at the position: fewer are looked at faster than a vector is read.
+/// Returns the same end, if so many such units are at the position, one or two.
 #[inline(always)]
-pub(crate) fn end_of_run<L: Scanned>(units: L, position: usize, bound: u32) -> Option<usize>
+pub(crate) fn end_of_run<L: Scanned>(
+    units: L,
+    position: usize,
+    bound: u32,
+    fewest: usize,
+) -> Option<usize>
     requires { position ≤ length (L.units units) }
     ensures end { IfSome result (λ end. end ≡ position + leading_below bound (drop position (L.units units))) }
     ensures further { IfSome result (λ end. position < end) }
 {
-    if begins_run(units, position, bound) {
+    if begins_run(units, position, bound, fewest) {
         Some(end_of_below(units, position, bound))
     } else {
         None
     }
 }
 
-/// Whether two units that are below a bound are at a position.
+/// Whether so many units that are below a bound are at a position, one or two. The last unit of all isn't looked at alone.
 #[inline(always)]
-pub(crate) fn begins_run<L: Scanned>(units: L, position: usize, bound: u32) -> bool
+pub(crate) fn begins_run<L: Scanned>(units: L, position: usize, bound: u32, fewest: usize) -> bool
     requires { position ≤ length (L.units units) }
     ensures { IsTrue result → 0 < leading_below bound (drop position (L.units units)) }
 {
     units.len() - position > 1
         && units.is_below(position, bound)
-        && units.is_below(position + 1, bound)
+        && (fewest == 1 || units.is_below(position + 1, bound))
 }
 
 /// Returns how many of so many lanes come before the first one whose bit is set.

@@ -15,4 +15,4 @@ returns-then-position-end-clause-low c =
 
 pub returns-then-not-looks_for_pairs-clause-low : goal.returns-then-not-looks_for_pairs-clause-low
 returns-then-not-looks_for_pairs-clause-low c =
-    low_bytes-run c.args.bytes.now c.args.position c.args.bound.number c.min.result c.end_of_run.result c.requires (c.min.ensures ∙ ap (λ l. min l 128) c.from.ensures) c.end_of_run.ensures.end
+    low_bytes-run c.args.bytes.now c.args.position c.args.bound.number c.min-limit.result c.end_of_run.result c.requires (c.min-limit.ensures ∙ ap (λ l. min l 128) c.from.ensures) c.end_of_run.ensures.end
