@@ -234,7 +234,11 @@ fn with_several<U: Units, N: Forming>(normalizer: &N, units: U, run: RunSoFar) -
     longer
 }
 
-/// Returns the run with the members of a set after it, which are passed over together.
+/// After a mark, so many low letters are mostly followed by a mark.
+const SEVERAL: usize = 2;
+
+/// Returns the run with the members of a set after it, which are passed over together. After a mark and several low
+/// letters, what comes next isn't looked up in the set.
 #[inline(always)]
 fn with_members<U: Units, N: Forming>(
     normalizer: &N,
@@ -246,7 +250,16 @@ fn with_members<U: Units, N: Forming>(
     requires passing { IsPassingSet (N.passthrough_class normalizer.now) passing.set.now }
     ensures { GoesOn (N.passthrough_class normalizer.now) U.encoding (U.units units) run result }
 {
-    let end = units.end_of_members(run.end, passing);
+    let low = units.end_of_low_run(run.end, passing.low);
+    if run.last != 0 && low - run.end >= SEVERAL {
+        return RunSoFar {
+            marks: low,
+            end: low,
+            last: 0,
+            gaps: gaps_after(run.gaps, low - run.end),
+        };
+    }
+    let end = units.end_of_members_after_low(low, passing);
     let gaps = gaps_after(run.gaps, end - run.end);
     if end == run.end {
         return RunSoFar {
@@ -324,20 +337,6 @@ fn with_more<U: Units, N: Forming>(
     longer
 }
 
-/// Returns the members of the set that the units begin with.
-#[inline(always)]
-fn first_run<U: Units, N: Forming>(normalizer: &N, units: U) -> RunSoFar
-    ensures { IsRunSoFar (N.passthrough_class normalizer.now) U.encoding (U.units units) result }
-{
-    let end = units.end_of_members(0, normalizer.passing());
-    RunSoFar {
-        marks: end,
-        end,
-        last: 0,
-        gaps: gaps_after(UNKNOWN, end),
-    }
-}
-
 /// Returns the low characters that the units begin with.
 #[inline(always)]
 fn first_low<U: Units, N: Forming>(normalizer: &N, units: U) -> RunSoFar
@@ -372,13 +371,13 @@ fn first_few<U: Units, N: Forming>(normalizer: &N, units: U) -> RunSoFar
 {
     let bound = u32::from(normalizer.passing().low.number);
     let has_latin = bound >= LATIN;
+    let low = first_low(normalizer, units);
     if has_latin || !normalizer.holds_back() {
-        let low = first_low(normalizer, units);
         if low.end > 0 || has_latin && begins_with_low_pair(units, bound) {
             return low;
         }
     }
-    let end = units.end_of_few_members(0, normalizer.passing());
+    let end = units.end_of_few_members_after_low(low.end, normalizer.passing());
     RunSoFar {
         marks: end,
         end,
@@ -676,23 +675,14 @@ pub(crate) fn passthrough_end<U: Units, N: Forming>(
     } else if expected == ExpectedFront::Alternating {
         alternating_passthrough_end(normalizer, units)
     } else {
-        long_passthrough_end(normalizer, units)
+        long_passthrough_end(normalizer, units, 0, 0, 0)
     }
 }
 
-/// Returns the same end of a text that isn't short.
+/// Returns the same end of a text that isn't short, of which a part of the run may be known. The parts are passed one by
+/// one: as a run they would go through memory.
 #[inline(never)]
-fn long_passthrough_end<U: Units, N: Forming>(normalizer: &N, units: U) -> Passed
-    ensures { IsPassedFront U.encoding (N.made_form normalizer.now) (U.units units) result.end }
-{
-    let first = first_run(normalizer, units);
-    passed_by(normalizer, units, run_end(normalizer, units, first))
-}
-
-/// Returns the same end of such a text, if a part of the run is known. The parts are passed one by one: as a run they would
-/// go through memory.
-#[inline(never)]
-fn long_passthrough_end_after<U: Units, N: Forming>(
+fn long_passthrough_end<U: Units, N: Forming>(
     normalizer: &N,
     units: U,
     marks: usize,
@@ -899,7 +889,7 @@ pub(crate) fn kept_end<U: Units, N: Forming>(
             },
         ) => {
             let passed = if units.len() > SHORT {
-                long_passthrough_end_after(normalizer, units, marks, end, last)
+                long_passthrough_end(normalizer, units, marks, end, last)
             } else {
                 passthrough_end_after(normalizer, units, marks, end, last)
             };

@@ -31,13 +31,13 @@ pub(crate) fn end_of_low_bytes(bytes: &[u8], position: usize, bound: LowBound) -
     }
 }
 
-/// Returns such an end after other characters, if so many low bytes are next, one or two.
+/// Returns such an end after other characters, if two low bytes are next, or one if that is enough.
 #[inline(always)]
 pub(crate) fn low_run_after_others(
     bytes: &[u8],
     position: usize,
     bound: LowBound,
-    fewest: usize,
+    is_one_enough: bool,
 ) -> Option<usize>
     requires { position ≤ length bytes.now }
     ensures low { IfSome result (EndsLowBytes (low_byte bound.number) bytes.now position) }
@@ -45,10 +45,10 @@ pub(crate) fn low_run_after_others(
 {
     if !looks_for_pairs(bytes, position, bound) {
         let limit = u32::from(bound.number).min(utf8::ASCII);
-        return scan::end_of_run(bytes, position, limit, fewest);
+        return scan::end_of_run(bytes, position, limit, is_one_enough);
     }
     let limit = u32::from(bound.byte);
-    if !scan::begins_run(bytes, position, limit, fewest) {
+    if !scan::begins_run(bytes, position, limit, is_one_enough) {
         return None;
     }
     let end = end_of_pairs(bytes, position, limit);

@@ -43,13 +43,14 @@ pub(crate) trait Members: Copy {
     fn len(self) -> usize
         ensures { result ≡ length (units self) };
 
-    /// An end of characters from a position on that are below a bound, found by vectors.
-    fn end_of_low_run(self, position: usize, bound: LowBound) -> usize
-        requires { IsBoundary (first_in encoding) (units self) position }
-        ensures { EndsLowCharacters encoding (units self) position bound.number result };
-
-    /// Such an end after other characters, if so many low units are next, one or two.
-    fn low_run_after_others(self, position: usize, bound: LowBound, fewest: usize) -> Option<usize>
+    /// An end of characters from a position on that are below a bound, after other characters, found by vectors: if two
+    /// low units are next, or one if that is enough.
+    fn low_run_after_others(
+        self,
+        position: usize,
+        bound: LowBound,
+        is_one_enough: bool,
+    ) -> Option<usize>
         requires { IsBoundary (first_in encoding) (units self) position }
         ensures low { IfSome result (EndsLowCharacters encoding (units self) position bound.number) }
         ensures further { IfSome result (λ end. position < end) };
@@ -78,9 +79,14 @@ pub(crate) trait Members: Copy {
             ≡ (if result then width_led_by lead else 0) };
 }
 
-/// Returns the end of the steps from a position on whose characters are all in the set.
+/// Returns the end of the steps from a position on whose characters are all in the set, of which the first isn't expected
+/// to be low.
 #[inline(always)]
-pub(crate) fn end_of_members<M: Members>(units: M, position: usize, set: KnownSet<'_>) -> usize
+pub(crate) fn end_of_members_after_low<M: Members>(
+    units: M,
+    position: usize,
+    set: KnownSet<'_>,
+) -> usize
     requires { IsBoundary (first_in M.encoding) (M.units units) position }
     ensures { result ≡ position
         + width_within (has set.entry.set.now) (steps (first_in M.encoding) (drop position (M.units units))) }
@@ -102,8 +108,7 @@ fn passed_members<M: Members>(
     ensures { let end = end_within (has set.entry.set.now) M.encoding (M.units units) position in
         MatchControlFlow result (λ r. r ≡ end) (λ r. r ≡ end) }
 {
-    let bound = set.low;
-    let mut end = units.end_of_low_run(position, bound);
+    let mut end = position;
     while end < units.len() {
         let next = passed_members_led_by(units, end, set, Lead::OfTwo)?;
         let next = passed_members_led_by(units, next, set, Lead::OfThree)?;
@@ -112,9 +117,13 @@ fn passed_members<M: Members>(
     ControlFlow::Continue(end)
 }
 
-/// Returns the same end of a short text. After the low units that it begins with, characters are looked up one by one.
+/// Returns the same end of a short text. Characters are looked up one by one.
 #[inline(always)]
-pub(crate) fn end_of_few_members<M: Members>(units: M, position: usize, set: KnownSet<'_>) -> usize
+pub(crate) fn end_of_few_members_after_low<M: Members>(
+    units: M,
+    position: usize,
+    set: KnownSet<'_>,
+) -> usize
     requires { IsBoundary (first_in M.encoding) (M.units units) position }
     ensures { result ≡ position
         + width_within (has set.entry.set.now) (steps (first_in M.encoding) (drop position (M.units units))) }
@@ -132,11 +141,10 @@ fn passed_few<M: Members>(units: M, position: usize, set: KnownSet<'_>) -> Contr
     ensures { let end = end_within (has set.entry.set.now) M.encoding (M.units units) position in
         MatchControlFlow result (λ r. r ≡ end) (λ r. r ≡ end) }
 {
-    let bound = set.low;
-    let mut end = units.end_of_low_run(position, bound);
+    let mut end = position;
     while end < units.len() {
         let next = passed_kinds(units, end, set, (Lead::OfTwo, Lead::OfThree))?;
-        end = units.end_of_low(next, bound);
+        end = units.end_of_low(next, set.low);
     }
     ControlFlow::Continue(end)
 }
@@ -178,8 +186,7 @@ fn passed_low_or_kinds<M: Members>(
     ensures passed { IsPassed (has set.entry.set.now) M.encoding (M.units units) position result }
     ensures further { ForContinue result (λ end. position < end) }
 {
-    let fewest = if passed <= ONE_LETTER { 1 } else { 2 };
-    match units.low_run_after_others(position, set.low, fewest) {
+    match units.low_run_after_others(position, set.low, passed <= ONE_LETTER) {
         Some(end) => ControlFlow::Continue(end),
         None => passed_kinds(units, position, set, (Lead::OfOne, Lead::OfFour)),
     }
@@ -237,18 +244,18 @@ impl<'a> Members for &'a str {
     }
 
     #[inline(always)]
-    fn end_of_low_run(self, position: usize, bound: LowBound) -> usize {
-        <&'a str as Units>::end_of_low_run(self, position, bound)
-    }
-
-    #[inline(always)]
     fn low_run_after_others(
         self,
         position: usize,
         bound: LowBound,
-        fewest: usize,
+        is_one_enough: bool,
     ) -> Option<usize> {
-        scan::end_of_run(self.as_bytes(), position, u32::from(bound.byte), fewest)
+        scan::end_of_run(
+            self.as_bytes(),
+            position,
+            u32::from(bound.byte),
+            is_one_enough,
+        )
     }
 
     #[inline(always)]
@@ -281,18 +288,13 @@ impl<'a> Members for &'a [u8] {
     }
 
     #[inline(always)]
-    fn end_of_low_run(self, position: usize, bound: LowBound) -> usize {
-        <&'a [u8] as Units>::end_of_low_run(self, position, bound)
-    }
-
-    #[inline(always)]
     fn low_run_after_others(
         self,
         position: usize,
         bound: LowBound,
-        fewest: usize,
+        is_one_enough: bool,
     ) -> Option<usize> {
-        low_bytes::low_run_after_others(self, position, bound, fewest)
+        low_bytes::low_run_after_others(self, position, bound, is_one_enough)
     }
 
     #[inline(always)]
@@ -317,18 +319,23 @@ impl<'a> Members for &'a [u8] {
 
 /// Returns the same end of 16-bit units.
 #[inline(always)]
-pub(crate) fn end_of_unit_members(units: &[u16], position: usize, set: KnownSet<'_>) -> usize
+pub(crate) fn end_of_unit_members_after_low(
+    units: &[u16],
+    position: usize,
+    set: KnownSet<'_>,
+) -> usize
     requires { IsBoundary first_of_utf16 units.now position }
     ensures { result ≡ position
         + width_within (has set.entry.set.now) (steps first_of_utf16 (drop position units.now)) }
 {
     let mut end = position;
     while end < units.len() {
-        end = end_of_single_members(units, end, set);
+        end = end_of_singles_after_low(units, end, set);
         if !has_pair_at(units, end, set.set) {
             return end;
         }
-        end = end_after_pair(units, end + 2, set.set);
+        let next = end_after_pair(units, end + 2, set.set);
+        end = scan::end_of_below(units, next, u32::from(set.low.number));
     }
     end
 }
@@ -408,26 +415,24 @@ fn with_step(pairs: u8, width: usize) -> u8
     pairs % 128 * 2 + u8::from(width == 2)
 }
 
-/// Returns the end of the units from a position on that are members by themselves. Low ones, and then none or one, as a
-/// space between others, are passed over without a call.
+/// Returns the end of the units from a position on that are members by themselves. None or one, as a space between
+/// others, is passed over without a call.
 #[inline(always)]
-fn end_of_single_members(units: &[u16], position: usize, set: KnownSet<'_>) -> usize
+fn end_of_singles_after_low(units: &[u16], position: usize, set: KnownSet<'_>) -> usize
     requires { position ≤ length units.now }
     ensures { result ≡ position + prefix_len (has set.entry.set.now) (drop position units.now) }
 {
-    let limit = u32::from(set.low.number);
-    let end = scan::end_of_below(units, position, limit);
-    if units.len() - end <= FEW {
-        return end_of_few_singles(units, end, set.set);
+    if units.len() - position <= FEW {
+        return end_of_few_singles(units, position, set.set);
     }
-    if !set.set.has_unit(units[end]) {
-        return end;
+    if !set.set.has_unit(units[position]) {
+        return position;
     }
-    let next = end + 1;
+    let next = position + 1;
     if !set.set.has_unit(units[next]) {
         return next;
     }
-    end_of_single_run(units, end, set)
+    end_of_single_run(units, next + 1, set)
 }
 
 /// Returns the same end of more units. It isn't inlined, so that its loops have the registers for themselves.

@@ -189,34 +189,41 @@ fn end_by_units<L: Scanned>(units: L, position: usize, bound: u32) -> usize
     end
 }
 
-/// Returns the same end, if so many such units are at the position, one or two.
+/// Returns the same end, if two such units are at the position, or one if that is enough. Fewer are looked up faster than
+/// a vector is read.
 #[inline(always)]
 pub(crate) fn end_of_run<L: Scanned>(
     units: L,
     position: usize,
     bound: u32,
-    fewest: usize,
+    is_one_enough: bool,
 ) -> Option<usize>
     requires { position ≤ length (L.units units) }
     ensures end { IfSome result (λ end. end ≡ position + leading_below bound (drop position (L.units units))) }
     ensures further { IfSome result (λ end. position < end) }
 {
-    if begins_run(units, position, bound, fewest) {
+    if begins_run(units, position, bound, is_one_enough) {
         Some(end_of_below(units, position, bound))
     } else {
         None
     }
 }
 
-/// Whether so many units that are below a bound are at a position, one or two. The last unit of all isn't looked at alone.
+/// Whether two units that are below a bound are at a position, or one if that is enough. The last unit of all isn't looked
+/// at alone.
 #[inline(always)]
-pub(crate) fn begins_run<L: Scanned>(units: L, position: usize, bound: u32, fewest: usize) -> bool
+pub(crate) fn begins_run<L: Scanned>(
+    units: L,
+    position: usize,
+    bound: u32,
+    is_one_enough: bool,
+) -> bool
     requires { position ≤ length (L.units units) }
     ensures { IsTrue result → 0 < leading_below bound (drop position (L.units units)) }
 {
     units.len() - position > 1
         && units.is_below(position, bound)
-        && (fewest == 1 || units.is_below(position + 1, bound))
+        && (is_one_enough || units.is_below(position + 1, bound))
 }
 
 /// Returns how many of so many lanes come before the first one whose bit is set.

@@ -55,14 +55,15 @@ pub trait Units: Copy {
         requires { IsBoundary (first_in encoding) (units self) position }
         ensures { units result ≡ drop position (units self) };
 
-    /// Returns the end of the steps from a position on whose characters are all in the set.
-    fn end_of_members(self, position: usize, set: KnownSet<'_>) -> usize
+    /// Returns the end of the steps from a position on whose characters are all in the set. It is found faster if the first
+    /// one isn't low, as after a run of low characters.
+    fn end_of_members_after_low(self, position: usize, set: KnownSet<'_>) -> usize
         requires { IsBoundary (first_in encoding) (units self) position }
         ensures { result ≡ position
             + width_within (has set.entry.set.now) (steps (first_in encoding) (drop position (units self))) };
 
     /// Returns the same end, found in fewer instructions if there are few units.
-    fn end_of_few_members(self, position: usize, set: KnownSet<'_>) -> usize
+    fn end_of_few_members_after_low(self, position: usize, set: KnownSet<'_>) -> usize
         requires { IsBoundary (first_in encoding) (units self) position }
         ensures { result ≡ position
             + width_within (has set.entry.set.now) (steps (first_in encoding) (drop position (units self))) };
@@ -172,13 +173,13 @@ impl<'a> Units for &'a str {
     }
 
     #[inline(always)]
-    fn end_of_members(self, position: usize, set: KnownSet<'_>) -> usize {
-        members::end_of_members(self, position, set)
+    fn end_of_members_after_low(self, position: usize, set: KnownSet<'_>) -> usize {
+        members::end_of_members_after_low(self, position, set)
     }
 
     #[inline(always)]
-    fn end_of_few_members(self, position: usize, set: KnownSet<'_>) -> usize {
-        members::end_of_few_members(self, position, set)
+    fn end_of_few_members_after_low(self, position: usize, set: KnownSet<'_>) -> usize {
+        members::end_of_few_members_after_low(self, position, set)
     }
 
     fn before(self, position: usize) -> Self {
@@ -224,13 +225,13 @@ impl<'a> Units for &'a [u8] {
     }
 
     #[inline(always)]
-    fn end_of_members(self, position: usize, set: KnownSet<'_>) -> usize {
-        members::end_of_members(self, position, set)
+    fn end_of_members_after_low(self, position: usize, set: KnownSet<'_>) -> usize {
+        members::end_of_members_after_low(self, position, set)
     }
 
     #[inline(always)]
-    fn end_of_few_members(self, position: usize, set: KnownSet<'_>) -> usize {
-        members::end_of_few_members(self, position, set)
+    fn end_of_few_members_after_low(self, position: usize, set: KnownSet<'_>) -> usize {
+        members::end_of_few_members_after_low(self, position, set)
     }
 
     fn before(self, position: usize) -> Self {
@@ -276,13 +277,13 @@ impl<'a> Units for &'a [u16] {
     }
 
     #[inline(always)]
-    fn end_of_members(self, position: usize, set: KnownSet<'_>) -> usize {
-        members::end_of_unit_members(self, position, set)
+    fn end_of_members_after_low(self, position: usize, set: KnownSet<'_>) -> usize {
+        members::end_of_unit_members_after_low(self, position, set)
     }
 
     #[inline(always)]
-    fn end_of_few_members(self, position: usize, set: KnownSet<'_>) -> usize {
-        members::end_of_unit_members(self, position, set)
+    fn end_of_few_members_after_low(self, position: usize, set: KnownSet<'_>) -> usize {
+        members::end_of_unit_members_after_low(self, position, set)
     }
 
     fn before(self, position: usize) -> Self {

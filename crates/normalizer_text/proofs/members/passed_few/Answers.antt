@@ -1,12 +1,10 @@
-use Rattle.std.proofs.Common.{arith, sym, ◌∙◌}
+use Rattle.std.proofs.Common.{arith, refl, sym, ◌∙◌}
 use Rattle.normalizer_sets.specs.CharacterSets.{has}
 use Rattle.normalizer_text.proofs.scans.MemberLemmas.{members-end, members-passed}
 use Rattle.normalizer_text.proofs.members.passed_few.Goals as goal
 
 pub loop-end-init : goal.loop-end-init
-loop-end-init g c =
-    let low = members-passed (has c.args.set.set.now) g.M.Members.encoding (g.M.Members.units c.args.units) c.args.position _ _ c.requires c.end_of_low_run-end.ensures c.args.set.below in
-    (low.0, low.2)
+loop-end-init g c = (c.requires, refl)
 
 pub loop-end-preserved : goal.loop-end-preserved
 loop-end-preserved g c =

@@ -3,7 +3,7 @@ use Rattle.normalizer_sets.specs.CharacterSets.{has}
 use Rattle.normalizer_text.specs.DecodingSteps.{steps, IsBoundary}
 use Rattle.normalizer_text.specs.Scans.{width_within}
 use Rattle.normalizer_text.specs.Utf16.{first_of_utf16}
-use Rattle.normalizer_text.proofs.members.end_of_unit_members.Given as goal
+use Rattle.normalizer_text.proofs.members.end_of_unit_members_after_low.Given as goal
 
 -- a step ends here, and what is left of the run is what was left before
 abbrev pub invariant-loop-end : goal.invariant-loop-end
