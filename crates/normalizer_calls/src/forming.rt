@@ -1,7 +1,7 @@
 //! What the decomposing and the composing form differ in, as one trait: every call on text is written once over it.
 ghost use Rattle.std.specs.Prelude.{◌≡◌, ◌↔◌, ◌<◌, ◌||◌, ◌∷◌, [], nat_lt, not, ℕ, Bool, true, false, IfOk, IfSome};
 ghost use Rattle.std.specs.Prelude.{◌≤◌, All, length, IsTrue, IsOk, IsOkUnless, IsErrOf, Option, Some, None};
-ghost use Rattle.std.specs.Prelude.{if◌then◌else◌, take, MatchOption};
+ghost use Rattle.std.specs.Prelude.{if◌then◌else◌, take, IfErr, MatchOption, MatchResult};
 ghost use Rattle.std.specs.Char.{IsScalar};
 ghost use Rattle.normal_forms.specs.Decomposition.{expand};
 ghost use Rattle.normal_forms.specs.ShortRuns.{buffer_limit, HasShortRuns};
@@ -64,10 +64,12 @@ pub trait Forming {
         ensures lists { (c : ℕ) → (made_form self.now).reading.list c ≡ list_of result.now [] c }
         ensures classes { (c : ℕ) → (made_form self.now).reading.class c ≡ class_of result.now c };
 
-    /// Returns the class of a character that is passed on as it is: wherever it comes if that is 0, otherwise unless
-    /// the class before is greater.
-    fn passthrough_class(&self, character: char) -> Option<u8>
-        ensures { result ≡ passthrough_class self.now character };
+    /// Returns the class of a character that is passed on as it is, wherever it comes if that is 0, otherwise unless the
+    /// class before is greater; or of another one whether it begins a new part. The character is looked up once.
+    fn passthrough_class(&self, character: char) -> Result<u8, bool>
+        ensures class { MatchResult result (λ class. passthrough_class self.now character ≡ Some class)
+            (λ _. passthrough_class self.now character ≡ None) }
+        ensures begins { IfErr result (λ begins. begins ≡ beginning self.now character) };
 
     /// Returns the class of a character that is passed on after one of class `last`, if its word alone says so.
     fn seen_class(&self, last: u8, character: char) -> Option<u8>
@@ -223,13 +225,17 @@ impl<'a> Forming for DecomposingForm<'a> {
         &self.characters
     }
 
+    #[tactic(auto, unfolding(normalizer_tables::specs::Characters::has_class_form))]
     #[inline(always)]
-    fn passthrough_class(&self, character: char) -> Option<u8> {
+    fn passthrough_class(&self, character: char) -> Result<u8, bool> {
         if (character as u32) < self.bounds.decomposition {
-            return Some(0);
+            return Ok(0);
         }
         let word = self.characters.word_of(character);
-        class_by(&self.characters, character, word)
+        match class_by(&self.characters, character, word) {
+            Some(class) => Ok(class),
+            None => Err(!is_class_form(word)),
+        }
     }
 
     #[inline(always)]
@@ -340,16 +346,14 @@ impl<'a> Forming for ComposingForm<'a> {
 
     #[tactic(auto, unfolding(crate::specs::inner::ComposingClasses::class_if_alone, crate::specs::inner::ComposingClasses::composing_class))]
     #[inline(always)]
-    fn passthrough_class(&self, character: char) -> Option<u8> {
+    fn passthrough_class(&self, character: char) -> Result<u8, bool> {
         let word = self.characters.word_of(character);
         if self.passes_by(character, word) {
-            return Some(0);
+            return Ok(0);
         }
-        let class = class_by(&self.characters, character, word)?;
-        if !may_be_second(self.pairs, character) {
-            Some(class)
-        } else {
-            None
+        match class_by(&self.characters, character, word) {
+            Some(class) if !may_be_second(self.pairs, character) => Ok(class),
+            _ => Err(self.begins_by(character, word)),
         }
     }
 

@@ -1,12 +1,14 @@
 //! The ends of runs of characters that are passed on as they are, and of the segments between them.
 ghost use Rattle.std.specs.Prelude.{◌≡◌, ◌≢◌, ◌+◌, ◌^◌, ◌<◌, ◌≤◌, drop, length};
-ghost use Rattle.std.specs.Prelude.{◌↔◌, IfErr, IfOk, IfSome, IsTrue, MatchOption, MatchResult, None, Some, false};
+ghost use Rattle.std.specs.Prelude.{◌↔◌, IfErr, IfOk, IfSome, IsTrue, MatchResult, None, Some, false, true};
 ghost use Rattle.normalizer_text.specs.Encodings.{first_in};
 ghost use Rattle.normalizer_text.specs.DecodingSteps.{IsBoundary};
 ghost use Rattle.normalizer_text.specs.InputCut.{IsInputNormalized};
 ghost use Rattle.normalizer_iterators.specs.CharactersLeft.{EndsFront};
 ghost use Rattle.normalizer_calls.specs.inner.PassthroughRuns.{next_class, IsBeforeLast, IsFrontSegment, IsKept, IsKeptTo};
-ghost use Rattle.normalizer_calls.specs.inner.PassthroughRuns.{GoesOn, IsPassedFront, IsPassingSet, IsRun, IsRunEnd, IsRunSoFar};
+ghost use Rattle.normalizer_calls.specs.inner.PassthroughRuns.{BeginsAt, GoesOn, IsPassedFront, IsPassingSet};
+ghost use Rattle.normalizer_calls.specs.inner.PassthroughRuns.{IsRun, IsRunEnd, IsRunSoFar};
+ghost use Rattle.normalizer_calls.specs.declared.runs.Next.TheVariants.{Changed};
 
 use crate::changing::changes_alone;
 use crate::forming::Forming;
@@ -14,15 +16,13 @@ use crate::kept::Unseen;
 use normalizer_sets::KnownSet;
 use normalizer_text::{Chars, Step, Units};
 
-/// A run of characters that are passed on as they are: where the marks at its end begin, where it ends, and the character
-/// that ends it, unless the units end, and whether that is a mark out of order. (Not the step: its unused bytes would be
-/// copied with it wherever a step is read.)
+/// A run of characters that are passed on as they are: where the marks at its end begin, where it ends, and what is seen
+/// of what comes after it.
 #[derive(Clone, Copy)]
 struct Run {
     marks: usize,
     end: usize,
-    next: Option<char>,
-    is_unordered: bool,
+    next: Next,
 }
 
 /// What units are expected to begin with.
@@ -43,7 +43,7 @@ enum Next {
     Unknown,
     /// A mark out of order.
     Unordered,
-    /// A character that changes: it doesn't pass, and begins a new part.
+    /// A character that changes: it doesn't pass, and begins a new part. Or there is nothing.
     Changed,
 }
 
@@ -90,23 +90,29 @@ pub(crate) struct Segment {
     pub(crate) is_before_run: bool,
 }
 
-/// Returns the class of a step that is passed on as it is after a character of class `last`, or why it isn't.
+/// Returns what is seen of a character that doesn't pass.
+#[inline(always)]
+fn next_if(begins: bool) -> Next
+    ensures { result ≡ Changed → begins ≡ true }
+{
+    if begins { Next::Changed } else { Next::Unknown }
+}
+
+/// Returns the class of a step that is passed on as it is after a character of class `last`, or what is seen of another.
 #[inline(always)]
 #[tactic(auto, unfolding(crate::specs::inner::PassthroughRuns::next_class, crate::specs::inner::PassthroughRuns::class_of_step, crate::specs::inner::PassthroughRuns::class_in_order))]
-fn next_class<N: Forming>(normalizer: &N, last: u8, step: Step) -> Result<u8, Unseen>
-    ensures { MatchResult result (λ class. next_class (N.passthrough_class normalizer.now) last step ≡ Some class)
+fn next_class<N: Forming>(normalizer: &N, last: u8, step: Step) -> Result<u8, Next>
+    ensures class { MatchResult result (λ class. next_class (N.passthrough_class normalizer.now) last step ≡ Some class)
         (λ _. next_class (N.passthrough_class normalizer.now) last step ≡ None) }
+    ensures changed { IfErr result (λ next. next ≡ Changed → N.beginning normalizer.now step.character ≡ true) }
 {
     if step.is_error && step.character == char::REPLACEMENT_CHARACTER {
-        return Err(Unseen::Unknown);
+        return Err(next_if(normalizer.begins(step.character)));
     }
-    let Some(class) = normalizer.passthrough_class(step.character) else {
-        return Err(Unseen::Unknown);
-    };
-    if class == 0 || last <= class {
-        Ok(class)
-    } else {
-        Err(Unseen::Unordered)
+    match normalizer.passthrough_class(step.character) {
+        Ok(class) if class == 0 || last <= class => Ok(class),
+        Ok(_) => Err(Next::Unordered),
+        Err(begins) => Err(next_if(begins)),
     }
 }
 
@@ -403,31 +409,16 @@ fn first_several<U: Units, N: Forming>(normalizer: &N, units: U) -> RunSoFar
     with_several(normalizer, units, none)
 }
 
-/// Returns the run, which a step ends that doesn't pass.
+/// Returns the run, which ends there, and what is seen of what comes after it.
 #[inline(always)]
-fn stopped(run: RunSoFar, step: Step, unseen: Unseen) -> Run
+fn ended(run: RunSoFar, next: Next) -> Run
     ensures end { (result.marks ≡ run.marks) × (result.end ≡ run.end) }
-    ensures next { result.next ≡ Some step.character }
+    ensures next { result.next ≡ next }
 {
     Run {
         marks: run.marks,
         end: run.end,
-        next: Some(step.character),
-        is_unordered: matches!(unseen, Unseen::Unordered),
-    }
-}
-
-/// Returns the run, which goes up to the end of the units.
-#[inline(always)]
-fn whole(run: RunSoFar) -> Run
-    ensures end { (result.marks ≡ run.marks) × (result.end ≡ run.end) }
-    ensures next { result.next ≡ None }
-{
-    Run {
-        marks: run.marks,
-        end: run.end,
-        next: None,
-        is_unordered: false,
+        next,
     }
 }
 
@@ -437,8 +428,7 @@ fn whole(run: RunSoFar) -> Run
 fn run_end<U: Units, N: Forming>(normalizer: &N, units: U, known: RunSoFar) -> Run
     requires { IsRunSoFar (N.passthrough_class normalizer.now) U.encoding (U.units units) known }
     ensures run { IsRunEnd (N.passthrough_class normalizer.now) U.encoding (U.units units) result.marks result.end }
-    ensures next { MatchOption result.next (result.end ≡ length (U.units units))
-        (λ next. next ≡ (first_in U.encoding (drop result.end (U.units units))).character) }
+    ensures next { result.next ≡ Changed → BeginsAt (N.beginning normalizer.now) U.encoding (U.units units) result.end }
 {
     // The parts are copied one by one, so that the loop keeps them in registers.
     let mut run = RunSoFar {
@@ -455,10 +445,10 @@ fn run_end<U: Units, N: Forming>(normalizer: &N, units: U, known: RunSoFar) -> R
                 let longer = with_step(run, step, class);
                 run = with_more(normalizer, units, longer, passing);
             }
-            Err(unseen) => return stopped(run, step, unseen),
+            Err(next) => return ended(run, next),
         }
     }
-    whole(run)
+    ended(run, Next::Changed)
 }
 
 /// Returns the run with the step after it, if that is seen to pass, and with the low letters after it, if it is low
@@ -536,18 +526,17 @@ fn with_few<U: Units, N: Forming>(normalizer: &N, units: U, run: RunSoFar) -> Ru
 fn run_end_after<U: Units, N: Forming>(normalizer: &N, units: U, known: RunSoFar) -> Run
     requires { IsRunSoFar (N.passthrough_class normalizer.now) U.encoding (U.units units) known }
     ensures run { IsRunEnd (N.passthrough_class normalizer.now) U.encoding (U.units units) result.marks result.end }
-    ensures next { MatchOption result.next (result.end ≡ length (U.units units))
-        (λ next. next ≡ (first_in U.encoding (drop result.end (U.units units))).character) }
+    ensures next { result.next ≡ Changed → BeginsAt (N.beginning normalizer.now) U.encoding (U.units units) result.end }
 {
     let mut run = known;
     while run.end < units.len() {
         let step = units.step_at(run.end);
         match next_class(normalizer, run.last, step) {
             Ok(class) => run = with_few(normalizer, units, with_step(run, step, class)),
-            Err(unseen) => return stopped(run, step, unseen),
+            Err(next) => return ended(run, next),
         }
     }
-    whole(run)
+    ended(run, Next::Changed)
 }
 
 /// Returns the first step of the units, which may have been read before.
@@ -718,7 +707,7 @@ fn short_passthrough_end<U: Units, N: Forming>(normalizer: &N, units: U) -> Pass
 {
     let run = with_few(normalizer, units, first_few(normalizer, units));
     if run.end == units.len() {
-        return passed_by(normalizer, units, whole(run));
+        return passed_by(normalizer, units, ended(run, Next::Changed));
     }
     // What doesn't begin with two units that are seen to pass mostly changes.
     if run.end <= 1 {
@@ -768,33 +757,21 @@ fn passthrough_end_after<U: Units, N: Forming>(
     passed_by(normalizer, units, run_end_after(normalizer, units, known))
 }
 
-/// Returns the same end, by the run. In a decomposing form only the order of marks is told of what comes after it.
+/// Returns the same end, by the run.
 #[inline(always)]
 fn passed_by<U: Units, N: Forming>(normalizer: &N, units: U, run: Run) -> Passed
     requires run { IsRunEnd (N.passthrough_class normalizer.now) U.encoding (U.units units) run.marks run.end }
-    requires next { MatchOption run.next (run.end ≡ length (U.units units))
-        (λ next. next ≡ (first_in U.encoding (drop run.end (U.units units))).character) }
+    requires next { run.next ≡ Changed → BeginsAt (N.beginning normalizer.now) U.encoding (U.units units) run.end }
     ensures { IsPassedFront U.encoding (N.made_form normalizer.now) (U.units units) result.end }
 {
     normalizer.passthrough_is_normalized_apart();
-    let Some(following) = run.next else {
-        return Passed::to(run.end, Next::Unknown);
-    };
-    let next = if run.is_unordered {
-        Next::Unordered
-    } else {
-        Next::Unknown
-    };
+    if let Next::Changed = run.next {
+        return Passed::to(run.end, run.next);
+    }
     if normalizer.holds_back() {
-        if normalizer.begins(following) {
-            return Passed::to(run.end, Next::Changed);
-        }
-        return Passed::to(before_last(units, run.marks), next);
+        return Passed::to(before_last(units, run.marks), run.next);
     }
-    if run.marks < run.end && normalizer.begins(following) {
-        return Passed::to(run.end, next);
-    }
-    Passed::to(run.marks, next)
+    Passed::to(run.marks, run.next)
 }
 
 impl Segment {

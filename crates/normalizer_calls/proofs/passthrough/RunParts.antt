@@ -24,7 +24,7 @@ use Rattle.normalizer_text.proofs.rules.Utf8Lemmas.{by_cases}
 use Rattle.normalizer_text.specs.InputCut.{IsInputNormalized}
 use Rattle.normalizer_iterators.specs.CharactersLeft.{EndsFront}
 use Rattle.normalizer_calls.specs.BoundaryBefore.{HasBoundaryBefore}
-use Rattle.normalizer_calls.specs.inner.PassthroughRuns.{Divides, IsBeforeLast, IsPart, IsRunEnd, IsSegmentEnd, CanFollowMark, CanPassThrough, IsPassthroughTo, replacement}
+use Rattle.normalizer_calls.specs.inner.PassthroughRuns.{BeginsAt, Divides, IsBeforeLast, IsPart, IsRunEnd, IsSegmentEnd, CanFollowMark, CanPassThrough, IsPassthroughTo, replacement}
 use Rattle.normalizer_calls.specs.inner.PassthroughRuns.{class_after, class_of_step, next_class}
 use Rattle.normalizer_calls.proofs.passthrough.PassthroughLemmas.{Divides-after, Divides-end, Divides-next, EndsUpTo-more, EndsUpTo-none, IsNormalized-mark, IsNormalized-starter, normal_form-nil}
 use Rattle.normalizer_calls.proofs.passthrough.RunSteps.{IsPassthroughTo-held, class_after-ends, class_of_step-passed, next_class-passed, next_held}
@@ -226,9 +226,9 @@ module _ (passed : ℕ → Option ℕ) (e : Encoding) where
 
       -- all of it, if the next character begins a new part
       pub passed_apart : (beginning : ℕ → Bool) → ((c : ℕ) → IsScalar c → beginning c ≡ true → HasBoundaryBefore d form c) → (marks end : ℕ) → IsRunEnd passed e units marks end
-          → beginning (first_in e (drop end units)).character ≡ true → 0 < end → IsOwnPart end
+          → BeginsAt beginning e units end → 0 < end → IsOwnPart end
       passed_apart beginning begins marks end h next some =
-          let to = h.run.to_end in (IsPart-run end h.last to some (λ more scalar. begins (first_in e (drop end units)).character scalar next), own_run end h.last to)
+          let to = h.run.to_end in (IsPart-run end h.last to some (λ more scalar. begins (first_in e (drop end units)).character scalar (next more)), own_run end h.last to)
 
       -- else all but the marks at its end
       pub passed_before_marks : held_back ≡ false → (marks end : ℕ) → IsRunEnd passed e units marks end → 0 < marks → IsOwnPart marks

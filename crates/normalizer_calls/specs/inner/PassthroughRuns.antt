@@ -102,11 +102,15 @@ pub record IsRunEnd (passed : ℕ → Option ℕ) (e : Encoding) (units : List �
 abbrev pub IsBeforeLast : Encoding → List ℕ → ℕ → ℕ → Type 0
 IsBeforeLast e units end place = 0 < place → (s : Step) × IsLastStep (first_in e) (take end units) s × (place ≡ end - s.width)
 
+-- the character at the place begins a part of its own, if there is one
+abbrev pub BeginsAt : (beginning : ℕ → Bool) → Encoding → List ℕ → ℕ → Type 0
+BeginsAt beginning e units end = end < length units → beginning (first_in e (drop end units)).character ≡ true
+
 -- a character ends at the place, and the next one begins a segment of its own, or the units end
 pub record IsSegmentEnd (beginning : ℕ → Bool) (e : Encoding) (units : List ℕ) (end : ℕ) : Type 0 where
   pub some : 0 < end
   pub boundary : IsBoundary (first_in e) units end
-  pub next : end < length units → beginning (first_in e (drop end units)).character ≡ true
+  pub next : BeginsAt beginning e units end
 
 -- a segment ends at its end, and its step, if it has one, is the one after that
 pub record IsFrontSegment (beginning : ℕ → Bool) (e : Encoding) (units : List ℕ) (segment : Segment) : Type 0 where

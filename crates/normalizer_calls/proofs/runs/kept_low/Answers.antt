@@ -42,7 +42,7 @@ returns-in-Err-clause-kept g c =
       kept = rw c.up_to.ensures.end (IsKeptTo-first _ _ _ _ _ (passed_before_marks _ _ _ _ _ law.apart law.follow _ c.requires _ _ (record {
         last = 0;
         run = rw low.starters.0 at (rw low.starters.1 at low.run);
-        stops = λ _. ap (next_class _ _) (sym c.step_at-step.ensures) ∙ c.in-Err.ensures;
+        stops = λ _. ap (next_class _ _) (sym c.step_at-step.ensures) ∙ c.in-Err.ensures.class;
       })));
       next = rw c.up_to.ensures.next (rw c.up_to.ensures.end c.step_at-step.ensures);
       composite = rw c.up_to.ensures.composite tt;
@@ -53,5 +53,5 @@ returns-in-Ok-clause-run g c =
     let low = c.first_low-low.ensures in
     IsRun-longer _ _ _ _ _ c.step_at-step.ensures
     (omega (arith, c.len.ensures, c.if-low-len.false, IsRun-le _ _ _ _ _ _ low.run))
-    _ _ _ _ _ _ low.run (rw low.starters.1 c.in-Ok.ensures)
+    _ _ _ _ _ _ low.run (rw low.starters.1 c.in-Ok.ensures.class)
     c.with_step.ensures.end c.with_step.ensures.last c.with_step.ensures.starter c.with_step.ensures.mark

@@ -1,4 +1,4 @@
-use Rattle.std.proofs.Common.{arith}
+use Rattle.std.proofs.Common.{ap, arith, sym, ◌∙◌}
 use Rattle.normalizer_text.proofs.steps.StepBoundaries.{step-some}
 use Rattle.normalizer_calls.proofs.passthrough.RunSteps.{IsRun-le, IsRun-longer}
 use Rattle.normalizer_calls.proofs.runs.run_end_after.Goals as goal
@@ -9,7 +9,7 @@ with_step-requires g c =
 
 pub with_few-run-requires : goal.with_few-run-requires
 with_few-run-requires g c =
-    IsRun-longer _ _ _ _ _ c.step_at-step.ensures (omega (arith, c.len.ensures)) _ _ _ _ _ _ c.loop-run.invariant c.in-Ok.ensures c.with_step.ensures.end c.with_step.ensures.last
+    IsRun-longer _ _ _ _ _ c.step_at-step.ensures (omega (arith, c.len.ensures)) _ _ _ _ _ _ c.loop-run.invariant c.in-Ok.ensures.class c.with_step.ensures.end c.with_step.ensures.last
     c.with_step.ensures.starter c.with_step.ensures.mark
 
 pub loop-run-init : goal.loop-run-init
@@ -25,4 +25,8 @@ loop-run-smaller g c =
 pub returns-clause-next : goal.returns-clause-next
 returns-clause-next g c =
     let most = (IsRun-le _ _ _ _ _ _ c.loop-run.invariant).1 in
-    rw c.whole.ensures.next (omega (arith, c.len.ensures, c.whole.ensures.end))
+    λ _ more. absurd (omega (arith, more, c.len.ensures, c.ended-2.ensures.end))
+
+pub returns-in-Err-clause-next : goal.returns-in-Err-clause-next
+returns-in-Err-clause-next g c = λ changed _.
+    rw c.ended.ensures.end.1 (ap (λ s. g.N.Forming.beginning c.args.normalizer.now s.character) (sym c.step_at-step.ensures) ∙ c.in-Err.ensures.changed (sym c.ended.ensures.next ∙ changed))
