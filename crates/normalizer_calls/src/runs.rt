@@ -240,11 +240,8 @@ fn with_several<U: Units, N: Forming>(normalizer: &N, units: U, run: RunSoFar) -
     longer
 }
 
-/// After a mark, so many low letters are mostly followed by a mark.
-const SEVERAL: usize = 2;
-
-/// Returns the run with the members of a set after it, which are passed over together. After a mark and several low
-/// letters, what comes next isn't looked up in the set.
+/// Returns the run with the members of a set after it, which are passed over together. After a mark and low
+/// letters, what comes next isn't looked up in the set: it is mostly a mark.
 #[inline(always)]
 fn with_members<U: Units, N: Forming>(
     normalizer: &N,
@@ -257,7 +254,7 @@ fn with_members<U: Units, N: Forming>(
     ensures { GoesOn (N.passthrough_class normalizer.now) U.encoding (U.units units) run result }
 {
     let low = units.end_of_low_run(run.end, passing.low);
-    if run.last != 0 && low - run.end >= SEVERAL {
+    if run.last != 0 && low > run.end {
         return RunSoFar {
             marks: low,
             end: low,
@@ -909,9 +906,35 @@ pub(crate) fn kept_from<U: Units, N: Forming>(
     ensures { IsKept (N.beginning normalizer.now) U.encoding (N.made_form normalizer.now) (U.units units) result }
 {
     if passed.end < units.len() && normalizer.holds_back() && !passed.is_all() {
-        return kept_after(normalizer, units, passed.end, expected);
+        return kept_apart(normalizer, units, passed.end, expected);
     }
     Kept::to(passed.end, passed.is_unordered())
+}
+
+/// Returns the same end, which comes after a run. What a call returns is kept in memory, which is cleared first: here only
+/// if the call is made.
+#[inline(always)]
+fn kept_apart<U: Units, N: Forming>(
+    normalizer: &N,
+    units: U,
+    run: usize,
+    expected: ExpectedFront,
+) -> Kept
+    requires { let m = N.made_form normalizer.now in IsKeptTo U.encoding m.reading m.form (U.units units) run }
+    ensures { IsKept (N.beginning normalizer.now) U.encoding (N.made_form normalizer.now) (U.units units) result }
+{
+    let Kept {
+        end,
+        next,
+        composite,
+        is_unordered,
+    } = kept_after(normalizer, units, run, expected);
+    Kept {
+        end,
+        next,
+        composite,
+        is_unordered,
+    }
 }
 
 /// Returns the same end, which comes after a run.

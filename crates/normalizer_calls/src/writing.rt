@@ -9,14 +9,14 @@ ghost use Rattle.normalizer_iterators.specs.CharactersLeft.{characters_left};
 ghost use Rattle.normalizer_calls.specs.Forms.{form_in, HasShortUnits};
 ghost use Rattle.normalizer_calls.specs.inner.FormsOfOne.{text_of_one};
 ghost use Rattle.normalizer_calls.specs.inner.Offences.{IsFirstOrNone};
-ghost use Rattle.normalizer_calls.specs.inner.PassthroughRuns.{IsComposite, IsFrontSegment, IsSegmentEnd};
+ghost use Rattle.normalizer_calls.specs.inner.PassthroughRuns.{IsComposite, IsFrontSegment, IsKeptTo, IsSegmentEnd};
 ghost use Rattle.normalizer_calls.specs.Writing.{TellsLengthFirst};
 ghost use Rattle.normalizer_calls.specs.inner.WrittenParts.{NothingOffered, WritesPart, WritesSegment, WritesText, WritesUnits};
 
 use crate::form_of_one::FormOfOne;
 use crate::forming::Forming;
 use crate::runs::{
-    Composite, ExpectedFront, Kept, Segment, first_step, front_segment, kept_end, segment_to,
+    Composite, ExpectedFront, Segment, first_step, front_segment, kept_end, segment_to,
     short_segment,
 };
 use normalizer_iterators::{MarkRun, NormalizeError, SegmentBuffers};
@@ -178,31 +178,27 @@ fn write_if_short<U: Units, N: Forming, O: Output<U>>(
     None
 }
 
-/// Writes the front of the units that is kept as it is, in one piece, and returns its end, 0 if there is none, the step
-/// there, if it was read, and the segment after it, if that is seen to become one character.
+/// Writes the front of the units that is kept as it is, in one piece, if there is one. The normalizer isn't read: it says
+/// of which form the contract speaks.
 #[inline(always)]
-fn write_run<U: Units, N: Forming, O: Output<U>>(
-    normalizer: &N,
+fn write_kept<U: Units, N: Forming, O: Output<U>>(
+    _normalizer: &N,
     units: U,
-    expected: ExpectedFront,
+    end: usize,
     output: &mut O,
-) -> Result<Kept, NormalizeError>
-    ensures none { IfOk result (λ kept. kept.end ≡ 0 → output.new ≡ output.old) }
-    ensures part { IfOk result (λ kept. 0 < kept.end → WritesPart U.encoding O.Output (N.made_form normalizer.now)
-        (U.units units) output.old kept.end output.new) }
-    ensures next { IfOk result (λ kept. IfSome kept.next
-        (λ next. next ≡ first_in U.encoding (drop kept.end (U.units units)))) }
-    ensures composite { IfOk result (λ kept. IfSome kept.composite (IsComposite (N.beginning normalizer.now) U.encoding
-        (N.made_form normalizer.now) (drop kept.end (U.units units)))) }
-    ensures refused { IfErr result (λ fault. WritesUnits U.encoding O.Output (N.made_form normalizer.now)
+) -> Result<(), NormalizeError>
+    requires { let m = N.made_form _normalizer.now in IsKeptTo U.encoding m.reading m.form (U.units units) end }
+    ensures none { IfOk result (λ _. end ≡ 0 → output.new ≡ output.old) }
+    ensures part { IfOk result (λ _. 0 < end → WritesPart U.encoding O.Output (N.made_form _normalizer.now)
+        (U.units units) output.old end output.new) }
+    ensures refused { IfErr result (λ fault. WritesUnits U.encoding O.Output (N.made_form _normalizer.now)
         (U.units units) output.old (Err fault) output.new) }
     ensures room { ¬ IsErrOf result NormalizeError.Memory }
 {
-    let kept = kept_end(normalizer, units, expected);
-    if kept.end > 0 {
-        output.write_piece(units.before(kept.end))?;
+    if end > 0 {
+        output.write_piece(units.before(end))?;
     }
-    Ok(kept)
+    Ok(())
 }
 
 /// Returns the segment in beginning of the units, unless it is long: the one that was seen, or else up to its end.
@@ -288,7 +284,23 @@ fn write_front_segment<U: Units, N: Forming, O: Output<U>>(
             return Ok(segment);
         }
     }
-    // What a call returns is kept in memory. Taken out of that, it isn't where short segments are returned.
+    write_long_segment_apart(normalizer, units, output)
+}
+
+/// Writes the same. What a call returns is kept in memory, which is cleared first: here only if the call is made. Taken
+/// out of that, a segment isn't where short ones are returned.
+#[inline(always)]
+fn write_long_segment_apart<U: Units, N: Forming, O: Output<U>>(
+    normalizer: &N,
+    units: U,
+    output: &mut O,
+) -> Result<Segment, NormalizeError>
+    requires { 0 < length (U.units units) }
+    ensures written { WritesSegment U.encoding O.Output (N.beginning normalizer.now) (N.made_form normalizer.now)
+        (U.units units) output.old result output.new }
+    ensures room { HasShortUnits (N.made_form normalizer.now) U.encoding (U.units units) →
+        ¬ IsErrOf result NormalizeError.Memory }
+{
     let segment = write_long_segment(normalizer, units, output)?;
     Ok(segment)
 }
@@ -333,7 +345,9 @@ fn write_segments<U: Units, N: Forming, O: Output<U>>(
         seen = None;
         if segment.is_before_run {
             let expected = expected_from(normalizer, first, unordered);
-            let kept = write_run(normalizer, units.after(position), expected, output)?;
+            let following = units.after(position);
+            let kept = kept_end(normalizer, following, expected);
+            write_kept(normalizer, following, kept.end, output)?;
             position += kept.end;
             first = kept.next;
             seen = kept.composite;
@@ -373,7 +387,8 @@ fn write_parts<U: Units, N: Forming, O: Output<U>>(
     ensures room { HasShortUnits (N.made_form normalizer.now) U.encoding (U.units units) →
         ¬ IsErrOf result NormalizeError.Memory }
 {
-    let kept = write_run(normalizer, units, ExpectedFront::Run, output)?;
+    let kept = kept_end(normalizer, units, ExpectedFront::Run);
+    write_kept(normalizer, units, kept.end, output)?;
     if kept.end == units.len() {
         return Ok(());
     }

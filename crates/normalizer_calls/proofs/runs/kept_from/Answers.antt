@@ -1,8 +1,8 @@
 use Rattle.normalizer_calls.proofs.segments.KeptLemmas.{IsKeptTo-first}
 use Rattle.normalizer_calls.proofs.runs.kept_from.Goals as goal
 
-pub kept_after-requires : goal.kept_after-requires
-kept_after-requires g c = IsKeptTo-first _ _ _ _ _ c.requires
+pub kept_apart-requires : goal.kept_apart-requires
+kept_apart-requires g c = IsKeptTo-first _ _ _ _ _ c.requires
 
 pub returns : goal.returns
 returns g c = record {

@@ -14,11 +14,8 @@ end_of_low_run-low-requires g c = c.requires.run.to_end.boundary
 pub overflow_sub-low : goal.overflow_sub-low
 overflow_sub-low g c = c.end_of_low_run-low.ensures.behind
 
-pub overflow_sub-low-then-low-run-ge-SEVERAL : goal.overflow_sub-low-then-low-run-ge-SEVERAL
-overflow_sub-low-then-low-run-ge-SEVERAL g c = c.end_of_low_run-low.ensures.behind
-
-pub returns-then-low-run-ge-SEVERAL : goal.returns-then-low-run-ge-SEVERAL
-returns-then-low-run-ge-SEVERAL g c = (
+pub returns-then-low-run : goal.returns-then-low-run
+returns-then-low-run g c = (
   IsRun-starters _ _ _ _
       (IsPassthroughTo-low _ _ _ (has c.args.passing.set.now) (λ n is. ((has-IsCandidate c.args.passing.set.now n is).other, c.requires.passing n is)) _ _ _ _
       c.args.passing.below c.end_of_low_run-low.ensures (λ same. absurd (omega (arith, same))) c.requires.run.to_end),

@@ -31,37 +31,37 @@ overflow_add-position g c =
     let most = WroteUpTo-le so_far in
     omega (arith, c.len.ensures)
 
-pub after-requires : goal.after-requires
-after-requires g c =
+pub after-following-requires : goal.after-following-requires
+after-following-requires g c =
     let so_far = WroteUpTo-more c.loop-position.invariant.0 c.after-rest.ensures (rw c.in_ok-segment.was at c.write_front_segment.ensures.written.part) in
     so_far.boundary
 
-pub returns-in_err-kept-clause-text : goal.returns-in_err-kept-clause-text
-returns-in_err-kept-clause-text g c =
+pub returns-in_err-write_kept-clause-text : goal.returns-in_err-write_kept-clause-text
+returns-in_err-write_kept-clause-text g c =
     let so_far = WroteUpTo-more c.loop-position.invariant.0 c.after-rest.ensures (rw c.in_ok-segment.was at c.write_front_segment.ensures.written.part) in
-    let is : c.from_residual-in_err-kept.result ≡ Err c.in_err-kept.field-0.0 = search rules in
-    rw is (WritesText-behind so_far c.after.ensures (rw c.in_err-kept.was at c.write_run.ensures.refused))
+    let is : c.from_residual-in_err-write_kept.result ≡ Err c.in_err-write_kept.field-0.0 = search rules in
+    rw is (WritesText-behind so_far c.after-following.ensures (rw c.in_err-write_kept.was at c.write_kept.ensures.refused))
 
-pub returns-in_err-kept-clause-room : goal.returns-in_err-kept-clause-room
-returns-in_err-kept-clause-room g c = λ short.
-    let is : c.from_residual-in_err-kept.result ≡ Err c.in_err-kept.field-0.0 = search rules in
-    not_handed_on c.in_err-kept.was is c.write_run.ensures.room
+pub returns-in_err-write_kept-clause-room : goal.returns-in_err-write_kept-clause-room
+returns-in_err-write_kept-clause-room g c = λ short.
+    let is : c.from_residual-in_err-write_kept.result ≡ Err c.in_err-write_kept.field-0.0 = search rules in
+    not_handed_on c.in_err-write_kept.was is c.write_kept.ensures.room
 
 pub overflow_add-position-then-segment : goal.overflow_add-position-then-segment
 overflow_add-position-then-segment g c =
     let so_far = WroteUpTo-more c.loop-position.invariant.0 c.after-rest.ensures (rw c.in_ok-segment.was at c.write_front_segment.ensures.written.part) in
-    let run = WroteUpTo-maybe so_far c.after.ensures
-    (rw c.in_ok-kept.was at c.write_run.ensures.none) (rw c.in_ok-kept.was at c.write_run.ensures.part) in
+    let run = WroteUpTo-maybe so_far c.after-following.ensures
+    (rw c.in_ok-write_kept.was at c.write_kept.ensures.none) (rw c.in_ok-write_kept.was at c.write_kept.ensures.part) in
     let most = WroteUpTo-le run in
     omega (arith, c.len.ensures)
 
 pub loop-position-preserved-then-segment : goal.loop-position-preserved-then-segment
 loop-position-preserved-then-segment g c =
     let so_far = WroteUpTo-more c.loop-position.invariant.0 c.after-rest.ensures (rw c.in_ok-segment.was at c.write_front_segment.ensures.written.part) in (
-      WroteUpTo-maybe so_far c.after.ensures
-          (rw c.in_ok-kept.was at c.write_run.ensures.none) (rw c.in_ok-kept.was at c.write_run.ensures.part),
-      first-drop _ _ _ _ _ _ c.after.ensures (rw c.in_ok-kept.was at c.write_run.ensures.next),
-      composite-drop _ _ _ _ _ _ _ _ c.after.ensures (rw c.in_ok-kept.was at c.write_run.ensures.composite),
+      WroteUpTo-maybe so_far c.after-following.ensures
+          (rw c.in_ok-write_kept.was at c.write_kept.ensures.none) (rw c.in_ok-write_kept.was at c.write_kept.ensures.part),
+      first-drop _ _ _ _ _ _ c.after-following.ensures c.kept_end-kept.ensures.next,
+      composite-drop _ _ _ _ _ _ _ _ c.after-following.ensures c.kept_end-kept.ensures.composite,
     )
 
 pub loop-position-preserved : goal.loop-position-preserved
