@@ -1,5 +1,5 @@
 //! Normalizing text with prepared data.
-ghost use Rattle.std.specs.Prelude.{◌≡◌, IfErr, IfOk, List};
+ghost use Rattle.std.specs.Prelude.{◌≡◌, IfErr, IfOk, List, MatchResult};
 ghost use Rattle.icu_normalizer.specs.Building.{Builds};
 ghost use Rattle.icu_normalizer.specs.Packed.{Packed};
 ghost use Rattle.icu_normalizer.specs.RecordValue.{RecordValue, Uts46RecordValue};
@@ -8,8 +8,16 @@ ghost use Rattle.icu_normalizer.specs.ByRecords.{packed_form};
 ghost use Rattle.icu_normalizer.specs.Forms.{form_of};
 ghost use Rattle.icu_normalizer.specs.RecordedForms.{recorded_form};
 ghost use Rattle.normalizer_prepared.specs.Prepared.{prepared_bytes, prepared_in, Fits};
-ghost use Rattle.normalizer_by_files.specs.PreparedForms.{IsFaultOfPrepared, IsFormByPrepared};
+ghost use Rattle.normalizer_by_files.specs.PreparedForms.{
+  IsFaultOfData,
+  IsFaultOfPrepared,
+  IsFormByPrepared,
+  IsMemory,
+};
 
+use icu_normalizer::record_laws::{
+    data_that_meet_conditions_are_accepted, what_is_built_is_accepted,
+};
 use icu_normalizer::{DataError, FormData, NormalForm, Utf8Chars};
 use normalizer_prepared::{PreparedData, PreparedError};
 use std::alloc::Global;
@@ -26,7 +34,8 @@ pub enum PreparedFault {
 /// Returns the normal form of the text that bytes decode to, by the bytes of a file of prepared data.
 ///
 /// # Errors
-/// The first fault of the file, the condition that its data break, or `Memory`.
+/// The first fault of the file, the error by which the form's constructor refuses its data, or `Memory`. For data that
+/// records built, only `Memory`.
 pub fn form_by_prepared_data(
     alloc: Global,
     prepared: &[u8],
@@ -36,12 +45,14 @@ pub fn form_by_prepared_data(
     // By the data whose file it is.
     ensures form { IfOk result (λ v. IsFormByPrepared prepared.now form (decoded_utf8 bytes.now) v.items) }
 
-    // By the records that these data were built from.
+    // By the records that these data were built from, unless memory ran out.
     ensures records { (records : List RecordValue) (uts46 : List Uts46RecordValue) (p : Packed) →
         Builds records uts46 p → Fits p → prepared.now ≡ prepared_bytes p →
-        IfOk result (λ v. v.items ≡ recorded_form records form (decoded_utf8 bytes.now)) }
-    ensures fault { IfErr result (IsFaultOfPrepared prepared.now) }
+        MatchResult result (λ v. v.items ≡ recorded_form records form (decoded_utf8 bytes.now)) IsMemory }
+    ensures fault { IfErr result (IsFaultOfPrepared prepared.now form) }
 {
+    what_is_built_is_accepted();
+    data_that_meet_conditions_are_accepted();
     match PreparedData::read(alloc, prepared) {
         Ok(read) => match form_by_read(alloc, &read, form, bytes) {
             Ok(text) => Ok(text),
@@ -51,14 +62,16 @@ pub fn form_by_prepared_data(
     }
 }
 
-/// The normal form over the data of a file.
+/// The normal form over the data of a file, or why there is none.
 fn form_by_read(
     alloc: Global,
     read: &PreparedData,
     form: NormalForm,
     bytes: &[u8],
 ) -> Result<Vec<char>, DataError>
-    ensures { IfOk result (λ v. v.items ≡ form_of (packed_form (prepared_in read.now) form) (decoded_utf8 bytes.now)) }
+    ensures { MatchResult result
+        (λ v. v.items ≡ form_of (packed_form (prepared_in read.now) form) (decoded_utf8 bytes.now))
+        (IsFaultOfData (prepared_in read.now) form) }
 {
     let normalizer = read.normalizer(form)?;
     let characters = Utf8Chars::new(bytes);

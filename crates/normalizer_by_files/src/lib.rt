@@ -1,5 +1,5 @@
 //! Normal forms by the bytes of files: Unicode's own, or a file of prepared data; or by plain records. Each call reads,
-//! checks and builds the data anew. A program that normalizes many texts does that once, with the calls that these call.
+//! checks and builds the data anew. A program that normalizes many texts does that once, by the calls that these call.
 #![tactic(auto)]
 
 mod by_prepared;

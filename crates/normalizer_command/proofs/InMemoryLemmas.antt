@@ -286,7 +286,7 @@ module _ {W : Type 0} (taken : W → Option (List ℕ)) (items : W → List ℕ)
 
   -- the bytes of a file that is there
   bytes-there : (path all bytes : List ℕ) → bytes_in files path ≡ Some all → IsFileAt d path bytes → bytes ≡ all
-  bytes-there path all bytes there at = let h : IfSome (Some all) (λ all. bytes ≡ all) = subst (λ x. IfSome x (λ all. bytes ≡ all)) there at.1 in h
+  bytes-there path all bytes there at = let h : IfSome (Some all) (λ all. bytes ≡ all) = subst (λ x. IfSome x (λ all. bytes ≡ all)) there at.2 in h
 
   -- what is in memory is read
   unread : {A : Type 0} (fault : Fault) → is_refusal fault ≡ false → IsFileFault (λ _. ⊥) ⊤ ⊥ ⊤ fault → A

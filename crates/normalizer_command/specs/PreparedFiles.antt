@@ -81,9 +81,9 @@ IsFaultOfPrepared prepared command fault =
     ((e : PreparedError) × IsFirstFault prepared e × (fault ≡ fault_of_prepared e))
     ⊎ ((p : Packed) × IsFileOf prepared p × IsFaultOfData command p fault)
 
--- the path can be opened, and these are the bytes of its file, if they are known
+-- the path can be opened, no read of its file was refused, and these are its bytes, if they are known
 abbrev pub IsFileAt : {W : Type 0} → Devices W → (path bytes : List ℕ) → Type 0
-IsFileAt d path bytes = d.can_open path × IfSome (d.bytes_of path) (λ all. bytes ≡ all)
+IsFileAt d path bytes = d.can_open path × d.unrefused path × IfSome (d.bytes_of path) (λ all. bytes ≡ all)
 
 -- the path can't be opened as a file, so it is that of a directory
 abbrev pub IsDirectory : {W : Type 0} → Devices W → (path : List ℕ) → Type 0

@@ -38,7 +38,8 @@ pub(crate) fn bytes_if_file<I: Inputs>(
 ) -> Result<Option<Vec<u8>>, Fault>
     ensures bytes { IfOk result (λ file. MatchOption file
         ((kind : ErrorKind) × I.cannot_open inputs.now path.now kind)
-        (λ v. I.can_open inputs.now path.now × IfSome (I.bytes_of inputs.now path.now) (λ all. v.items ≡ all))) }
+        (λ v. I.can_open inputs.now path.now × I.unrefused inputs.now path.now
+        × IfSome (I.bytes_of inputs.now path.now) (λ all. v.items ≡ all))) }
     ensures fault { IfErr result (λ fault. I.can_open inputs.now path.now
         × IsFileFault (λ _. ⊥) (I.read_refused inputs.now path.now) ⊥ (I.unrefused inputs.now path.now) fault) }
 {

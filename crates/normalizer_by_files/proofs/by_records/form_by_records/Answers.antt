@@ -1,4 +1,4 @@
-use Rattle.std.proofs.Common.{rules, ◌∙◌}
+use Rattle.std.proofs.Common.{rules}
 use Rattle.icu_normalizer.specs.Building.{IsSmallest}
 use Rattle.normalizer_by_files.proofs.by_records.form_by_records.Goals as goal
 
