@@ -1,10 +1,6 @@
 -- What callers of the calls on text conclude from their contracts.
 use Rattle.std.proofs.Common.{◌≡◌, ℕ, List, [], ◌∷◌, ◌++◌, length, take, drop, sym, ap, subst, ◌∙◌, arith, append-nil, length-append, take-append-drop}
-use Rattle.std.specs.Prelude.{◌↔◌, Bool, false, true, chars}
-use Rattle.std.specs.List.{Contains, IsAnyAnswer}
-use Rattle.std.proofs.Common.{eqb}
-use Rattle.std.proofs.lemmas.Bool.Decides.{Decides-eqb}
-use Rattle.std.proofs.lemmas.List.Elements.{contains_decides, Decides-contains}
+use Rattle.std.specs.Prelude.{◌↔◌, chars}
 use Rattle.std.specs.Str.{IsCharBoundary, IsUtf8}
 use Rattle.std.proofs.lemmas.Str.{chars-append, IsCharBoundary-from_take}
 use Rattle.std.proofs.Math.Seq.{take-append_seam, drop-append_seam}
@@ -65,7 +61,7 @@ shown_difference m x o is h =
     }
 
 -- the prefix and the form of the rest are the form of the whole
-pub form_of_parts : (m : MadeForm) (text prefix rest : List ℕ) → IsTextSplitAtCut m text prefix rest
+form_of_parts : (m : MadeForm) (text prefix rest : List ℕ) → IsTextSplitAtCut m text prefix rest
     → chars prefix ++ normal_form m.reading m.form (chars rest) ≡ normal_form m.reading m.form (chars text)
 form_of_parts m text prefix rest split =
     let p : List ℕ = chars prefix in
@@ -78,13 +74,6 @@ form_of_parts m text prefix rest split =
 -- the characters of a `str` are a text
 pub text_of_utf8 : (bytes : List ℕ) → IsUtf8 bytes → IsText (chars bytes)
 text_of_utf8 bytes utf8 = subst IsText (decoded-chars bytes utf8) (decoded-IsText Encoding.Utf8 bytes)
-
--- a test of membership that says no
-pub not_contained : (x : List ℕ) (c : ℕ) (found : Bool) → IsAnyAnswer (λ y b. eqb y c ≡ b) x found → found ≡ false → ¬ Contains x c
-not_contained x c found answers absent member =
-    let yes = (Decides-contains x c found (contains_decides eqb Decides-eqb x c found answers)).1 member in
-    let differ : true ≡ false = sym yes ∙ absent in
-    cc
 
 module _ (m : MadeForm) (text prefix rest : List ℕ) (kept : List ℕ) (text_utf8 : IsUtf8 text) (kept_utf8 : IsUtf8 kept) (same : kept ≡ prefix) (split : IsTextSplitAtCut m text prefix rest) where
   front_of_parts : take (length kept) text ≡ kept

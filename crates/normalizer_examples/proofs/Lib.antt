@@ -1,4 +1,1 @@
 pub mod CallerLemmas
-pub mod LastLemmas
-pub mod RunLemmas
-pub mod ByteLemmas

@@ -1,5 +1,5 @@
 //! Identifiers: texts that are normalized (UAX #31, normalized identifiers).
-ghost use Rattle.std.specs.Prelude.{◌≡◌, ◌↔◌, chars, IfOk, IsOkUnless, IsTrue, MatchOption};
+ghost use Rattle.std.specs.Prelude.{◌≡◌, chars, IfOk, IsOkUnless, MatchOption};
 ghost use Rattle.icu_normalizer.specs.Form.TheVariants.{Composing};
 ghost use Rattle.icu_normalizer.specs.NormalForms.{IsNormalized};
 ghost use Rattle.icu_normalizer.specs.Encodings.{Encoding};
@@ -7,21 +7,6 @@ ghost use Rattle.icu_normalizer.specs.InputCut.{IsInputNormalized};
 ghost use Rattle.icu_normalizer.specs.Forms.{composed_by};
 
 use icu_normalizer::{ComposingNormalizerBorrowed, NormalizeError};
-
-/// Returns whether a text is an identifier: if and only if it is already in its composed form.
-///
-/// # Errors
-/// `Memory` if an allocation failed.
-pub fn is_identifier(
-    normalizer: &ComposingNormalizerBorrowed<'_>,
-    text: &str,
-) -> Result<bool, NormalizeError>
-    ensures accepted { IfOk result (λ yes. IsTrue yes ↔
-        IsNormalized (composed_by normalizer.now).reading Composing (chars text.now)) }
-    ensures refused { IsOkUnless result NormalizeError.Memory }
-{
-    normalizer.is_normalized(text)
-}
 
 /// Returns bytes as an identifier, if they are well-formed and already in their composed form.
 ///

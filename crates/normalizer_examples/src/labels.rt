@@ -1,13 +1,14 @@
 //! Labels of domain names, mapped and then validated (UTS #46, section 4).
-ghost use Rattle.std.specs.Prelude.{◌≡◌, ◌↔◌, chars, IfOk, IsOkUnless, IsTrue, MatchOption};
+ghost use Rattle.std.specs.Prelude.{◌≡◌, chars, false, true, IfOk, IsOkUnless, MatchOption};
+ghost use Rattle.icu_normalizer.specs.IgnoredCharacters.TheVariants.{Dropped};
 ghost use Rattle.icu_normalizer.specs.Mappers.{mapper_data_of_borrowed};
-ghost use Rattle.normalizer_examples.specs.Labels.{mapped_text, IsLabel};
+ghost use Rattle.icu_normalizer.specs.Mapping.{is_valid, mapped_in};
 
 use icu_normalizer::uts46::Uts46MapperBorrowed;
-use icu_normalizer::{NormalizeError, collected};
+use icu_normalizer::{IgnoredCharacters, NormalizeError, is_valid, mapped};
 use std::alloc::Global;
 
-/// Returns the mapped text, if that is a label.
+/// Returns the mapped text, if that is a label: it has no U+FFFD, and validation leaves it unchanged.
 ///
 /// # Errors
 /// `Memory` if an allocation failed.
@@ -16,34 +17,15 @@ pub fn label(
     mapper: &Uts46MapperBorrowed<'_>,
     text: &str,
 ) -> Result<Option<Vec<char>>, NormalizeError>
-    ensures kept { let h = mapper_data_of_borrowed mapper.now in IfOk result (λ label. MatchOption label
-        (¬ IsLabel h (mapped_text h (chars text.now)))
-        (λ v. (v.items ≡ mapped_text h (chars text.now)) × IsLabel h v.items)) }
+    ensures kept { let h = mapper_data_of_borrowed mapper.now in let x = mapped_in h Dropped (chars text.now) in
+        IfOk result (λ label. MatchOption label (is_valid h x ≡ false)
+        (λ v. (v.items ≡ x) × (is_valid h x ≡ true))) }
     ensures refused { IsOkUnless result NormalizeError.Memory }
 {
-    let mapped = collected(alloc, mapper.map_normalize(text.chars())?)?;
-    if is_label(alloc, mapper, &mapped)? {
-        Ok(Some(mapped))
+    let label = mapped(alloc, mapper, IgnoredCharacters::Dropped, text.chars())?;
+    if is_valid(alloc, mapper, &label)? {
+        Ok(Some(label))
     } else {
         Ok(None)
     }
-}
-
-/// Returns whether mapped text is a label: it has no U+FFFD, and validation leaves it unchanged.
-///
-/// # Errors
-/// `Memory` if an allocation failed.
-pub fn is_label(
-    alloc: Global,
-    mapper: &Uts46MapperBorrowed<'_>,
-    mapped: &[char],
-) -> Result<bool, NormalizeError>
-    ensures kept { IfOk result (λ yes. IsTrue yes ↔ IsLabel (mapper_data_of_borrowed mapper.now) mapped.now) }
-    ensures refused { IsOkUnless result NormalizeError.Memory }
-{
-    if mapped.contains(&'\u{FFFD}') {
-        return Ok(false);
-    }
-    let validated = collected(alloc, mapper.normalize_validate(mapped.iter().copied())?)?;
-    Ok(*validated == *mapped)
 }
