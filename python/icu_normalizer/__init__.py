@@ -49,8 +49,9 @@ class Normalizer(_Native):
     mapper (Unicode Technical Standard #46) by its IdnaMappingTable.txt, if it has that file.
 
     Disallowed ranges of more than `disallowed_limit` code points are left out, and a mapper leaves their characters as
-    they are. With `prepared`, a file that `uninorm prepare` made is in place of the directory: it is opened in less
-    time. The files are read by the first call. A `ValueError` says what is wrong with them.
+    they are. The limit is from 0 to 2**32 - 1, or a `ValueError` is raised. With `prepared`, a file that `uninorm
+    prepare` made is in place of the directory: it is opened in less time. The files are read by the first call. A
+    `ValueError` says what is wrong with them.
 
     `share()` returns a normalizer for another thread, over the same data.
     """
@@ -58,6 +59,9 @@ class Normalizer(_Native):
     __slots__ = ()
 
     def __new__(cls, directory=None, disallowed_limit=0x110000, *, prepared=None):
+        if not 0 <= disallowed_limit < 2**32:
+            raise ValueError(f"disallowed_limit is {disallowed_limit}, not from 0 to 2**32 - 1")
+
         def read():
             if prepared is not None:
                 return _read(prepared)

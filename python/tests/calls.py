@@ -69,7 +69,7 @@ def forms():
 
 
 def rows():
-    """All characters that `unicodedata` knows: ten in a row, and a row that is longer than texts that are called short."""
+    """All characters that `unicodedata` knows: ten in a row, and a row that is longer than what is called short."""
     known = [it for it in map(chr, range(0x110000)) if unicodedata.category(it) not in ("Cn", "Cs", "Co")]
     for place in range(0, len(known), 10):
         row = "".join(known[place : place + 10])
@@ -135,7 +135,8 @@ def other_data():
 
 
 def mapping():
-    small = icu_normalizer.Normalizer(pathlib.Path(__file__).parents[2] / "crates/uninorm/data")
+    folder = pathlib.Path(__file__).parents[2] / "crates/uninorm/data"
+    small = icu_normalizer.Normalizer(folder)
     assert small.map("A\u0308\u00AD\u0323") == "\u1EA1\u0308"
     assert small.map("A\u0308\u00AD\u0323".encode()) == "\u1EA1\u0308".encode()
     prepared = pathlib.Path(__file__).parents[2] / "crates/icu_normalizer_c/examples/tests/small.prepared"
@@ -146,6 +147,10 @@ def mapping():
         wrong = icu_normalizer.Normalizer(prepared=file.name)
         assert "at byte 8" in str(refused(ValueError, wrong.normalize, "NFC", "a"))
     assert small.share().validate("\u1EA1") == "\u1EA1" and small.validate("\u00AD") == "\uFFFD"
+    for limit in (-1, 2**32, 2**64):
+        assert str(limit) in str(refused(ValueError, icu_normalizer.Normalizer, folder, limit))
+    for limit, form in ((0, "\x80"), (1, "\uFFFD"), (2**32 - 1, "\uFFFD")):
+        assert icu_normalizer.Normalizer(folder, limit).map("\x80") == form
 
 
 def threads():
