@@ -3,3 +3,4 @@ pub mod composing
 pub mod boundaries
 pub mod cuts
 pub mod forms
+pub mod examples

@@ -6,6 +6,7 @@ pub mod CompositionByStarters
 pub mod Cut
 pub mod Decomposition
 pub mod Equivalence
+pub mod Example
 pub mod Forms
 pub mod Hypotheses
 pub mod MarkRun

@@ -12,4 +12,5 @@ pub enum Form {
     Composing,
 }
 
+pub mod example;
 pub mod laws;

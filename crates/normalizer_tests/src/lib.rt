@@ -6,16 +6,10 @@ mod delegates;
 #[cfg(test)]
 mod documented;
 #[cfg(test)]
-mod over_rows;
+mod in_memory;
 #[cfg(test)]
-mod prepared_files;
+mod over_rows;
 #[cfg(test)]
 mod program;
 #[cfg(test)]
-mod readme;
-#[cfg(test)]
 mod sinks;
-#[cfg(test)]
-mod small_file;
-#[cfg(test)]
-mod texts;

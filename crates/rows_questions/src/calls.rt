@@ -1,12 +1,20 @@
-//! `nfc 0061 0308 = 00E4`: the form of an input. `is nfc 0061 0308 = no`: whether it is normalized. `split nfc 00E4 0061
-//! 0308 = 00E4 | 0061 0308`: its two parts. `offence nfd 0061 1EC7 = 1 1EC7 0065`: the first mismatch: its place in bytes
-//! or 16-bit units, the character found, the one expected; else `none`. `owned nfc 0308 0061 = borrowed 0308 0061`: the
-//! form as it is returned. Each makes all calls, which must agree, and characters are checked in all three encodings.
+//! Questions about texts: what the calls of a normalizer return, which must agree, of characters in all three
+//! encodings; the NFD over data that are checked once and then used unchecked; the form by records; and what the mapper
+//! makes.
 use crate::encoded::{Results, results_of_input};
-use crate::language::fault::Answer;
-use crate::language::input::Input;
-use crate::language::printing::{Spelled, spelled_all, spelled_bool};
-use icu_normalizer::{AnyNormalizer, Offence};
+use crate::language::fault::{Answer, Fault, agreed};
+use crate::language::held::Held;
+use crate::language::input::{Input, text};
+use crate::language::items::are;
+use crate::language::printing::spelled_bool;
+use crate::language::setting::Setting;
+use crate::language::words::{Spelled, first_of, form_named, spelled_all};
+use icu_normalizer::IgnoredCharacters::{self, Dropped, Replaced};
+use icu_normalizer::uts46::Uts46Mapper;
+use icu_normalizer::{
+    AnyNormalizer, DecomposingNormalizerBorrowed, Decomposition, MappingData, NormalForm, Offence,
+    Records, Utf8Chars, check_nfd_data, collected, mapped, normalizer_to,
+};
 use std::alloc::Global;
 
 /// What the calls of a normalizer return for an input.
@@ -38,6 +46,83 @@ fn spelled_offence(alloc: Global, offence: Option<Offence>) -> Answer {
 
 fn spelled_owned(alloc: Global, is_borrowed: bool, form: &str) -> Answer {
     let kind = if is_borrowed { "borrowed" } else { "owned" };
-    let answer = format!(in alloc; "{kind} {form}")?;
-    Ok(String::from_str(alloc, answer.trim())?)
+    Ok(format!(in alloc; "{kind} {form}")?)
+}
+
+/// The NFD of a text over data that are checked once and then used unchecked.
+pub fn unchecked(alloc: Global, held: &Held, characters: &[&str]) -> Answer {
+    let text = text(alloc, characters)?;
+    let form = unchecked_form(alloc, held, text.as_bytes())?;
+    agreed(is_unchecked_form(held, &text, &form)?)?;
+    spelled_all(alloc, &form)
+}
+
+fn unchecked_form(alloc: Global, held: &Held, text: &[u8]) -> Result<Vec<char>, Fault> {
+    let (Some(words), Some(tables)) = (&held.canonical, &held.tables) else {
+        return Err(Fault::Refused);
+    };
+    check_nfd_data(words, tables)?;
+    let normalizer = DecomposingNormalizerBorrowed::new_with_data(words, tables);
+    Ok(collected(alloc, normalizer.normalize_iter(Utf8Chars::new(text))?)?)
+}
+
+/// Whether the iterator over data that are checked once yields this form.
+pub fn is_unchecked_form(held: &Held, text: &str, form: &[char]) -> Result<bool, Fault> {
+    let (Some(words), Some(tables)) = (&held.canonical, &held.tables) else {
+        return Err(Fault::Refused);
+    };
+    check_nfd_data(words, tables)?;
+    are(Decomposition::new(text.chars(), words, tables)?, form)
+}
+
+/// The form of a text by the records.
+pub fn by_records(alloc: Global, setting: &Setting, question: &[&str]) -> Answer {
+    let (name, characters) = first_of(question)?;
+    let text = text(alloc, characters)?;
+    let normalizer = normalizer_by_records(setting, form_named(name)?)?;
+    let bytes = Utf8Chars::new(text.as_bytes());
+    spelled_all(
+        alloc,
+        &normalizer.as_borrowed().form_of_characters(alloc, bytes)?,
+    )
+}
+
+/// The normalizer to a form over what the records build.
+pub fn normalizer_by_records(setting: &Setting, form: NormalForm) -> Result<AnyNormalizer, Fault> {
+    let built = Records::build(setting.alloc, &setting.records, &setting.mapper)?;
+    Ok(normalizer_to(&built, form)?)
+}
+
+/// What becomes of ignored characters in `map` and `validate`.
+fn ignored_by(name: &str) -> Result<IgnoredCharacters, Fault> {
+    match name {
+        "map" => Ok(Dropped),
+        "validate" => Ok(Replaced),
+        _ => Err(Fault::Unreadable),
+    }
+}
+
+/// A text as the mapper maps it, or validates it.
+pub fn mapping(alloc: Global, held: &Held, name: &str, characters: &[&str]) -> Answer {
+    let ignored = ignored_by(name)?;
+    let mapper = held.mapper()?;
+    let text = text(alloc, characters)?;
+    spelled_all(
+        alloc,
+        &mapped(alloc, &mapper.as_borrowed(), ignored, text.chars())?,
+    )
+}
+
+/// Whether the iterator of `map` or `validate` over a text yields these characters.
+pub fn are_mapped(
+    mapper: &Uts46Mapper,
+    name: &str,
+    text: &str,
+    wanted: &[char],
+) -> Result<bool, Fault> {
+    let mapper = mapper.as_borrowed();
+    match ignored_by(name)? {
+        Dropped => are(mapper.map_normalize(text.chars())?, wanted),
+        Replaced => are(mapper.normalize_validate(text.chars())?, wanted),
+    }
 }

@@ -1,10 +1,8 @@
-//! `decode bytes E2 98 E2 98 83`, `decode units D800 DC00`, `decode 0061 0308`: the characters, from the beginning,
-//! from the back and in turn. `head E0 80 80`: the same of bytes, also put before 62, after 61 and between the two.
-//! `every 2 61 80`: how many strings of this many of the bytes are decoded as by std: all.
+//! Questions about decoding: the characters of an input, from the beginning, from the back and in turn; the same of
+//! bytes, also between letters; and how many strings of some bytes are decoded as by std: all.
 use crate::language::fault::{Answer, Fault, agreed};
 use crate::language::input::Input;
-use crate::language::printing::spelled_all;
-use crate::language::words::{all, decimal, first_of};
+use crate::language::words::{all, decimal, first_of, spelled_all};
 use icu_normalizer::{Chars, Units};
 use std::alloc::Global;
 

@@ -2,9 +2,7 @@
 use crate::language::fault::{Fault, agreed};
 use crate::language::input::Input;
 use crate::language::items::are;
-use icu_normalizer::{
-    AnyNormalizerBorrowed as Normalizer, Chars, NormalizeError, Offence, Units, Utf16Chars,
-};
+use icu_normalizer::{AnyNormalizerBorrowed as Normalizer, Chars, NormalizeError, Offence, Units};
 use std::alloc::Global;
 use std::borrow::{CowSlice, CowStr};
 
@@ -21,7 +19,7 @@ pub struct Results {
     pub offence: Option<Offence>,
 }
 
-/// An input in an encoding.
+/// A text in an encoding.
 #[derive(Clone, Copy)]
 pub enum Encoded<'t> {
     Text(&'t str),
@@ -39,8 +37,7 @@ impl<'t> Encoded<'t> {
         }
     }
 
-    /// How many units it has.
-    pub fn len(self) -> usize {
+    fn len(self) -> usize {
         match self {
             Encoded::Text(text) => text.len(),
             Encoded::Bytes(bytes) => bytes.len(),
@@ -48,61 +45,108 @@ impl<'t> Encoded<'t> {
         }
     }
 
-    /// The form as it is returned.
-    fn returned(self, normalizer: &Normalizer<'_>) -> Result<Returned<'t>, NormalizeError> {
+    /// How many characters it has, if it is well-formed and these begin with them.
+    fn count_in(self, characters: &[char]) -> Option<usize> {
         match self {
-            Encoded::Text(text) => Ok(Returned::Text(normalizer.normalize(text)?)),
-            Encoded::Bytes(bytes) => Ok(Returned::Text(normalizer.normalize_utf8(bytes)?)),
-            Encoded::Units(units) => Ok(Returned::Units(normalizer.normalize_utf16(units)?)),
+            Encoded::Text(text) => count_in(text, characters),
+            Encoded::Bytes(bytes) => count_in(str::from_utf8(bytes).ok()?, characters),
+            Encoded::Units(units) if is_utf16(units) => count_in(units, characters),
+            Encoded::Units(_) => None,
         }
     }
 
-    /// The characters of the form, and whether it is borrowed.
-    pub fn form(
+    /// Whether it is well-formed, and these are its characters.
+    fn is(self, characters: &[char]) -> bool {
+        self.count_in(characters) == Some(characters.len())
+    }
+
+    /// The characters of the form.
+    fn form(self, alloc: Global, normalizer: &Normalizer<'_>) -> Result<Vec<char>, NormalizeError> {
+        match self {
+            Encoded::Text(text) => normalizer.form_of_characters(alloc, Chars::new(text)),
+            Encoded::Bytes(bytes) => normalizer.form_of_characters(alloc, Chars::new(bytes)),
+            Encoded::Units(units) => normalizer.form_of_characters(alloc, Chars::new(units)),
+        }
+    }
+
+    /// Makes the call of a normalizer that has this name, and returns whether its result goes with the form. This
+    /// allocates nothing else.
+    ///
+    /// # Errors
+    /// [`Fault::Memory`] if the call returned it, and left a beginning of the form in a sink; [`Fault::MemoryOfItem`]
+    /// if it is the only item of an iterator.
+    pub fn agrees(
         self,
         alloc: Global,
         normalizer: &Normalizer<'_>,
-    ) -> Result<(Vec<char>, bool), Fault> {
-        self.returned(normalizer)?.characters(alloc)
+        call: &str,
+        form: &[char],
+    ) -> Result<bool, Fault> {
+        let is_own = self.is(form);
+        match call {
+            "normalize" => self.is_returned(normalizer, form),
+            "normalize_to" => self.is_written(alloc, normalizer, "", form),
+            "normalize_iter" => self.is_yielded(normalizer, form),
+            "is_normalized" => Ok(is_own == self.is_normalized(normalizer)?),
+            "split_normalized" => Ok(is_own == (self.cut(normalizer)? == self.len())),
+            "first_offence" => Ok(is_own == self.offence(normalizer)?.is_none()),
+            _ => Err(Fault::Unreadable),
+        }
     }
 
-    /// Whether the form is returned. This allocates nothing else.
-    pub fn is_returned(self, normalizer: &Normalizer<'_>, form: &[char]) -> Result<bool, Fault> {
-        Ok(self.returned(normalizer)?.is(form))
+    /// Whether the form is returned, borrowed if it is the text.
+    fn is_returned(self, normalizer: &Normalizer<'_>, form: &[char]) -> Result<bool, Fault> {
+        let (is_form, is_borrowed) = match self {
+            Encoded::Text(text) => of_returned_text(normalizer.normalize(text)?, form),
+            Encoded::Bytes(bytes) => of_returned_text(normalizer.normalize_utf8(bytes)?, form),
+            Encoded::Units(units) => {
+                let returned = normalizer.normalize_utf16(units)?;
+                let is_borrowed = matches!(returned, CowSlice::Borrowed(_));
+                (Encoded::Units(returned.as_slice()).is(form), is_borrowed)
+            }
+        };
+        Ok(is_form && is_borrowed == self.is(form))
     }
 
-    /// Whether the form is written to a sink after what is there. A failed write leaves a beginning of it. Besides the
-    /// sink, and a text of 16-bit units, this allocates nothing else.
-    pub fn is_written(
+    /// Whether the form is written to a sink after what is there, which makes it this text. A failed write leaves a
+    /// beginning of that. Besides the sink this allocates nothing else.
+    fn is_written(
         self,
         alloc: Global,
         normalizer: &Normalizer<'_>,
         before: &str,
-        form: &[char],
+        text: &[char],
     ) -> Result<bool, Fault> {
-        let mut text = String::new(alloc);
-        let mut units: Vec<u16> = Vec::new(alloc);
-        let written = match self {
+        match self {
             Encoded::Text(input) => {
-                text.push_str(before)?;
-                normalizer.normalize_to(input, &mut text)
+                let mut sink = String::from_str(alloc, before)?;
+                let written = normalizer.normalize_to(input, &mut sink);
+                Encoded::Text(&sink).holds(written, text)
             }
             Encoded::Bytes(input) => {
-                text.push_str(before)?;
-                normalizer.normalize_utf8_to(input, &mut text)
+                let mut sink = String::from_str(alloc, before)?;
+                let written = normalizer.normalize_utf8_to(input, &mut sink);
+                Encoded::Text(&sink).holds(written, text)
             }
             Encoded::Units(input) => {
-                units = before.encode_utf16().collect(alloc)?;
-                let written = normalizer.normalize_utf16_to(input, &mut units);
-                text = text_of_units(alloc, &units)?;
-                written
+                let mut sink: Vec<u16> = before.encode_utf16().collect(alloc)?;
+                let written = normalizer.normalize_utf16_to(input, &mut sink);
+                Encoded::Units(&sink).holds(written, text)
             }
-        };
-        holds(written, &text, before, form)
+        }
+    }
+
+    /// Whether a sink holds all of a text, or after a fault a beginning of it.
+    fn holds(self, written: Result<(), NormalizeError>, text: &[char]) -> Result<bool, Fault> {
+        match (self.count_in(text), written) {
+            (Some(count), Ok(())) => Ok(count == text.len()),
+            (Some(_), Err(_)) => Err(Fault::Memory),
+            (None, _) => Ok(false),
+        }
     }
 
     /// Whether the iterator over the characters yields the form.
-    pub fn is_yielded(self, normalizer: &Normalizer<'_>, form: &[char]) -> Result<bool, Fault> {
+    fn is_yielded(self, normalizer: &Normalizer<'_>, form: &[char]) -> Result<bool, Fault> {
         match self {
             Encoded::Text(text) => are_yielded(normalizer, Chars::new(text), form),
             Encoded::Bytes(bytes) => are_yielded(normalizer, Chars::new(bytes), form),
@@ -110,8 +154,7 @@ impl<'t> Encoded<'t> {
         }
     }
 
-    /// Whether it is normalized.
-    pub fn is_own(self, normalizer: &Normalizer<'_>) -> Result<bool, NormalizeError> {
+    fn is_normalized(self, normalizer: &Normalizer<'_>) -> Result<bool, NormalizeError> {
         match self {
             Encoded::Text(text) => normalizer.is_normalized(text),
             Encoded::Bytes(bytes) => normalizer.is_normalized_utf8(bytes),
@@ -120,7 +163,7 @@ impl<'t> Encoded<'t> {
     }
 
     /// The length of the prefix that may be cut off, if the two parts are the input.
-    pub fn cut(self, normalizer: &Normalizer<'_>) -> Result<usize, Fault> {
+    fn cut(self, normalizer: &Normalizer<'_>) -> Result<usize, Fault> {
         let (cut, are_the_input) = match self {
             Encoded::Text(text) => {
                 let (front, rest) = normalizer.split_normalized(text)?;
@@ -140,8 +183,7 @@ impl<'t> Encoded<'t> {
         Ok(cut)
     }
 
-    /// The first mismatch.
-    pub fn offence(self, normalizer: &Normalizer<'_>) -> Result<Option<Offence>, NormalizeError> {
+    fn offence(self, normalizer: &Normalizer<'_>) -> Result<Option<Offence>, NormalizeError> {
         match self {
             Encoded::Text(text) => normalizer.first_offence(text),
             Encoded::Bytes(bytes) => normalizer.first_offence_utf8(bytes),
@@ -150,40 +192,58 @@ impl<'t> Encoded<'t> {
     }
 }
 
-/// A form as a call returns it.
-#[derive(Drop)]
-enum Returned<'t> {
-    Text(CowStr<'t, Global>),
-    Units(CowSlice<'t, u16, Global>),
+/// How many characters a text has, if these begin with them.
+fn count_in<U: Units>(text: U, characters: &[char]) -> Option<usize> {
+    let mut count = 0usize;
+    for character in Chars::new(text) {
+        if characters.get(count) != Some(&character) {
+            return None;
+        }
+        count = count.saturating_add(1);
+    }
+    Some(count)
 }
 
-impl Returned<'_> {
-    /// Its characters, and whether it is borrowed.
-    fn characters(&self, alloc: Global) -> Result<(Vec<char>, bool), Fault> {
-        match self {
-            Returned::Text(text) => {
-                let characters = text.as_str().chars().collect(alloc)?;
-                Ok((characters, matches!(text, CowStr::Borrowed(_))))
-            }
-            Returned::Units(units) => {
-                let text = text_of_units(alloc, units.as_slice())?;
-                let characters = text.chars().collect(alloc)?;
-                Ok((characters, matches!(units, CowSlice::Borrowed(_))))
-            }
+/// Whether units are the UTF-16 of a text.
+fn is_utf16(units: &[u16]) -> bool {
+    for item in char::decode_utf16(units.iter().copied()) {
+        if item.is_err() {
+            return false;
         }
     }
+    true
+}
 
-    /// Whether these are its characters.
-    fn is(&self, form: &[char]) -> bool {
-        match self {
-            Returned::Text(text) => text.as_str().chars().eq(form.iter().copied()),
-            Returned::Units(units) => {
-                let units = units.as_slice();
-                is_utf16(units) && Utf16Chars::new(units).eq(form.iter().copied())
-            }
-        }
+/// Whether a text that is returned is this form, and whether it is borrowed.
+fn of_returned_text(returned: CowStr<'_, Global>, form: &[char]) -> (bool, bool) {
+    let is_borrowed = matches!(returned, CowStr::Borrowed(_));
+    (Encoded::Text(returned.as_str()).is(form), is_borrowed)
+}
+
+/// Whether the iterator over characters yields a form.
+fn are_yielded<U: Units>(
+    normalizer: &Normalizer<'_>,
+    characters: Chars<U>,
+    form: &[char],
+) -> Result<bool, Fault> {
+    match normalizer {
+        Normalizer::Decomposing(n) => are(n.normalize_iter(characters)?, form),
+        Normalizer::Composing(n) => are(n.normalize_iter(characters)?, form),
     }
 }
+
+/// The calls of a normalizer on an input.
+const CALLS: [&str; 6] = [
+    "normalize",
+    "normalize_to",
+    "normalize_iter",
+    "is_normalized",
+    "split_normalized",
+    "first_offence",
+];
+
+/// What a sink holds before the form is written to it.
+const BEFORE: &str = "held: ";
 
 /// What the calls return, if they agree.
 fn results_of(
@@ -191,32 +251,19 @@ fn results_of(
     normalizer: &Normalizer<'_>,
     input: Encoded<'_>,
 ) -> Result<Results, Fault> {
-    let (form, is_own) = input.form(alloc, normalizer)?;
-    let (cut, offence) = places(alloc, normalizer, input, &form)?;
-    agreed(
-        is_own == input.is_own(normalizer)?
-            && is_own == (cut == input.len())
-            && is_own == offence.is_none(),
-    )?;
+    let form = input.form(alloc, normalizer)?;
+    for call in CALLS {
+        agreed(input.agrees(alloc, normalizer, call, &form)?)?;
+    }
+    let mut written: Vec<char> = BEFORE.chars().collect(alloc)?;
+    written.extend_from_slice(&form)?;
+    agreed(input.is_written(alloc, normalizer, BEFORE, &written)?)?;
     Ok(Results {
+        is_own: input.is(&form),
         form,
-        is_own,
-        cut,
-        offence,
+        cut: input.cut(normalizer)?,
+        offence: input.offence(normalizer)?,
     })
-}
-
-/// The cut and the first mismatch, if each call makes this form.
-fn places(
-    alloc: Global,
-    normalizer: &Normalizer<'_>,
-    input: Encoded<'_>,
-    form: &[char],
-) -> Result<(usize, Option<Offence>), Fault> {
-    agreed(
-        input.is_written(alloc, normalizer, BEFORE, form)? && input.is_yielded(normalizer, form)?,
-    )?;
-    Ok((input.cut(normalizer)?, input.offence(normalizer)?))
 }
 
 /// What the calls return for an input in its encoding, or for a text in all three.
@@ -238,27 +285,16 @@ fn results_of_text(
     text: &str,
 ) -> Result<Results, Fault> {
     let of_text = results_of(alloc, normalizer, Encoded::Text(text))?;
+    let units: Vec<u16> = text.encode_utf16().collect(alloc)?;
+    let of_units = results_of(alloc, normalizer, Encoded::Units(&units))?;
     agreed(
         results_of(alloc, normalizer, Encoded::Bytes(text.as_bytes()))? == of_text
-            && are_results_of_units(alloc, normalizer, text, &of_text)?,
+            && of_units.form == of_text.form
+            && of_units.is_own == of_text.is_own
+            && Some(of_units.cut) == in_units(text, of_text.cut)
+            && of_units.offence == offence_in_units(text, of_text.offence),
     )?;
     Ok(of_text)
-}
-
-fn are_results_of_units(
-    alloc: Global,
-    normalizer: &Normalizer<'_>,
-    text: &str,
-    wanted: &Results,
-) -> Result<bool, Fault> {
-    let units: Vec<u16> = text.encode_utf16().collect(alloc)?;
-    let found = results_of(alloc, normalizer, Encoded::Units(&units))?;
-    Ok(
-        found.form == wanted.form
-            && found.is_own == wanted.is_own
-            && Some(found.cut) == in_units(text, wanted.cut)
-            && found.offence == offence_in_units(text, wanted.offence),
-    )
 }
 
 /// A place of a text in 16-bit units.
@@ -273,61 +309,4 @@ fn offence_in_units(text: &str, offence: Option<Offence>) -> Option<Offence> {
         found: offence.found,
         wanted: offence.wanted,
     })
-}
-
-/// Whether the iterator over characters yields a form.
-fn are_yielded<U: Units>(
-    normalizer: &Normalizer<'_>,
-    characters: Chars<U>,
-    form: &[char],
-) -> Result<bool, Fault> {
-    match normalizer {
-        Normalizer::Decomposing(n) => are(n.normalize_iter(characters)?, form),
-        Normalizer::Composing(n) => are(n.normalize_iter(characters)?, form),
-    }
-}
-
-/// What a sink holds before the form is written to it.
-const BEFORE: &str = "held: ";
-
-/// Whether a sink holds all of the form after what was there, or after a fault a beginning of it.
-fn holds(
-    written: Result<(), NormalizeError>,
-    sink: &str,
-    before: &str,
-    form: &[char],
-) -> Result<bool, Fault> {
-    let Some(after) = sink.strip_prefix(before) else {
-        return Ok(false);
-    };
-    let is_beginning = after
-        .chars()
-        .zip(form.iter().copied())
-        .all(|(found, wanted)| found == wanted);
-    let count = after.chars().count();
-    match written {
-        Ok(()) => Ok(is_beginning && count == form.len()),
-        Err(_) if is_beginning && count <= form.len() => Err(Fault::Memory),
-        Err(_) => Ok(false),
-    }
-}
-
-/// Whether units are the UTF-16 of a text.
-fn is_utf16(units: &[u16]) -> bool {
-    for item in char::decode_utf16(units.iter().copied()) {
-        if item.is_err() {
-            return false;
-        }
-    }
-    true
-}
-
-/// The text of units, if these are its UTF-16.
-fn text_of_units(alloc: Global, units: &[u16]) -> Result<String, Fault> {
-    let mut text = String::new(alloc);
-    for c in Utf16Chars::new(units) {
-        text.push(c)?;
-    }
-    agreed(text.encode_utf16().eq(units.iter().copied()))?;
-    Ok(text)
 }

@@ -2,13 +2,10 @@
 //! or made by hand; and what questions are about, the data with the normalizers over them.
 pub mod by_hand;
 pub mod fault;
-pub mod given;
 pub mod held;
 pub mod input;
 pub mod items;
 pub mod printing;
-pub mod ranges;
 pub mod record_rows;
 pub mod setting;
-pub mod stage;
 pub mod words;

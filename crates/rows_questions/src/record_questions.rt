@@ -1,23 +1,13 @@
-//! `build`: whether the records build data; `said build` has the text of the error. `record 0344`, `mapper 0041`: what
-//! is recorded. `count records`: how many.
+//! Questions about records: what is recorded, how many there are, and the text of the error if they build no data.
 use crate::language::fault::{Answer, Fault};
-use crate::language::printing::building;
 use crate::language::record_rows::{spelled_mapper_record, spelled_record};
 use crate::language::setting::Setting;
 use crate::language::words::{character, only};
 use icu_normalizer::{BuildError, Record, Uts46Record};
 use std::alloc::Global;
 
-/// Why the records build no data, or `ok`.
-pub fn build(setting: &Setting<'_>, question: &[&str]) -> Answer {
-    match question {
-        [] => building(setting.alloc, setting.refusal()),
-        _ => Err(Fault::Unreadable),
-    }
-}
-
 /// The text of the error, or `none`.
-pub fn said(setting: &Setting<'_>) -> Answer {
+pub fn said(setting: &Setting) -> Answer {
     match setting.refusal() {
         None => Ok(String::from_str(setting.alloc, "none")?),
         Some(BuildError::Memory) => Err(Fault::Memory),
@@ -44,10 +34,10 @@ pub fn mapper_record(alloc: Global, records: &[Uts46Record], question: &[&str]) 
 }
 
 /// How many records there are, or how many of the mapper.
-pub fn count(alloc: Global, setting: &Setting<'_>, question: &[&str]) -> Answer {
+pub fn count(alloc: Global, setting: &Setting, question: &[&str]) -> Answer {
     let count = match question {
-        ["records"] => setting.records().len(),
-        ["mapper"] => setting.mapper().len(),
+        ["records"] => setting.records.len(),
+        ["mapper"] => setting.mapper.len(),
         _ => return Err(Fault::Unreadable),
     };
     Ok(format!(in alloc; "{count}")?)

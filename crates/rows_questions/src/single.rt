@@ -1,109 +1,98 @@
-//! One call of the library, so that its growths of memory can be counted apart from those of a comparison: of `nfc` and
-//! the other forms the call of that name, as `normalize_to`; of `build` that of `Records::build`, of `by-records nfc`
-//! the constructor over what is built, of `try nfc` the constructor, of `copies` the copies of each part, of
-//! `unchecked`, `map` and `validate` the iterator, of `ranges` and `pairs` what makes them.
-use crate::data::refusal;
+//! One call of the library, whose growths of memory can be counted and refused apart from those of what comes before it
+//! and of what compares its result. Of `nfc` and the other forms it is the call of a name, as `normalize_to`; of
+//! `unchecked`, `map` and `validate` the iterator, of `ranges` and `pairs` what makes them, of `build` that of
+//! `Records::build`, of `by-records nfc` that one and the constructor over what it builds, of `try nfc` the
+//! constructor, of `copies` the copies of each part.
+use crate::calls::{are_mapped, is_unchecked_form, normalizer_by_records};
+use crate::data::{are_copied, refusal};
 use crate::encoded::Encoded;
+use crate::language::by_hand::{pairs_of, ranges_of};
 use crate::language::fault::{Fault, agreed};
-use crate::language::input::Input;
+use crate::language::input::{Input, text};
 use crate::language::setting::Setting;
-use crate::language::stage::Stage;
-use crate::{by_data, mapping, parts};
-use icu_normalizer::AnyNormalizerBorrowed as Normalizer;
-use std::alloc::Global;
+use crate::language::words::{all, first_of, form_named, words};
+use icu_normalizer::{CanonicalCompositions, CodePointTable, MappingData, Records};
 
-/// Makes the call of a question, or if the question is a form's the call of this name. Nothing else then allocates.
+/// Makes the call of a row, or if the row asks for a form the call of this name. It stops `before` the call if told so.
+/// Nothing else allocates after that.
 ///
 /// # Errors
-/// [`Fault::Memory`] if the call returned it, and left what it may.
-pub fn make(
-    setting: &mut Setting<'_>,
+/// [`Fault::Memory`] if the call returned it, and left what it may; [`Fault::MemoryOfItem`] if it made an iterator,
+/// whose only item was that error; [`Fault::Stopped`] if it was not made.
+pub fn make(setting: &mut Setting, stop: &str, call: &str, row: &str) -> Result<(), Fault> {
+    let alloc = setting.alloc;
+    let (question, wanted) = row.split_once('=').ok_or(Fault::Unreadable)?;
+    let question = words(alloc, question)?;
+    let (name, rest) = first_of(&question)?;
+    match name {
+        "ranges" => {
+            let ranges = ranges_of(alloc, rest)?;
+            goes_past(stop)?;
+            drop(CodePointTable::from_ranges(ranges, 0)?);
+            Ok(())
+        }
+        "pairs" => {
+            let pairs = pairs_of(alloc, rest)?;
+            goes_past(stop)?;
+            drop(CanonicalCompositions::from_pairs(pairs)?);
+            Ok(())
+        }
+        "build" | "by-records" | "try" | "copies" => make_of_data(setting, stop, name, rest),
+        _ => {
+            let wanted: Vec<char> = all(alloc, &words(alloc, wanted)?)?;
+            make_of_text(setting, stop, call, &question, &wanted)
+        }
+    }
+}
+
+fn goes_past(stop: &str) -> Result<(), Fault> {
+    if stop == "before" {
+        Err(Fault::Stopped)
+    } else {
+        Ok(())
+    }
+}
+
+fn make_of_data(setting: &mut Setting, stop: &str, name: &str, rest: &[&str]) -> Result<(), Fault> {
+    let _held = setting.held()?;
+    goes_past(stop)?;
+    match (name, rest) {
+        ("build", _) => drop(Records::build(setting.alloc, &setting.records, &setting.mapper)?),
+        ("by-records", [form, ..]) => drop(normalizer_by_records(setting, form_named(form)?)?),
+        ("try", [name]) => {
+            if let Some(error) = refusal(setting.held()?, name)? {
+                return Err(Fault::from(error));
+            }
+        }
+        _ => agreed(are_copied(setting.held()?)?)?,
+    }
+    Ok(())
+}
+
+fn make_of_text(
+    setting: &mut Setting,
+    stop: &str,
     call: &str,
     question: &[&str],
-    stage: Stage,
+    wanted: &[char],
 ) -> Result<(), Fault> {
     let alloc = setting.alloc;
-    match question {
-        [form @ ("nfd" | "nfc" | "nfkd" | "nfkc"), input @ ..] => {
-            let input = Input::read(alloc, input)?;
-            make_on(
-                alloc,
-                &setting.normalizer(form)?.as_borrowed(),
-                call,
-                Encoded::of(&input),
-                stage,
-            )
+    let (name, input) = first_of(question)?;
+    agreed(match name {
+        "unchecked" => {
+            let (held, text) = (setting.held()?, text(alloc, input)?);
+            goes_past(stop)?;
+            is_unchecked_form(held, &text, wanted)?
         }
-        ["ranges", rest @ ..] => parts::make_ranges(alloc, rest, stage),
-        ["pairs", rest @ ..] => parts::make_pairs(alloc, rest, stage),
-        ["by-records", form, ..] => by_data::make_normalizer(alloc, setting, form, stage),
-        ["build"] => build(setting, stage),
-        ["try", name] => construct(setting, name, stage),
-        ["copies"] => copy(setting, stage),
-        ["unchecked", text @ ..] => by_data::make_unchecked(alloc, setting.held()?, text, stage),
-        [name, text @ ..] => mapping::make(alloc, setting.held()?, name, text, stage),
-        [] => Err(Fault::Unreadable),
-    }
-}
-
-fn build(setting: &Setting<'_>, stage: Stage) -> Result<(), Fault> {
-    if !stage.is_call() {
-        return Ok(());
-    }
-    match setting.refusal() {
-        None => Ok(()),
-        Some(error) => Err(Fault::from(error)),
-    }
-}
-
-fn construct(setting: &mut Setting<'_>, name: &str, stage: Stage) -> Result<(), Fault> {
-    let held = setting.held()?;
-    if !stage.is_call() {
-        return Ok(());
-    }
-    match refusal(held, name)? {
-        None => Ok(()),
-        Some(error) => Err(Fault::from(error)),
-    }
-}
-
-fn copy(setting: &mut Setting<'_>, stage: Stage) -> Result<(), Fault> {
-    let held = setting.held()?;
-    agreed(!stage.is_call() || parts::are_copied(held)?)
-}
-
-fn make_on(
-    alloc: Global,
-    normalizer: &Normalizer<'_>,
-    call: &str,
-    input: Encoded<'_>,
-    stage: Stage,
-) -> Result<(), Fault> {
-    let (form, _) = input.form(alloc, normalizer)?;
-    agreed(!stage.is_call() || is_right(alloc, normalizer, call, input, &form)?)
-}
-
-/// Makes the call, and returns whether its result goes with the form.
-fn is_right(
-    alloc: Global,
-    normalizer: &Normalizer<'_>,
-    call: &str,
-    input: Encoded<'_>,
-    form: &[char],
-) -> Result<bool, Fault> {
-    match call {
-        "normalize" => input.is_returned(normalizer, form),
-        "normalize_to" => input.is_written(alloc, normalizer, "", form),
-        "normalize_iter" => input.is_yielded(normalizer, form),
-        "is_normalized" => {
-            let _is_own = input.is_own(normalizer)?;
-            Ok(true)
+        "map" | "validate" => {
+            let (mapper, text) = (setting.held()?.mapper()?, text(alloc, input)?);
+            goes_past(stop)?;
+            are_mapped(&mapper, name, &text, wanted)?
         }
-        "split_normalized" => Ok(input.cut(normalizer)? <= input.len()),
-        "first_offence" => {
-            let _offence = input.offence(normalizer)?;
-            Ok(true)
+        form => {
+            let (normalizer, input) = (setting.normalizer(form)?, Input::read(alloc, input)?);
+            goes_past(stop)?;
+            Encoded::of(&input).agrees(alloc, &normalizer.as_borrowed(), call, wanted)?
         }
-        _ => Err(Fault::Unreadable),
-    }
+    })
 }

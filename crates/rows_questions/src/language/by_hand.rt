@@ -1,17 +1,76 @@
-//! Data made by hand, by rows: `range nfd 1161..1175 80000000` sets the word of some numbers, `cap nfd 0300` and `past
-//! nfd 0` the two other numbers of words, `scalars16 nfd 0065 0323` and `scalars24 nfd 1D157` the lists, `pairs 0308
-//! 0041 00C4` all pairs, `pair 0308 0061 00E4` one more. Kinds are `nfd`, `nfkd`, `uts46` and `supplement`. A part that
-//! no row sets is not held, and neither is one after `no nfd words`, `no nfd lists` or `no pairs`.
+//! Data made by hand, by rows such as `range nfd 1161..1175 80000000`. A part that no row sets is not held, and neither
+//! is one after `no nfd words`, `no nfd lists` or `no pairs`.
 use crate::language::fault::Fault;
-use crate::language::ranges::{Range, with_range};
-use crate::language::words::{Read, all, character, hexadecimal, only, words};
+use crate::language::words::{Spelled, all, character, hexadecimal, only};
 use icu_normalizer::{
     CanonicalCompositions, CodePointTable, DecompositionData, DecompositionTables,
     NonRecursiveDecompositionSupplement, Scalars16, Scalars24,
 };
-use std::alloc::Global;
+use std::alloc::{AllocError, Global};
+
+/// First number, last number and word.
+pub type Range = (u32, u32, u32);
+
+/// Second character, first character and composite.
+pub type Pair = (char, char, char);
+
+/// What rows set.
+#[derive(Clone, Drop)]
+pub struct ByHand {
+    pub canonical: Part,
+    pub compatibility: Part,
+    pub mapper: Part,
+    pub supplement: Part,
+    pairs: Option<Vec<Pair>>,
+}
+
+impl ByHand {
+    /// What no rows set.
+    pub fn nothing(alloc: Global) -> ByHand {
+        ByHand {
+            canonical: Part::nothing(alloc),
+            compatibility: Part::nothing(alloc),
+            mapper: Part::nothing(alloc),
+            supplement: Part::nothing(alloc),
+            pairs: None,
+        }
+    }
+
+    /// Takes a row that sets a part, or removes one. One that has a fault sets nothing.
+    pub fn take(&mut self, alloc: Global, row: &[&str]) -> Result<(), Fault> {
+        match row {
+            ["no", "pairs"] => self.pairs = None,
+            ["pairs", characters @ ..] => {
+                self.pairs = Some(pairs_of(alloc, characters)?);
+            }
+            ["pair", characters @ ..] => self.take_pairs(alloc, pairs_of(alloc, characters)?)?,
+            [name, "nfd", rest @ ..] => self.canonical.take(alloc, name, rest)?,
+            [name, "nfkd", rest @ ..] => self.compatibility.take(alloc, name, rest)?,
+            [name, "uts46", rest @ ..] => self.mapper.take(alloc, name, rest)?,
+            [name, "supplement", rest @ ..] => self.supplement.take(alloc, name, rest)?,
+            _ => return Err(Fault::Unreadable),
+        }
+        Ok(())
+    }
+
+    fn take_pairs(&mut self, alloc: Global, mut more: Vec<Pair>) -> Result<(), Fault> {
+        let mut pairs = self.pairs.take().unwrap_or(Vec::new(alloc));
+        pairs.append(&mut more)?;
+        self.pairs = Some(pairs);
+        Ok(())
+    }
+
+    /// The pairs.
+    pub fn compositions(&self) -> Result<Option<CanonicalCompositions>, Fault> {
+        match &self.pairs {
+            Some(pairs) => Ok(Some(CanonicalCompositions::from_pairs(pairs.clone()?)?)),
+            None => Ok(None),
+        }
+    }
+}
 
 /// What rows set of one kind of data.
+#[derive(Clone, Drop)]
 pub struct Part {
     has_words: bool,
     ranges: Vec<Range>,
@@ -20,45 +79,6 @@ pub struct Part {
     has_lists: bool,
     scalars16: Vec<u16>,
     scalars24: Vec<char>,
-}
-
-// Written out, so that each place that drops one makes one call.
-impl Drop for Part {
-    fn drop(self) {
-        let Part {
-            has_words: _,
-            ranges: _ranges,
-            past: _,
-            cap: _,
-            has_lists: _,
-            scalars16: _scalars16,
-            scalars24: _scalars24,
-        } = self;
-    }
-}
-
-/// Second character, first character and composite.
-pub type Pair = (char, char, char);
-
-/// Reads a row that sets a part of data, or removes one.
-pub fn read_row(alloc: Global, row: &[&str]) -> Result<(), Fault> {
-    match row {
-        ["pairs" | "pair", characters @ ..] => {
-            let _pairs = with_pairs(Vec::new(alloc), characters)?;
-            Ok(())
-        }
-        ["no", "pairs"] => Ok(()),
-        [name, "nfd" | "nfkd" | "uts46" | "supplement", rest @ ..] => {
-            Part::nothing(alloc).take(alloc, name, rest)
-        }
-        _ => Err(Fault::Unreadable),
-    }
-}
-
-/// The numbers that a word such as `1161..1175` says, or that of one alone, twice.
-pub fn numbers(word: &str) -> Result<(u32, u32), Fault> {
-    let (first, last) = word.split_once("..").unwrap_or((word, word));
-    Ok((hexadecimal(first)?, hexadecimal(last)?))
 }
 
 impl Part {
@@ -74,60 +94,21 @@ impl Part {
         }
     }
 
-    /// What rows set of a kind.
-    pub fn of(alloc: Global, rows: &[&str], kind: &str) -> Result<Part, Fault> {
-        let mut part = Part::nothing(alloc);
-        part.take_all(alloc, rows, kind)?;
-        Ok(part)
-    }
-
-    fn take_all(&mut self, alloc: Global, rows: &[&str], kind: &str) -> Result<(), Fault> {
-        for row in rows {
-            if let [name, of, rest @ ..] = words(alloc, row)?.as_slice() {
-                if *of == kind {
-                    self.take(alloc, name, rest)?;
-                }
-            }
-        }
-        Ok(())
-    }
-
     fn take(&mut self, alloc: Global, name: &str, rest: &[&str]) -> Result<(), Fault> {
         match name {
-            "range" => self.take_range(alloc, rest),
-            "cap" | "past" => self.take_number(name, only(rest)?),
-            "scalars16" => self.take_scalars16(all(alloc, rest)?),
-            "scalars24" => self.take_scalars24(all(alloc, rest)?),
-            "no" => self.take_none(only(rest)?),
-            _ => Err(Fault::Unreadable),
+            "range" => self.ranges = with_range(alloc, &self.ranges, range_of(rest)?)?,
+            "cap" => self.cap = u16::read(only(rest)?)?,
+            "past" => self.past = hexadecimal(only(rest)?)?,
+            "scalars16" => self.scalars16 = all(alloc, rest)?,
+            "scalars24" => self.scalars24 = all(alloc, rest)?,
+            "no" => return self.take_none(only(rest)?),
+            _ => return Err(Fault::Unreadable),
         }
-    }
-
-    fn take_range(&mut self, alloc: Global, rest: &[&str]) -> Result<(), Fault> {
-        let range = range_of(rest)?;
-        self.ranges = with_range(alloc, &self.ranges, range)?;
-        self.has_words = true;
-        Ok(())
-    }
-
-    fn take_number(&mut self, name: &str, digits: &str) -> Result<(), Fault> {
-        match name {
-            "cap" => self.cap = u16::read(digits)?,
-            _ => self.past = hexadecimal(digits)?,
+        if name.starts_with("scalars") {
+            self.has_lists = true;
+        } else {
+            self.has_words = true;
         }
-        self.has_words = true;
-        Ok(())
-    }
-
-    fn take_scalars16(&mut self, scalars16: Vec<u16>) -> Result<(), Fault> {
-        self.scalars16 = scalars16;
-        self.has_lists = true;
-        Ok(())
-    }
-
-    fn take_scalars24(&mut self, scalars24: Vec<char>) -> Result<(), Fault> {
-        self.scalars24 = scalars24;
-        self.has_lists = true;
         Ok(())
     }
 
@@ -143,48 +124,51 @@ impl Part {
         Ok(())
     }
 
-    /// The words, as data.
-    pub fn data(&self, alloc: Global) -> Result<Option<DecompositionData>, Fault> {
+    fn table(&self) -> Result<Option<CodePointTable>, Fault> {
         if !self.has_words {
             return Ok(None);
         }
-        Ok(Some(DecompositionData {
-            table: CodePointTable::from_ranges(self.ranges.to_vec(alloc)?, self.past)?,
-            passthrough_cap: self.cap,
-        }))
+        Ok(Some(CodePointTable::from_ranges(self.ranges.clone()?, self.past)?))
+    }
+
+    /// The words, as data.
+    pub fn data(&self) -> Result<Option<DecompositionData>, Fault> {
+        let passthrough_cap = self.cap;
+        Ok(
+            self.table()?.map(|table| DecompositionData {
+                table,
+                passthrough_cap,
+            }),
+        )
     }
 
     /// The lists, as tables.
-    pub fn tables(&self, alloc: Global) -> Result<Option<DecompositionTables>, Fault> {
+    pub fn tables(&self) -> Result<Option<DecompositionTables>, Fault> {
         if !self.has_lists {
             return Ok(None);
         }
-        let scalars16 = self.scalars16.to_vec(alloc)?;
+        let scalars16 = self.scalars16.clone()?;
         Ok(Some(DecompositionTables {
             scalars16: Scalars16::from(scalars16),
-            scalars24: Scalars24::from(self.scalars24.to_vec(alloc)?),
+            scalars24: Scalars24::from(self.scalars24.clone()?),
         }))
     }
 
     /// The words and the characters, as a supplement.
-    pub fn supplement(
-        &self,
-        alloc: Global,
-    ) -> Result<Option<NonRecursiveDecompositionSupplement>, Fault> {
-        if !self.has_words {
-            return Ok(None);
-        }
-        let scalars24 = self.scalars24.to_vec(alloc)?;
-        let table = CodePointTable::from_ranges(self.ranges.to_vec(alloc)?, self.past)?;
-        Ok(Some(NonRecursiveDecompositionSupplement {
-            table,
-            scalars24: Scalars24::from(scalars24),
-        }))
+    pub fn supplement(&self) -> Result<Option<NonRecursiveDecompositionSupplement>, Fault> {
+        let scalars24 = Scalars24::from(self.scalars24.clone()?);
+        Ok(self.table()?.map(|table| NonRecursiveDecompositionSupplement { table, scalars24 }))
     }
 }
 
+/// The numbers that a word such as `1161..1175` says, or that of one alone, twice.
+pub fn numbers(word: &str) -> Result<(u32, u32), Fault> {
+    let (first, last) = word.split_once("..").unwrap_or((word, word));
+    Ok((hexadecimal(first)?, hexadecimal(last)?))
+}
+
 /// The range and the word that two words say.
-pub fn range_of(words: &[&str]) -> Result<Range, Fault> {
+fn range_of(words: &[&str]) -> Result<Range, Fault> {
     let [range, word] = words else {
         return Err(Fault::Unreadable);
     };
@@ -192,37 +176,35 @@ pub fn range_of(words: &[&str]) -> Result<Range, Fault> {
     Ok((first, last, hexadecimal(word)?))
 }
 
-/// The pairs that rows set, as data.
-pub fn compositions(alloc: Global, rows: &[&str]) -> Result<Option<CanonicalCompositions>, Fault> {
-    let mut found = None;
-    for row in rows {
-        found = next_pairs(alloc, found, words(alloc, row)?.as_slice())?;
+/// The ranges that words say, by two each.
+pub fn ranges_of(alloc: Global, words: &[&str]) -> Result<Vec<Range>, Fault> {
+    let mut ranges = Vec::new(alloc);
+    for two in words.chunks(2) {
+        ranges.push(range_of(two)?)?;
     }
-    match found {
-        Some(pairs) => Ok(Some(CanonicalCompositions::from_pairs(pairs)?)),
-        None => Ok(None),
-    }
+    Ok(ranges)
 }
 
-/// The pairs after one more row.
-fn next_pairs(
-    alloc: Global,
-    found: Option<Vec<Pair>>,
-    row: &[&str],
-) -> Result<Option<Vec<Pair>>, Fault> {
-    match row {
-        ["pairs", characters @ ..] => Ok(Some(with_pairs(Vec::new(alloc), characters)?)),
-        ["pair", characters @ ..] => {
-            let pairs = found.unwrap_or(Vec::new(alloc));
-            Ok(Some(with_pairs(pairs, characters)?))
+/// The ranges, with the word of one in place of those that its numbers had.
+fn with_range(alloc: Global, ranges: &[Range], range: Range) -> Result<Vec<Range>, AllocError> {
+    let mut all = Vec::new(alloc);
+    for &(first, last, word) in ranges {
+        if first < range.0 {
+            all.push((first, last.min(range.0 - 1), word))?;
         }
-        ["no", "pairs"] => Ok(None),
-        _ => Ok(found),
     }
+    all.push(range)?;
+    for &(first, last, word) in ranges {
+        if range.1 < last {
+            all.push((first.max(range.1 + 1), last, word))?;
+        }
+    }
+    Ok(all)
 }
 
-/// Pairs, and further ones of three characters each.
-pub fn with_pairs(mut pairs: Vec<Pair>, characters: &[&str]) -> Result<Vec<Pair>, Fault> {
+/// The pairs that words say by three characters each.
+pub fn pairs_of(alloc: Global, characters: &[&str]) -> Result<Vec<Pair>, Fault> {
+    let mut pairs = Vec::new(alloc);
     for three in characters.chunks(3) {
         let [second, first, composite] = three else {
             return Err(Fault::Unreadable);

@@ -1,6 +1,7 @@
 //! Why a row has no result.
 use icu_normalizer::{BuildError, DataError, NormalizeError, TableError};
 use std::alloc::{AllocError, AllocFailed};
+use std::num::ParseIntError;
 
 /// Why a row has no result.
 #[derive(Clone, Copy, Debug, PartialEq, Eq)]
@@ -13,6 +14,10 @@ pub enum Fault {
     Divided,
     /// There was not enough memory.
     Memory,
+    /// There was not enough memory for the first item of an iterator, which had no other.
+    MemoryOfItem,
+    /// A call was not to be made.
+    Stopped,
 }
 
 /// The result of a question.
@@ -25,7 +30,8 @@ impl Fault {
             Fault::Unreadable => "unreadable",
             Fault::Refused => "refused",
             Fault::Divided => "different ways to ask have different answers",
-            Fault::Memory => "out of memory",
+            Fault::Memory | Fault::MemoryOfItem => "out of memory",
+            Fault::Stopped => "stopped",
         }
     }
 }
@@ -44,6 +50,12 @@ impl From<AllocError> for Fault {
 impl<T: Drop> From<AllocFailed<T>> for Fault {
     fn from(_error: AllocFailed<T>) -> Fault {
         Fault::Memory
+    }
+}
+
+impl From<ParseIntError> for Fault {
+    fn from(_error: ParseIntError) -> Fault {
+        Fault::Unreadable
     }
 }
 

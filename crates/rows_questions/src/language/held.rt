@@ -2,7 +2,7 @@
 ghost use Rattle.std.specs.Prelude.{◌≡◌, ◌↔◌, ◌⊎◌, IfOk, IfErr, IsErrOf, IsNone, Some};
 ghost use Rattle.icu_normalizer.specs.DataError.TheVariants.{Memory, Provider};
 
-use crate::language::by_hand::{Part, compositions};
+use crate::language::by_hand::ByHand;
 use crate::language::fault::Fault;
 use icu_normalizer::{
     Built, CanonicalCompositions, DataError, DataMarkerInfo, DataProvider, DecompositionData,
@@ -10,9 +10,9 @@ use icu_normalizer::{
     NormalizerNfdSupplementV1, NormalizerNfdTablesV1, NormalizerNfkdDataV1, NormalizerNfkdTablesV1,
     NormalizerUts46DataV1,
 };
-use std::alloc::Global;
 
 /// What a provider holds, each part of which may be lacking.
+#[derive(Drop)]
 pub struct Held {
     pub canonical: Option<DecompositionData>,
     pub compatibility: Option<DecompositionData>,
@@ -21,21 +21,6 @@ pub struct Held {
     pub supplementary: Option<DecompositionTables>,
     pub pairs: Option<CanonicalCompositions>,
     pub supplement: Option<NonRecursiveDecompositionSupplement>,
-}
-
-// Written out, so that each place that drops one makes one call.
-impl Drop for Held {
-    fn drop(self) {
-        let Held {
-            canonical: _canonical,
-            compatibility: _compatibility,
-            mapper: _mapper,
-            tables: _tables,
-            supplementary: _supplementary,
-            pairs: _pairs,
-            supplement: _supplement,
-        } = self;
-    }
 }
 
 impl Held {
@@ -53,50 +38,26 @@ impl Held {
     }
 
     /// Takes what rows make by hand.
-    pub fn take_rows(&mut self, alloc: Global, rows: &[&str]) -> Result<(), Fault> {
-        for kind in ["nfd", "nfkd", "uts46", "supplement"] {
-            self.take_part(alloc, kind, &Part::of(alloc, rows, kind)?)?;
-        }
-        self.pairs = compositions(alloc, rows)?;
-        Ok(())
-    }
-
-    fn take_part(&mut self, alloc: Global, kind: &str, part: &Part) -> Result<(), Fault> {
-        match kind {
-            "nfd" => self.take_canonical(alloc, part)?,
-            "nfkd" => self.take_compatibility(alloc, part)?,
-            "uts46" => self.mapper = part.data(alloc)?,
-            _ => self.supplement = part.supplement(alloc)?,
-        }
-        Ok(())
-    }
-
-    fn take_canonical(&mut self, alloc: Global, part: &Part) -> Result<(), Fault> {
-        self.canonical = part.data(alloc)?;
-        self.tables = part.tables(alloc)?;
-        Ok(())
-    }
-
-    fn take_compatibility(&mut self, alloc: Global, part: &Part) -> Result<(), Fault> {
-        self.compatibility = part.data(alloc)?;
-        self.supplementary = part.tables(alloc)?;
+    pub fn take_by_hand(&mut self, by_hand: &ByHand) -> Result<(), Fault> {
+        self.canonical = by_hand.canonical.data()?;
+        self.tables = by_hand.canonical.tables()?;
+        self.compatibility = by_hand.compatibility.data()?;
+        self.supplementary = by_hand.compatibility.tables()?;
+        self.mapper = by_hand.mapper.data()?;
+        self.supplement = by_hand.supplement.supplement()?;
+        self.pairs = by_hand.compositions()?;
         Ok(())
     }
 
     /// Takes all that was built.
     pub fn take_built(&mut self, built: &Built) -> Result<(), Fault> {
-        self.take_built_words(built)?;
+        self.canonical = Some(<Built as DataProvider<NormalizerNfdDataV1>>::load(built)?);
+        self.compatibility = Some(<Built as DataProvider<NormalizerNfkdDataV1>>::load(built)?);
+        self.mapper = Some(<Built as DataProvider<NormalizerUts46DataV1>>::load(built)?);
         self.tables = Some(<Built as DataProvider<NormalizerNfdTablesV1>>::load(built)?);
         self.supplementary = Some(<Built as DataProvider<NormalizerNfkdTablesV1>>::load(built)?);
         self.pairs = Some(<Built as DataProvider<NormalizerNfcV1>>::load(built)?);
         self.supplement = Some(<Built as DataProvider<NormalizerNfdSupplementV1>>::load(built)?);
-        Ok(())
-    }
-
-    fn take_built_words(&mut self, built: &Built) -> Result<(), Fault> {
-        self.canonical = Some(<Built as DataProvider<NormalizerNfdDataV1>>::load(built)?);
-        self.compatibility = Some(<Built as DataProvider<NormalizerNfkdDataV1>>::load(built)?);
-        self.mapper = Some(<Built as DataProvider<NormalizerUts46DataV1>>::load(built)?);
         Ok(())
     }
 }

@@ -1,7 +1,6 @@
 //! Inputs as rows write them: characters `0061 0308`, or `bytes 61 CC 88`, or `units 0061 0308`.
 use crate::language::fault::Fault;
-use crate::language::printing::{spelled_all, spelled_text};
-use crate::language::words::{all, character};
+use crate::language::words::{all, character, spelled_all};
 use std::alloc::Global;
 
 /// An input in one of the three encodings.
@@ -38,8 +37,7 @@ impl Input {
                 (spelled_all(alloc, front)?, spelled_all(alloc, rest)?)
             }
         };
-        let parts = format!(in alloc; "{front} | {rest}")?;
-        Ok(String::from_str(alloc, parts.trim())?)
+        Ok(format!(in alloc; "{front} | {rest}")?)
     }
 }
 
@@ -50,4 +48,10 @@ pub fn text(alloc: Global, words: &[&str]) -> Result<String, Fault> {
         text.push(character(word)?)?;
     }
     Ok(text)
+}
+
+/// The characters of a text.
+fn spelled_text(alloc: Global, text: &str) -> Result<String, Fault> {
+    let characters: Vec<char> = text.chars().collect(alloc)?;
+    spelled_all(alloc, &characters)
 }

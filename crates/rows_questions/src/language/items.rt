@@ -16,18 +16,9 @@ where
     for character in characters {
         match items.next() {
             Some(Ok(found)) if found == *character => is_first = false,
-            Some(Err(_)) => return ended(items.next().is_none() && is_first),
+            Some(Err(_)) if is_first && items.next().is_none() => return Err(Fault::MemoryOfItem),
             _ => return Ok(false),
         }
     }
     Ok(items.next().is_none())
-}
-
-/// What a fault says that was the only item, or was not.
-fn ended(is_only: bool) -> Result<bool, Fault> {
-    Err(if is_only {
-        Fault::Memory
-    } else {
-        Fault::Divided
-    })
 }

@@ -1,69 +1,43 @@
 //! Records as rows write them: `canonical 0308 0301 class 230`, `class 9`, `compatibility 0066 0069`; of the mapper
 //! `mapped 03B9`, `ignored`, `disallowed`.
 use crate::language::fault::Fault;
-use crate::language::printing::spelled_all;
-use crate::language::words::{all, character, decimal, first_of, hexadecimal};
+use crate::language::words::{all, character, decimal, first_of, hexadecimal, spelled_all};
 use icu_normalizer::{Record, Uts46Record, Uts46Status};
 use std::alloc::Global;
 
-/// What is said of a character's mapping, before the mapping.
-#[derive(Clone, Copy)]
-enum Kind {
-    Canonical,
-    Excluded,
-    Compatibility,
-}
-
-fn kind_named(name: &str) -> Result<Kind, Fault> {
-    match name {
-        "canonical" => Ok(Kind::Canonical),
-        "excluded" => Ok(Kind::Excluded),
-        "compatibility" => Ok(Kind::Compatibility),
-        _ => Err(Fault::Unreadable),
+/// The record of a character that words spell. In words such as `4E00..` numbers are higher by the steps.
+pub fn record_of(alloc: Global, c: char, words: &[&str], steps: u32) -> Result<Record, Fault> {
+    let (words, class) = match words {
+        [words @ .., name, class] if *name == "class" => (words, decimal(class)?),
+        words => (first_of(words).map(|_| words)?, 0),
+    };
+    let (kind, mapping) = first_of(words).unwrap_or(("canonical", words));
+    if !matches!(kind, "canonical" | "excluded" | "compatibility") {
+        return Err(Fault::Unreadable);
     }
-}
-
-fn kind_of(record: &Record) -> &'static str {
-    if record.compatibility {
-        "compatibility"
-    } else if record.excluded {
-        "excluded"
-    } else {
-        "canonical"
-    }
-}
-
-/// The record of a character that words spell.
-pub fn record_of(alloc: Global, c: char, words: &[&str]) -> Result<Record, Fault> {
-    match words {
-        [first, class] if *first == "class" => record(alloc, c, class_number(class)?, None, &[]),
-        [kind, mapping @ .., last, class] if *last == "class" => {
-            let kind = Some(kind_named(kind)?);
-            record(alloc, c, class_number(class)?, kind, mapping)
-        }
-        [kind, mapping @ ..] => record(alloc, c, 0, Some(kind_named(kind)?), mapping),
-        [] => Err(Fault::Unreadable),
-    }
-}
-
-fn class_number(digits: &str) -> Result<u8, Fault> {
-    u8::try_from(decimal(digits)?).ok().ok_or(Fault::Unreadable)
-}
-
-fn record(
-    alloc: Global,
-    c: char,
-    class: u8,
-    kind: Option<Kind>,
-    mapping: &[&str],
-) -> Result<Record, Fault> {
     Ok(Record {
         c,
-        class,
-        mapping: all(alloc, mapping)?,
-        compatibility: matches!(kind, Some(Kind::Compatibility)),
-        excluded: matches!(kind, Some(Kind::Excluded)),
+        class: u8::try_from(class).ok().ok_or(Fault::Unreadable)?,
+        mapping: mapping_of(alloc, mapping, steps)?,
+        compatibility: kind == "compatibility",
+        excluded: kind == "excluded",
     })
+}
+
+fn mapping_of(alloc: Global, words: &[&str], steps: u32) -> Result<Vec<char>, Fault> {
+    let mut mapping = Vec::new(alloc);
+    for word in words {
+        mapping.push(counted(word, steps)?)?;
+    }
+    Ok(mapping)
+}
+
+fn counted(word: &str, steps: u32) -> Result<char, Fault> {
+    let Some(first) = word.strip_suffix("..") else {
+        return character(word);
+    };
+    let number = hexadecimal(first)?.saturating_add(steps);
+    char::from_u32(number).ok_or(Fault::Unreadable)
 }
 
 /// A record, as its row.
@@ -72,7 +46,13 @@ pub fn spelled_record(alloc: Global, record: &Record) -> Result<String, Fault> {
     if record.mapping.is_empty() {
         return Ok(format!(in alloc; "class {class}")?);
     }
-    let kind = kind_of(record);
+    let kind = if record.compatibility {
+        "compatibility"
+    } else if record.excluded {
+        "excluded"
+    } else {
+        "canonical"
+    };
     let mapping = spelled_all(alloc, &record.mapping)?;
     if class == 0 {
         Ok(format!(in alloc; "{kind} {mapping}")?)
@@ -82,41 +62,18 @@ pub fn spelled_record(alloc: Global, record: &Record) -> Result<String, Fault> {
 }
 
 /// Records of the characters from the first to the last. A word such as `4E00..` counts up with them.
-pub fn push_records(
+pub fn records_of(
     alloc: Global,
-    records: &mut Vec<Record>,
     numbers: (u32, u32),
     words: &[&str],
-) -> Result<(), Fault> {
+) -> Result<Vec<Record>, Fault> {
     let (first, last) = numbers;
+    let mut records = Vec::new(alloc);
     for number in first..=last {
-        records.push(counted_record(alloc, first, number, words)?)?;
+        let c = char::from_u32(number).ok_or(Fault::Unreadable)?;
+        records.push(record_of(alloc, c, words, number - first)?)?;
     }
-    Ok(())
-}
-
-fn counted_record(alloc: Global, first: u32, number: u32, words: &[&str]) -> Result<Record, Fault> {
-    let c = char::from_u32(number).ok_or(Fault::Unreadable)?;
-    let (kind, mapping) = first_of(words)?;
-    let mut record = record(alloc, c, 0, Some(kind_named(kind)?), &[])?;
-    for word in mapping {
-        record
-            .mapping
-            .push(counted(word, number.wrapping_sub(first))?)?;
-    }
-    Ok(record)
-}
-
-fn counted(word: &str, steps: u32) -> Result<char, Fault> {
-    match word.strip_suffix("..") {
-        Some(first) => {
-            let number = hexadecimal(first)?
-                .checked_add(steps)
-                .ok_or(Fault::Unreadable)?;
-            char::from_u32(number).ok_or(Fault::Unreadable)
-        }
-        None => character(word),
-    }
+    Ok(records)
 }
 
 /// The record of the mapper that words spell.

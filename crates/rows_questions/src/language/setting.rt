@@ -1,20 +1,23 @@
-//! The data for questions: records, and data that they build or that rows make by hand.
-use crate::language::by_hand::read_row;
+//! What questions are about: records, and data that they build or that rows make by hand.
+use crate::language::by_hand::{ByHand, numbers};
 use crate::language::fault::Fault;
-use crate::language::given::Given;
 use crate::language::held::Held;
-use crate::language::words::{form_named, words};
+use crate::language::record_rows::{mapper_record_of, record_of, records_of};
+use crate::language::words::{character, form_named, words};
 use icu_normalizer::{
     AnyNormalizer, BuildError, FormData, NormalForm, Record, Records, Uts46Record,
 };
+use normtool_command::{mapper_records, records};
 use std::alloc::Global;
 
 /// What questions are about.
-pub struct Setting<'a> {
+pub struct Setting {
     pub alloc: Global,
-    records: Vec<Record>,
-    mapper: Vec<Uts46Record>,
-    rows: Vec<&'a str>,
+    /// The records that rows set.
+    pub records: Vec<Record>,
+    /// The records of the mapper that rows set.
+    pub mapper: Vec<Uts46Record>,
+    by_hand: ByHand,
     is_by_hand: bool,
     held: Held,
     is_held: bool,
@@ -22,13 +25,13 @@ pub struct Setting<'a> {
 }
 
 // Written out, so that each place that drops one makes one call.
-impl Drop for Setting<'_> {
+impl Drop for Setting {
     fn drop(self) {
         let Setting {
             alloc: _alloc,
             records: _records,
             mapper: _mapper,
-            rows: _rows,
+            by_hand: _by_hand,
             is_by_hand: _is_by_hand,
             held: _held,
             is_held: _is_held,
@@ -37,19 +40,14 @@ impl Drop for Setting<'_> {
     }
 }
 
-impl<'a> Setting<'a> {
-    /// No records.
-    pub fn new(alloc: Global) -> Setting<'a> {
-        Setting::over(alloc, Vec::new(alloc))
-    }
-
-    /// Data by hand.
-    fn over(alloc: Global, rows: Vec<&'a str>) -> Setting<'a> {
+impl Setting {
+    /// No records, and no data by hand.
+    pub fn new(alloc: Global) -> Setting {
         Setting {
             alloc,
             records: Vec::new(alloc),
             mapper: Vec::new(alloc),
-            rows,
+            by_hand: ByHand::nothing(alloc),
             is_by_hand: true,
             held: Held::nothing(),
             is_held: false,
@@ -58,51 +56,49 @@ impl<'a> Setting<'a> {
     }
 
     /// The setting for one question: data by hand with further rows.
-    pub fn edited(&self, edits: &'a str) -> Result<Setting<'a>, Fault> {
-        let mut rows = self.rows.to_vec(self.alloc)?;
+    pub fn edited(&self, edits: &str) -> Result<Setting, Fault> {
+        let mut edited = Setting::new(self.alloc);
+        edited.by_hand = self.by_hand.clone()?;
         for edit in edits.split(" and ") {
-            read_row(self.alloc, &words(self.alloc, edit)?)?;
-            rows.push(edit)?;
+            edited.by_hand.take(self.alloc, &words(self.alloc, edit)?)?;
         }
-        Ok(Setting::over(self.alloc, rows))
+        Ok(edited)
     }
 
-    /// Takes a row that sets something: a record, records, or a part of data by hand. One that has a fault sets nothing.
-    pub fn give(&mut self, row: &'a str) -> Result<(), Fault> {
-        let given = Given::read(self.alloc, row)?;
-        let is_by_hand = given.is_by_hand();
-        self.take(given)?;
-        self.is_by_hand = is_by_hand;
+    /// Takes a row that sets records, or a part of data by hand. One that has a fault sets nothing.
+    pub fn give(&mut self, row: &str) -> Result<(), Fault> {
+        self.is_by_hand = self.take(&words(self.alloc, row)?)?;
         self.is_held = false;
         self.normalizer = None;
         Ok(())
     }
 
-    fn take(&mut self, given: Given<'a>) -> Result<(), Fault> {
-        match given {
-            Given::Record(record) => self.records.push(record)?,
-            Given::MapperRecord(record) => self.mapper.push(record)?,
-            Given::Records(mut records) => self.records.append(&mut records)?,
-            Given::Set(records, mapper) => self.take_set(records, mapper),
-            Given::Row(row) => self.rows.push(row)?,
-            Given::NoRows => self.rows.clear(),
+    /// Takes a row, and returns whether it is one of data by hand.
+    fn take(&mut self, row: &[&str]) -> Result<bool, Fault> {
+        let alloc = self.alloc;
+        match row {
+            ["record", c, rest @ ..] => self
+                .records
+                .push(record_of(alloc, character(c)?, rest, 0)?)?,
+            ["mapper", c, rest @ ..] => self
+                .mapper
+                .push(mapper_record_of(alloc, character(c)?, rest)?)?,
+            ["records", "rows"] => {
+                self.records = records(alloc)?;
+                self.mapper = mapper_records(alloc)?;
+            }
+            ["records", "none"] => {
+                self.records.clear();
+                self.mapper.clear();
+            }
+            ["records", range, rest @ ..] => {
+                self.records
+                    .append(&mut records_of(alloc, numbers(range)?, rest)?)?;
+            }
+            ["data", "none"] => self.by_hand = ByHand::nothing(alloc),
+            row => self.by_hand.take(alloc, row)?,
         }
-        Ok(())
-    }
-
-    fn take_set(&mut self, records: Vec<Record>, mapper: Vec<Uts46Record>) {
-        self.records = records;
-        self.mapper = mapper;
-    }
-
-    /// The records that rows set.
-    pub fn records(&self) -> &[Record] {
-        &self.records
-    }
-
-    /// The records of the mapper that rows set.
-    pub fn mapper(&self) -> &[Uts46Record] {
-        &self.mapper
+        Ok(!matches!(row, ["record" | "mapper" | "records", ..]))
     }
 
     /// Why the records build no data.
@@ -110,10 +106,18 @@ impl<'a> Setting<'a> {
         Records::build(self.alloc, &self.records, &self.mapper).err()
     }
 
-    /// Makes the data.
+    /// The data, which are made once.
+    pub fn held(&mut self) -> Result<&Held, Fault> {
+        if !self.is_held {
+            self.make()?;
+            self.is_held = true;
+        }
+        Ok(&self.held)
+    }
+
     fn make(&mut self) -> Result<(), Fault> {
         if self.is_by_hand {
-            return self.held.take_rows(self.alloc, &self.rows);
+            return self.held.take_by_hand(&self.by_hand);
         }
         match Records::build(self.alloc, &self.records, &self.mapper) {
             Ok(built) => self.held.take_built(&built),
@@ -121,36 +125,15 @@ impl<'a> Setting<'a> {
         }
     }
 
-    /// The data, which are made once.
-    pub fn held(&mut self) -> Result<&Held, Fault> {
-        Ok(self.held_and_records()?.0)
-    }
-
-    /// The data, and the records.
-    pub fn held_and_records(&mut self) -> Result<(&Held, &[Record]), Fault> {
-        if !self.is_held {
-            self.make()?;
-            self.is_held = true;
-        }
-        Ok((&self.held, &self.records))
-    }
-
     /// The normalizer to the form of this name, which is kept while the form is the same.
     pub fn normalizer(&mut self, name: &str) -> Result<&AnyNormalizer, Fault> {
         let form = form_named(name)?;
-        if !self.has_normalizer(form) {
+        if !matches!(&self.normalizer, Some((made, _)) if *made == form) {
             self.normalizer = Some((form, self.held()?.normalizer(form)?));
         }
         match &self.normalizer {
             Some((_, normalizer)) => Ok(normalizer),
             None => Err(Fault::Unreadable),
-        }
-    }
-
-    fn has_normalizer(&self, form: NormalForm) -> bool {
-        match &self.normalizer {
-            Some((made, _)) => *made == form,
-            None => false,
         }
     }
 }

@@ -7,28 +7,19 @@ use std::alloc::Global;
 pub fn words<'a>(alloc: Global, text: &'a str) -> Result<Vec<&'a str>, Fault> {
     let mut words = Vec::new(alloc);
     for word in text.split_whitespace() {
-        push_repeated(&mut words, word)?;
+        match word.split_once('*') {
+            Some((count, pieces)) => push_times(&mut words, decimal(count)?, pieces)?,
+            None => words.push(word)?,
+        }
     }
     Ok(words)
 }
 
-fn push_repeated<'a>(words: &mut Vec<&'a str>, word: &'a str) -> Result<(), Fault> {
-    match word.split_once('*') {
-        Some((count, pieces)) => push_times(words, decimal(count)?, pieces),
-        None => Ok(words.push(word)?),
-    }
-}
-
 fn push_times<'a>(words: &mut Vec<&'a str>, count: u32, pieces: &'a str) -> Result<(), Fault> {
     for _ in 0..count {
-        push_pieces(words, pieces)?;
-    }
-    Ok(())
-}
-
-fn push_pieces<'a>(words: &mut Vec<&'a str>, pieces: &'a str) -> Result<(), Fault> {
-    for piece in pieces.split(',') {
-        words.push(piece)?;
+        for piece in pieces.split(',') {
+            words.push(piece)?;
+        }
     }
     Ok(())
 }
@@ -49,76 +40,79 @@ pub fn first_of<'w, 'a>(words: &'w [&'a str]) -> Result<(&'a str, &'w [&'a str])
     }
 }
 
-/// The words with a space between each two.
-pub fn joined(alloc: Global, words: &[&str]) -> Result<String, Fault> {
-    let mut text = String::new(alloc);
-    for word in words {
-        push_word(&mut text, word)?;
-    }
-    Ok(text)
-}
-
-/// Appends a word, after a space if it isn't the first.
-pub fn push_word(text: &mut String, word: &str) -> Result<(), Fault> {
-    if !text.is_empty() {
-        text.push(' ')?;
-    }
-    text.push_str(word)?;
-    Ok(())
-}
-
 /// The number of decimal digits.
 pub fn decimal(digits: &str) -> Result<u32, Fault> {
-    u32::from_str_radix(digits, 10)
-        .ok()
-        .ok_or(Fault::Unreadable)
+    Ok(u32::from_str_radix(digits, 10)?)
 }
 
 /// The number of hexadecimal digits.
 pub fn hexadecimal(digits: &str) -> Result<u32, Fault> {
-    u32::from_str_radix(digits, 16)
-        .ok()
-        .ok_or(Fault::Unreadable)
-}
-
-/// What a word says by hexadecimal digits.
-pub trait Read: Copy + Drop {
-    /// The value of hexadecimal digits.
-    fn read(digits: &str) -> Result<Self, Fault>;
-}
-
-impl Read for char {
-    fn read(digits: &str) -> Result<char, Fault> {
-        char::from_u32(hexadecimal(digits)?).ok_or(Fault::Unreadable)
-    }
-}
-
-impl Read for u8 {
-    fn read(digits: &str) -> Result<u8, Fault> {
-        u8::from_str_radix(digits, 16).ok().ok_or(Fault::Unreadable)
-    }
-}
-
-impl Read for u16 {
-    fn read(digits: &str) -> Result<u16, Fault> {
-        u16::from_str_radix(digits, 16)
-            .ok()
-            .ok_or(Fault::Unreadable)
-    }
+    Ok(u32::from_str_radix(digits, 16)?)
 }
 
 /// The character of a number in hexadecimal digits.
 pub fn character(digits: &str) -> Result<char, Fault> {
-    char::read(digits)
+    char::from_u32(hexadecimal(digits)?).ok_or(Fault::Unreadable)
+}
+
+/// What rows write by its number in hexadecimal digits.
+pub trait Spelled: Copy + Drop {
+    /// What the digits say.
+    fn read(digits: &str) -> Result<Self, Fault>;
+
+    /// The digits.
+    fn spelled(self, alloc: Global) -> Result<String, Fault>;
+}
+
+impl Spelled for char {
+    fn read(digits: &str) -> Result<char, Fault> {
+        character(digits)
+    }
+
+    fn spelled(self, alloc: Global) -> Result<String, Fault> {
+        Ok(format!(in alloc; "{:04X}", u32::from(self))?)
+    }
+}
+
+impl Spelled for u8 {
+    fn read(digits: &str) -> Result<u8, Fault> {
+        Ok(u8::from_str_radix(digits, 16)?)
+    }
+
+    fn spelled(self, alloc: Global) -> Result<String, Fault> {
+        Ok(format!(in alloc; "{:02X}", self)?)
+    }
+}
+
+impl Spelled for u16 {
+    fn read(digits: &str) -> Result<u16, Fault> {
+        Ok(u16::from_str_radix(digits, 16)?)
+    }
+
+    fn spelled(self, alloc: Global) -> Result<String, Fault> {
+        Ok(format!(in alloc; "{:04X}", self)?)
+    }
 }
 
 /// The characters, bytes or units that words say.
-pub fn all<T: Read>(alloc: Global, words: &[&str]) -> Result<Vec<T>, Fault> {
+pub fn all<T: Spelled>(alloc: Global, words: &[&str]) -> Result<Vec<T>, Fault> {
     let mut all = Vec::new(alloc);
     for word in words {
         all.push(T::read(word)?)?;
     }
     Ok(all)
+}
+
+/// Characters, bytes or units with a space between each two.
+pub fn spelled_all<T: Spelled>(alloc: Global, all: &[T]) -> Result<String, Fault> {
+    let mut text = String::new(alloc);
+    for one in all {
+        if !text.is_empty() {
+            text.push(' ')?;
+        }
+        text.push_str(one.spelled(alloc)?.as_str())?;
+    }
+    Ok(text)
 }
 
 /// The form of this name.

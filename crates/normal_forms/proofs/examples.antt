@@ -1,0 +1,3 @@
+-- The readings of the examples.
+pub mod LawfulExample
+pub mod UnfaithfulExample
