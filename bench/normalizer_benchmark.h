@@ -1,5 +1,4 @@
-/* The exports of the static library crates/normalizer_benchmark. Each returns 0, or the number of its fault. No pointer
-   is null. */
+/* The exports of the static library of lib.rattle. Each returns 0, or the number of its fault. No pointer is null. */
 #ifndef NORMALIZER_BENCHMARK_H
 #define NORMALIZER_BENCHMARK_H
 
