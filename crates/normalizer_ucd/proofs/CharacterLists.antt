@@ -1,55 +1,59 @@
--- The characters of a list, one after another.
-use Rattle.std.proofs.Common.{◌≡◌, ℕ, ◌+◌, ◌≤◌, ◌<◌, List, [], ◌∷◌, ◌++◌, length, drop, map, Option, Some, None, Ok, Err, Bor}
-use Rattle.std.proofs.Common.{refl, sym, ap, ◌∙◌, append_assoc}
-use Rattle.std.specs.Option.{ok_or, option_map}
-use Rattle.std.proofs.lemmas.List.{append-nil}
-use Rattle.std.proofs.Math.ListN.{drop_of_length-le}
-use Rattle.normalizer_ucd.specs.declared.error.LineFault.{LineFault}
-use Rattle.normalizer_ucd.specs.declared.error.UcdError.{UcdError}
-use Rattle.normalizer_ucd.specs.declared.error.UcdError.TheVariants as errors
-use Rattle.normalizer_ucd.specs.Fields.{all_some, character}
-use Rattle.normalizer_ucd.specs.FallibleReads.{Fails}
-use Rattle.normalizer_ucd.proofs.Loop.{one_more, part_at, texts}
+-- A list of characters, if each of its parts is one.
+use Rattle.std.proofs.Common.{◌≡◌, ◌<◌, ◌≤◌, ◌+◌, ℕ, List, [], ◌∷◌, length, map, Option, Some, None, refl, sym, ◌∙◌, ap, arith}
+use Rattle.std.specs.Prelude.{◌==◌, count_by}
+use Rattle.std.specs.Option.{option_and_then, option_map}
+use Rattle.std.specs.List.{cons_option, filter_map, slice_split}
+use Rattle.std.proofs.lemmas.List.Splits.{length-slice_split}
+use Rattle.normalizer_ucd.specs.Fields.{all_some, character, characters}
 
--- those found before part i, and those of all parts
-module _ (f : LineFault) (front : List ℕ) (i : ℕ) (parts : List (Bor (List ℕ))) (total : Option (List ℕ))
-    (so_far : option_map (λ cs. front ++ cs) (all_some (map character (texts (drop i parts)))) ≡ total) where
-  none : i < length parts → character (part_at parts i) ≡ None → total ≡ None
-  none lt is =
-      let one : option_map (λ cs. front ++ cs) (all_some (map character (texts (drop i parts)))) ≡ None
-      = rw (one_more parts i lt, is) refl in
-      sym so_far ∙ one
+-- the parts that are one
+abbrev known : List (List ℕ) → List ℕ
+known parts = filter_map character parts
 
-  pub refused : (e : UcdError) → i < length parts → Fails e (ok_or (character (part_at parts i)) f) →
-      Fails e (ok_or total f)
-  refused errors.Memory lt h = tt
-  refused (errors.Line e) lt h = by (character (part_at parts i)) refl h
-    where
-      by : (o : Option ℕ) → character (part_at parts i) ≡ o → ok_or o f ≡ Err e → ok_or total f ≡ Err e
-      by (Some c) is h = absurd (cc)
-      by None is h = let same : f ≡ e = cc in rw (none lt is) (ap Err same)
+most : (parts : List (List ℕ)) → length (known parts) ≤ length parts
+most [] = omega arith
+most (x ∷ parts) = by (character x) (most parts)
+  where
+    by : (o : Option ℕ) → length (known parts) ≤ length parts → length (cons_option o (known parts)) ≤ length (x ∷ parts)
+    by None le = omega arith
+    by (Some c) le = omega arith
 
-  pub kept : (c : ℕ) → i < length parts → ok_or (character (part_at parts i)) f ≡ Ok c →
-      option_map (λ cs. (front ++ c ∷ []) ++ cs) (all_some (map character (texts (drop (i + 1) parts)))) ≡ total
-  kept c lt h = by (character (part_at parts i)) refl h
-    where
-      regroup : (k : ℕ) (o : Option (List ℕ)) → option_map (λ cs. (front ++ k ∷ []) ++ cs) o
-          ≡ option_map (λ cs. front ++ cs) (option_map (λ cs. k ∷ cs) o)
-      regroup k None = refl
-      regroup k (Some xs) = ap Some (append_assoc front (k ∷ []) xs)
+each : (parts : List (List ℕ)) → length parts ≤ length (known parts) → all_some (map character parts) ≡ Some (known parts)
+each [] le = refl
+each (x ∷ parts) le = by (character x) (most parts) le (each parts)
+  where
+    by : (o : Option ℕ) → length (known parts) ≤ length parts →
+        length (x ∷ parts) ≤ length (cons_option o (known parts)) →
+        (length parts ≤ length (known parts) → all_some (map character parts) ≡ Some (known parts)) →
+        option_and_then (λ c. option_map (λ cs. c ∷ cs) (all_some (map character parts))) o
+        ≡ Some (cons_option o (known parts))
+    by None most le rest = absurd (omega arith)
+    by (Some c) most le rest = rw (rest (omega arith)) refl
 
-      by : (o : Option ℕ) → character (part_at parts i) ≡ o → ok_or o f ≡ Ok c →
-          option_map (λ cs. (front ++ c ∷ []) ++ cs) (all_some (map character (texts (drop (i + 1) parts)))) ≡ total
-      by None is h = absurd (cc)
-      by (Some k) is h =
-          let same : k ≡ c = cc in
-          let rest = all_some (map character (texts (drop (i + 1) parts))) in
-          let one : option_map (λ cs. front ++ cs) (all_some (map character (texts (drop i parts))))
-          ≡ option_map (λ cs. front ++ cs) (option_map (λ cs. k ∷ cs) rest) = rw (one_more parts i lt, is) refl in
-          rw (← same) (regroup k rest ∙ sym one ∙ so_far)
+not_each : (parts : List (List ℕ)) → length (known parts) < length parts → all_some (map character parts) ≡ None
+not_each [] lt = absurd (omega arith)
+not_each (x ∷ parts) lt = by (character x) lt (not_each parts)
+  where
+    by : (o : Option ℕ) → length (cons_option o (known parts)) < length (x ∷ parts) →
+        (length (known parts) < length parts → all_some (map character parts) ≡ None) →
+        option_and_then (λ c. option_map (λ cs. c ∷ cs) (all_some (map character parts))) o ≡ None
+    by None lt rest = refl
+    by (Some c) lt rest = rw (rest (omega arith)) refl
 
-  pub done : length parts ≤ i → total ≡ Some front
-  done le =
-      let one : option_map (λ cs. front ++ cs) (all_some (map character (texts (drop i parts)))) ≡ Some front
-      = rw (drop_of_length-le parts le) (ap Some (append-nil front)) in
-      sym so_far ∙ one
+pub all : (text found : List ℕ) → found ≡ filter_map character (slice_split (λ b. b == 0x20) text) →
+    count_by (λ b. b == 0x20) text < length found → Some found ≡ characters text
+unfolding characters
+all text found is lt =
+    let parts = slice_split (λ b. b == 0x20) text in
+    let many : length parts ≡ count_by (λ b. b == 0x20) text + 1 = length-slice_split (λ b. b == 0x20) text in
+    let same : length found ≡ length (known parts) = ap length is in
+    ap Some is ∙ sym (each parts (omega arith))
+
+pub not_all : (text found : List ℕ) → found ≡ filter_map character (slice_split (λ b. b == 0x20) text) →
+    length found ≤ count_by (λ b. b == 0x20) text → None ≡ characters text
+unfolding characters
+not_all text found is le =
+    let parts = slice_split (λ b. b == 0x20) text in
+    let many : length parts ≡ count_by (λ b. b == 0x20) text + 1 = length-slice_split (λ b. b == 0x20) text in
+    let same : length found ≡ length (known parts) = ap length is in
+    sym (not_each parts (omega arith))

@@ -29,6 +29,12 @@ impl UcdFile {
             UcdFile::IdnaMappingTable => "IdnaMappingTable.txt",
         }
     }
+
+    pub(crate) fn at(self, line: usize) -> Place
+        ensures { result ≡ record { file = self; line = line } }
+    {
+        Place { file: self, line }
+    }
 }
 
 impl fmt::Display for UcdFile {

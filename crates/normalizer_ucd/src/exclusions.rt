@@ -5,11 +5,10 @@ ghost use Rattle.normalizer_ucd.specs.FallibleReads.{Gives};
 ghost use Rattle.normalizer_ucd.specs.inner.UnicodeReads.{
   all_mapped,
   exclusion_of,
-  exclusion_place,
   exclusions_in,
 };
 
-use crate::error::{Place, Problem, UcdError, UcdFile};
+use crate::error::{Problem, UcdError, UcdFile};
 use crate::lines::{code_point, data_of, field, push_found};
 use normalizer_records::Record;
 use std::alloc::Global;
@@ -43,17 +42,9 @@ fn exclusion_of(number: usize, line: &[u8]) -> Result<Option<Exclusion>, UcdErro
         return Ok(None);
     }
     let code = field(data, 0).and_then(|text| code_point(text));
-    let code = code.ok_or(place(number).fault(Problem::CodePoint))?;
+    let place = UcdFile::CompositionExclusions.at(number);
+    let code = code.ok_or(place.fault(Problem::CodePoint))?;
     Ok(Some(Exclusion { code, line: number }))
-}
-
-fn place(number: usize) -> Place
-    ensures { result ≡ exclusion_place number }
-{
-    Place {
-        file: UcdFile::CompositionExclusions,
-        line: number,
-    }
 }
 
 /// An error if one of the characters has no canonical mapping.
@@ -63,7 +54,8 @@ pub(crate) fn all_mapped(exclusions: &[Exclusion], records: &[Record]) -> Result
 {
     for exclusion in exclusions {
         if !is_mapped(records, exclusion.code) {
-            return Err(UcdError::Line(place(exclusion.line).fault(Problem::Unmapped)));
+            let place = UcdFile::CompositionExclusions.at(exclusion.line);
+            return Err(UcdError::Line(place.fault(Problem::Unmapped)));
         }
     }
     Ok(())

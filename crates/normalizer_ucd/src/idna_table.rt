@@ -16,7 +16,6 @@ ghost use Rattle.normalizer_ucd.specs.inner.TableReads.{
   last_of,
   mapping_of,
   name_of,
-  place,
   range_status,
   ranges_in,
   read_fields,
@@ -175,16 +174,8 @@ fn full(covered: Covered) -> Result<(), UcdError>
     if covered.end == 0x110000 {
         return Ok(());
     }
-    Err(UcdError::Line(place(covered.line).fault(Problem::TooShort)))
-}
-
-fn place(number: usize) -> Place
-    ensures { result ≡ place number }
-{
-    Place {
-        file: UcdFile::IdnaMappingTable,
-        line: number,
-    }
+    let place = UcdFile::IdnaMappingTable.at(covered.line);
+    Err(UcdError::Line(place.fault(Problem::TooShort)))
 }
 
 #[tactic(auto, unfolding(crate::specs::inner::TableReads::read_line))]
@@ -201,7 +192,8 @@ fn read_line(
     if data.is_empty() {
         return Ok((covered, None));
     }
-    let (end, range) = read_fields(alloc, disallowed, place(number), covered.end, data)?;
+    let place = UcdFile::IdnaMappingTable.at(number);
+    let (end, range) = read_fields(alloc, disallowed, place, covered.end, data)?;
     Ok((Covered { end, line: number }, range))
 }
 
@@ -309,7 +301,7 @@ fn mapping_of(alloc: Global, place: Place, line: &[u8]) -> Result<Vec<char>, Ucd
     ensures { Gives (λ v. v.items) result (mapping_of place line.now) }
 {
     let text = field_of(place, line, 2)?;
-    characters(alloc, place.fault(Problem::Mapping), text)
+    Ok(characters(alloc, text)?.ok_or(place.fault(Problem::Mapping))?)
 }
 
 /// Whether the disallowed characters of a range get records.

@@ -1,9 +1,8 @@
 //! Lines, their fields, and the numbers and characters in them.
-ghost use Rattle.std.specs.Prelude.{◌≡◌, ◌==◌, ◌≤◌, map, ◌++◌, IfOk, OnOk, position};
-ghost use Rattle.std.specs.Option.{ok_or, option_copied, option_to_list};
-ghost use Rattle.std.specs.List.{after_first, before_first, slice_split};
+ghost use Rattle.std.specs.Prelude.{◌≡◌, ◌==◌, ◌≤◌, map, ◌++◌, IfOk, OnOk, count_by, position};
+ghost use Rattle.std.specs.Option.{option_copied, option_map, option_to_list};
+ghost use Rattle.std.specs.List.{after_first, before_first, filter_map, slice_split};
 ghost use Rattle.normalizer_ucd.specs.Fields.{
-  all_some,
   character,
   characters,
   code_point,
@@ -18,7 +17,7 @@ ghost use Rattle.normalizer_ucd.specs.Fields.{
 ghost use Rattle.normalizer_ucd.specs.FallibleReads.{Gives};
 ghost use Rattle.normalizer_ucd.specs.inner.Reads.{field_of};
 
-use crate::error::{LineFault, Place, Problem, UcdError};
+use crate::error::{Place, Problem, UcdError};
 use std::alloc::{AllocError, Global};
 
 /// The bytes without white space at either end.
@@ -54,18 +53,11 @@ pub(crate) fn after_first(text: &[u8], at: u8) -> &[u8]
     }
 }
 
-/// The parts between the occurrences of a byte.
-fn split(alloc: Global, text: &[u8], at: u8) -> Result<Vec<&[u8]>, AllocError>
-    ensures { IfOk result (λ v. map (λ part. part.now) v.items ≡ slice_split (λ b. b == at) text.now) }
-{
-    text.split(|b| *b == at).collect(alloc)
-}
-
 /// What lies between line feeds.
 pub(crate) fn lines(alloc: Global, file: &[u8]) -> Result<Vec<&[u8]>, AllocError>
     ensures { IfOk result (λ v. map (λ part. part.now) v.items ≡ lines file.now) }
 {
-    split(alloc, file, b'\n')
+    file.split(|b| *b == b'\n').collect(alloc)
 }
 
 /// A line without its comment.
@@ -138,35 +130,33 @@ fn character(text: &[u8]) -> Option<char>
     char::from_u32(number(16, text)?)
 }
 
-/// The characters that a field lists, or the fault.
-#[tactic(auto, unfolding(crate::specs::Fields::characters))]
-pub(crate) fn characters(
-    alloc: Global,
-    fault: LineFault,
-    text: &[u8],
-) -> Result<Vec<char>, UcdError>
-    ensures { Gives (λ v. v.items) result (ok_or (characters text.now) fault) }
+/// How often a byte occurs.
+pub(crate) fn count(text: &[u8], at: u8) -> usize
+    ensures { result ≡ count_by (λ b. b == at) text.now }
 {
-    let parts = split(alloc, text, b' ')?;
-    characters_in(alloc, fault, &parts)
+    text.iter().filter(|b| **b == at).count()
 }
 
-fn characters_in(alloc: Global, fault: LineFault, parts: &[&[u8]]) -> Result<Vec<char>, UcdError>
-    ensures { Gives (λ v. v.items) result
-        (ok_or (all_some (map character (map (λ part. part.now) parts.now))) fault) }
+/// The characters among the parts between spaces.
+fn characters_among(alloc: Global, text: &[u8]) -> Result<Vec<char>, AllocError>
+    ensures { IfOk result (λ v. v.items ≡ filter_map character (slice_split (λ b. b == 0x20) text.now)) }
 {
-    let mut found = Vec::new(alloc);
-    for part in parts {
-        let c = read_character(fault, part)?;
-        found.push(c)?;
+    text.split(|b| *b == b' ')
+        .filter_map(|part| character(part))
+        .collect(alloc)
+}
+
+/// The characters that a field lists, if each part is one: then there are more than spaces.
+#[tactic(auto, using(crate::proofs::CharacterLists::all, crate::proofs::CharacterLists::not_all))]
+pub(crate) fn characters(alloc: Global, text: &[u8]) -> Result<Option<Vec<char>>, AllocError>
+    ensures { IfOk result (λ found. option_map (λ v. v.items) found ≡ characters text.now) }
+{
+    let found = characters_among(alloc, text)?;
+    if count(text, b' ') < found.len() {
+        Ok(Some(found))
+    } else {
+        Ok(None)
     }
-    Ok(found)
-}
-
-fn read_character(fault: LineFault, text: &[u8]) -> Result<char, UcdError>
-    ensures { Gives (λ c. c) result (ok_or (character text.now) fault) }
-{
-    Ok(character(text).ok_or(fault)?)
 }
 
 /// Adds what was found, if anything was.

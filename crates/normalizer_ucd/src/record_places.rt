@@ -1,6 +1,6 @@
 //! The line of a file that states a record.
 ghost use Rattle.std.specs.Prelude.{◌≡◌, IfOk, map};
-ghost use Rattle.normalizer_ucd.specs.Fields.{data_of, first, last, lines};
+ghost use Rattle.normalizer_ucd.specs.Fields.{data_of, first, last};
 ghost use Rattle.normalizer_ucd.specs.RecordPlaces.{first_stating, place_of_record, states};
 
 use crate::error::{Place, UcdFile};
@@ -23,22 +23,10 @@ pub fn place_of_record(
 ) -> Result<Option<Place>, AllocError>
     ensures { IfOk result (λ place. place ≡ place_of_record unicode_data.now idna_table.now fault) }
 {
-    match fault {
-        RecordAtFault::OfCharacter(_) => {
-            place_in(alloc, UcdFile::UnicodeData, unicode_data, fault)
-        }
-        RecordAtFault::OfMapper(_) => place_in(alloc, UcdFile::IdnaMappingTable, idna_table, fault),
-    }
-}
-
-fn place_in(
-    alloc: Global,
-    name: UcdFile,
-    file: &[u8],
-    fault: RecordAtFault,
-) -> Result<Option<Place>, AllocError>
-    ensures { IfOk result (λ place. place ≡ first_stating name fault 1 (lines file.now)) }
-{
+    let (name, file) = match fault {
+        RecordAtFault::OfCharacter(_) => (UcdFile::UnicodeData, unicode_data),
+        RecordAtFault::OfMapper(_) => (UcdFile::IdnaMappingTable, idna_table),
+    };
     let parts = lines(alloc, file)?;
     Ok(first_stating(name, fault, &parts))
 }
@@ -49,10 +37,7 @@ fn first_stating(name: UcdFile, fault: RecordAtFault, lines: &[&[u8]]) -> Option
 {
     for (index, line) in lines.iter().enumerate() {
         if states(fault, line) {
-            return Some(Place {
-                file: name,
-                line: index + 1,
-            });
+            return Some(name.at(index + 1));
         }
     }
     None

@@ -15,7 +15,7 @@ ghost use Rattle.normalizer_ucd.specs.Versions.{
 };
 ghost use Rattle.normalizer_ucd.specs.FallibleReads.{Gives, unless};
 
-use crate::error::{Place, Problem, UcdError, UcdFile};
+use crate::error::{Problem, UcdError, UcdFile};
 use crate::lines::{data_of, lines, number, part};
 use std::alloc::{AllocError, Global};
 use std::fmt;
@@ -75,11 +75,7 @@ pub(crate) fn agree(
     if is_same(wanted.version, found.version) {
         return Ok(());
     }
-    let place = Place {
-        file: name,
-        line: found.line,
-    };
-    Err(UcdError::Line(place.fault(Problem::OtherVersion)))
+    Err(UcdError::Line(name.at(found.line).fault(Problem::OtherVersion)))
 }
 
 fn is_same(version: Version, other: Version) -> bool

@@ -1,5 +1,5 @@
 //! UnicodeData.txt.
-ghost use Rattle.std.specs.Prelude.{◌≡◌, ◌==◌, ◌≤◌, count_by, map};
+ghost use Rattle.std.specs.Prelude.{◌≡◌, ◌≤◌, map};
 ghost use Rattle.std.specs.Option.{ok_or, option_copied};
 ghost use Rattle.std.specs.Str.{bytes_eq};
 ghost use Rattle.normalizer_ucd.specs.Fields.{combining_class, is_tagged, mapping_in, range_name, untagged_mapping};
@@ -18,11 +18,9 @@ ghost use Rattle.normalizer_ucd.specs.inner.UnicodeReads.{
   mapping_of,
   opened,
   part_named,
-  place,
   read_fields,
   read_files,
   read_line,
-  records_by,
   records_in,
   step,
   value_of,
@@ -31,7 +29,8 @@ ghost use Rattle.normalizer_ucd.specs.inner.UnicodeReads.{
 use crate::error::{LineFault, Place, Problem, UcdError, UcdFile};
 use crate::exclusions::{Exclusion, all_mapped, exclusions_in};
 use crate::lines::{
-    after_first, before_first, characters, code_point, data_of, field_of, number, push_found, trim,
+    after_first, before_first, characters, code_point, count, data_of, field_of, number,
+    push_found, trim,
 };
 use crate::stated::agree;
 use crate::wholes::whole_lines;
@@ -82,7 +81,7 @@ pub fn records_of_unicode_data(
 }
 
 /// The records of the two files, if both are whole and of one version.
-#[tactic(auto, unfolding(crate::specs::inner::UnicodeReads::read_files))]
+#[tactic(auto, unfolding(crate::specs::inner::UnicodeReads::read_files, crate::specs::inner::UnicodeReads::records_by))]
 fn read_files(
     alloc: Global,
     unicode_data: &[u8],
@@ -97,21 +96,8 @@ fn read_files(
     )?;
     let lines = whole_lines(alloc, UcdFile::UnicodeData, unicode_data)?;
     agree(alloc, &listed, UcdFile::UnicodeData, &lines)?;
-    records_by(alloc, &lines, &listed)
-}
-
-/// The records of the lines of both files.
-#[tactic(auto, unfolding(crate::specs::inner::UnicodeReads::records_by))]
-fn records_by(
-    alloc: Global,
-    unicode_data: &[&[u8]],
-    composition_exclusions: &[&[u8]],
-) -> Result<Vec<Record>, UcdError>
-    ensures { Gives (λ v. v.items) result
-        (records_by (map (λ line. line.now) unicode_data.now) (map (λ line. line.now) composition_exclusions.now)) }
-{
-    let exclusions = exclusions_in(alloc, composition_exclusions)?;
-    let records = records_in(alloc, &exclusions, unicode_data)?;
+    let exclusions = exclusions_in(alloc, &listed)?;
+    let records = records_in(alloc, &exclusions, &lines)?;
     all_mapped(&exclusions, &records)?;
     Ok(records)
 }
@@ -139,21 +125,13 @@ fn records_in(
     Ok(records)
 }
 
-fn place(number: usize) -> Place
-    ensures { result ≡ place number }
-{
-    Place {
-        file: UcdFile::UnicodeData,
-        line: number,
-    }
-}
-
 /// An error if a range is open at the end.
 fn closed(position: Position<'_>) -> Result<(), UcdError>
     ensures { Gives (λ _. tt) result (closed_end (value_of position.entry)) }
 {
     if position.range.is_some() {
-        return Err(UcdError::Line(place(position.line).fault(Problem::Range)));
+        let place = UcdFile::UnicodeData.at(position.line);
+        return Err(UcdError::Line(place.fault(Problem::Range)));
     }
     Ok(())
 }
@@ -173,7 +151,8 @@ fn read_line<'a>(
     if data.is_empty() {
         return Ok((position, None));
     }
-    read_fields(alloc, exclusions, place(number), position, data)
+    let place = UcdFile::UnicodeData.at(number);
+    read_fields(alloc, exclusions, place, position, data)
 }
 
 #[tactic(auto, unfolding(crate::specs::inner::UnicodeReads::read_fields))]
@@ -236,18 +215,12 @@ fn entry_of(
     }))
 }
 
-fn separators(line: &[u8]) -> usize
-    ensures { result ≡ count_by (λ b. b == 0x3B) line.now }
-{
-    line.iter().filter(|b| **b == b';').count()
-}
-
 /// An error if a line has fewer than fifteen fields. (To find the last field takes longer.)
 #[tactic(auto, using(crate::proofs::FieldCounts::few, crate::proofs::FieldCounts::enough))]
 fn enough_fields(place: Place, line: &[u8]) -> Result<(), UcdError>
     ensures { Gives (λ _. tt) result (enough_fields place line.now) }
 {
-    if separators(line) < 14 {
+    if count(line, b';') < 14 {
         return Err(UcdError::Line(place.fault(Problem::MissingField)));
     }
     Ok(())
@@ -309,7 +282,7 @@ fn mapping_in(alloc: Global, fault: LineFault, text: &[u8]) -> Result<Vec<char>,
     if text.is_empty() {
         return Ok(Vec::new(alloc));
     }
-    characters(alloc, fault, untagged(text))
+    Ok(characters(alloc, untagged(text))?.ok_or(fault)?)
 }
 
 fn is_tagged(text: &[u8]) -> bool

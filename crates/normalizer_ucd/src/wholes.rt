@@ -13,7 +13,7 @@ ghost use Rattle.normalizer_ucd.specs.Wholes.{
 };
 ghost use Rattle.normalizer_ucd.specs.FallibleReads.{Gives, unless};
 
-use crate::error::{Place, Problem, UcdError, UcdFile};
+use crate::error::{Problem, UcdError, UcdFile};
 use crate::lines::{code_point, field, lines};
 use std::alloc::{AllocError, Global};
 
@@ -24,20 +24,13 @@ pub(crate) fn whole_lines(alloc: Global, name: UcdFile, file: &[u8]) -> Result<V
 {
     let parts = lines(alloc, file)?;
     if !ends_in_line_feed(file) {
-        let place = Place {
-            file: name,
-            line: parts.len(),
-        };
-        return Err(UcdError::Line(place.fault(Problem::CutOff)));
+        return Err(UcdError::Line(name.at(parts.len()).fault(Problem::CutOff)));
     }
     if may_end(name, last_line(file)) {
         return Ok(parts);
     }
-    let place = Place {
-        file: name,
-        line: last_number(alloc, file)?,
-    };
-    Err(UcdError::Line(place.fault(Problem::NoEndMark)))
+    let number = last_number(alloc, file)?;
+    Err(UcdError::Line(name.at(number).fault(Problem::NoEndMark)))
 }
 
 fn ends_in_line_feed(file: &[u8]) -> bool
