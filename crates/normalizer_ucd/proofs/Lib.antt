@@ -10,6 +10,7 @@ pub mod SortedMapperRecords
 pub mod SortedRecords
 pub mod LinesStated
 pub mod StatedRecords
+pub mod TableLines
 pub mod Stating
-pub mod TableReadings
+pub mod Reading
 pub mod UnicodeReadings

@@ -1,4 +1,5 @@
 -- What the contracts of private functions alone cite.
+pub mod Lines
 pub mod Reads
-pub mod TableReads
+pub mod TableLines
 pub mod UnicodeReads

@@ -1,37 +1,28 @@
 //! IdnaMappingTable.txt.
-ghost use Rattle.std.specs.Prelude.{◌≡◌, ◌==◌, ◌≤◌, map, OnOk, IfOk};
+ghost use Rattle.std.specs.Prelude.{◌≡◌, ◌==◌, ◌≤◌, ◌+◌, List, ℕ, Option, None, map, OnOk, IfOk, IfSome};
 ghost use Rattle.std.specs.Str.{bytes_eq};
-ghost use Rattle.std.specs.Option.{option_map};
-ghost use Rattle.std.specs.List.{flat_map, list_any};
+ghost use Rattle.std.specs.Option.{option_and_then, option_copied, option_map, option_or, unwrap_or};
+ghost use Rattle.std.specs.List.{filter_map, flat_map, last_or, list_any};
 ghost use Rattle.normalizer_records.specs.Statuses.{status_of as status_of_record};
 ghost use Rattle.normalizer_records.specs.Ranges.{entries_of};
-ghost use Rattle.normalizer_ucd.specs.Fields.{last_text, lines, status_named};
-ghost use Rattle.normalizer_ucd.specs.FileLines.{is_kept};
+ghost use Rattle.normalizer_ucd.specs.declared.error.UcdFile.TheVariants.{IdnaMappingTable};
+ghost use Rattle.normalizer_ucd.specs.Fields.{characters, first, last, last_text, lines, status_named};
+ghost use Rattle.normalizer_ucd.specs.FileFaults.{fault_of_table, first_wrong, next_after, table_findings};
+ghost use Rattle.normalizer_ucd.specs.FileFaults.{too_short, wrong_at};
+ghost use Rattle.normalizer_ucd.specs.FileLines.{DataLine, data_lines, data_lines_from, done, is_kept, maps, range_by};
 ghost use Rattle.normalizer_ucd.specs.IdnaTable.{ListsAll, uts46_records_beside, uts46_records_of};
-ghost use Rattle.normalizer_ucd.specs.FallibleReads.{Gives};
-ghost use Rattle.normalizer_ucd.specs.inner.TableReads.{
-  end_of,
-  first_of,
-  full_end,
-  last_of,
-  mapping_of,
-  name_of,
-  range_status,
-  ranges_in,
-  read_fields,
-  read_line,
-  read_table,
-  status_of,
-};
+ghost use Rattle.normalizer_ucd.specs.FallibleReads.{Gives, unless};
+ghost use Rattle.normalizer_ucd.specs.inner.Lines.{read_of};
+ghost use Rattle.normalizer_ucd.specs.inner.TableLines.{AreFieldsOf, covered_by};
 
-use crate::error::{Place, Problem, UcdError, UcdFile};
+use crate::error::{Problem, UcdError, UcdFile};
 use crate::lines::{
-    after_first, before_first, characters, code_point, data_of, field_of, lines, push_found,
+    after_first, before_first, characters, code_point, data_of, field, lines, push_found, refuse,
 };
 use crate::stated::agree;
 use crate::wholes::whole_lines;
 use normalizer_records::{Uts46Range, Uts46Record, Uts46Status, records_of_ranges};
-use std::alloc::Global;
+use std::alloc::{AllocError, Global};
 
 /// Which disallowed characters get a record. Most disallowed characters are unassigned or for private use.
 #[derive(Clone, Copy, PartialEq, Eq, Debug)]
@@ -50,6 +41,17 @@ enum StatusName {
     Ignored,
     Mapped,
     Disallowed,
+}
+
+/// What the fields of a line say: each if it can be read, and which are missing.
+#[derive(Drop)]
+struct TableFields {
+    first: Option<u32>,
+    last: Option<u32>,
+    lacks_status: bool,
+    status: Option<StatusName>,
+    lacks_mapping: bool,
+    mapping: Option<Vec<char>>,
 }
 
 /// What the lines before cover: the code points before the end, up to the line of that number.
@@ -133,14 +135,14 @@ pub fn uts46_ranges_beside_exclusions(
 }
 
 /// The ranges of the table, if it states no other version than the exclusions.
-#[tactic(auto, unfolding(crate::specs::inner::TableReads::read_table))]
 fn read_table(
     alloc: Global,
     composition_exclusions: &[u8],
     table: &[u8],
     disallowed: Disallowed,
 ) -> Result<Vec<Uts46Range>, UcdError>
-    ensures { Gives (λ v. v.items) result (read_table composition_exclusions.now disallowed table.now) }
+    ensures { Gives (λ v. v.items) result (unless (fault_of_table composition_exclusions.now table.now)
+        (filter_map (λ l. range_by disallowed l.text) (data_lines table.now))) }
 {
     let parts = whole_lines(alloc, UcdFile::IdnaMappingTable, table)?;
     let listed = lines(alloc, composition_exclusions)?;
@@ -148,13 +150,14 @@ fn read_table(
     ranges_in(alloc, disallowed, &parts)
 }
 
-#[tactic(auto, unfolding(crate::specs::inner::TableReads::ranges_in))]
 fn ranges_in(
     alloc: Global,
     disallowed: Disallowed,
     lines: &[&[u8]],
 ) -> Result<Vec<Uts46Range>, UcdError>
-    ensures { Gives (λ v. v.items) result (ranges_in disallowed (map (λ line. line.now) lines.now)) }
+    ensures { let ls = data_lines_from 1 None (map (λ line. line.now) lines.now) in
+        Gives (λ v. v.items) result (unless (option_or (first_wrong IdnaMappingTable table_findings ls) (too_short ls))
+        (filter_map (λ l. range_by disallowed l.text) ls)) }
 {
     let mut ranges = Vec::new(alloc);
     let mut covered = Covered { end: 0, line: 1 };
@@ -169,7 +172,8 @@ fn ranges_in(
 
 /// An error if code points are missing at the end.
 fn full(covered: Covered) -> Result<(), UcdError>
-    ensures { Gives (λ _. tt) result (full_end covered) }
+    ensures { (ls : List DataLine) → covered ≡ covered_by (last_or None ls) →
+        Gives (λ _. tt) result (unless (too_short ls) (tt {0})) }
 {
     if covered.end == 0x110000 {
         return Ok(());
@@ -178,7 +182,6 @@ fn full(covered: Covered) -> Result<(), UcdError>
     Err(UcdError::Line(place.fault(Problem::TooShort)))
 }
 
-#[tactic(auto, unfolding(crate::specs::inner::TableReads::read_line))]
 fn read_line(
     alloc: Global,
     disallowed: Disallowed,
@@ -186,40 +189,121 @@ fn read_line(
     covered: Covered,
     line: &[u8],
 ) -> Result<(Covered, Option<Uts46Range>), UcdError>
-    ensures { Gives (λ x. x) result (read_line disallowed number covered line.now) }
+    ensures { (before : Option DataLine) → covered ≡ covered_by before → Gives (λ x. x) result
+        (read_of IdnaMappingTable table_findings covered_by (λ l. range_by disallowed l.text) number before line.now) }
 {
-    let data = data_of(line);
-    if data.is_empty() {
+    let text = data_of(line);
+    if text.is_empty() {
         return Ok((covered, None));
     }
-    let place = UcdFile::IdnaMappingTable.at(number);
-    let (end, range) = read_fields(alloc, disallowed, place, covered.end, data)?;
+    let fields = fields_of(alloc, text)?;
+    check(number, covered.end, &fields)?;
+    let end = fields.last.unwrap_or(0) + 1;
+    let range = range_of(disallowed, end, fields);
     Ok((Covered { end, line: number }, range))
 }
 
-#[tactic(auto, unfolding(crate::specs::inner::TableReads::read_fields))]
-fn read_fields(
-    alloc: Global,
-    disallowed: Disallowed,
-    place: Place,
-    next: u32,
-    line: &[u8],
-) -> Result<(u32, Option<Uts46Range>), UcdError>
-    ensures { Gives (λ x. x) result (read_fields disallowed place next line.now) }
+fn fields_of(alloc: Global, text: &[u8]) -> Result<TableFields, AllocError>
+    ensures value { IfOk result (AreFieldsOf text.now) }
+    ensures bounded { IfOk result (λ fields. unwrap_or fields.last 0 ≤ 0x10FFFF) }
 {
-    let first = first_of(place, line)?;
-    let last = last_of(place, line)?;
-    let end = end_of(place, next, first, last)?;
-    let name = name_of(place, line)?;
-    let status = status_of(alloc, disallowed, place, line, (first, last), name)?;
-    Ok((end, range_status(first, end, status)))
+    let status = field(text, 1);
+    let mapping = field(text, 2);
+    Ok(TableFields {
+        first: first(text),
+        last: last(text),
+        lacks_status: status.is_none(),
+        status: status.and_then(|status| status_named(status)),
+        lacks_mapping: mapping.is_none(),
+        mapping: mapping_in(alloc, mapping)?,
+    })
 }
 
-fn range_status(first: u32, end: u32, status: Option<Uts46Status>) -> Option<Uts46Range>
-    ensures { result ≡ range_status first end (option_map status_of_record status) }
+/// An error if something is wrong with a line. The code points are to begin with `next`.
+fn check(number: usize, next: u32, fields: &TableFields) -> Result<(), UcdError>
+    ensures { (l : DataLine) → AreFieldsOf l.text fields.now → number ≡ l.number → next ≡ next_after l.before →
+        Gives (λ _. tt) result (unless (wrong_at IdnaMappingTable table_findings l) (tt {0})) }
 {
-    let status = status?;
+    let start = fields.first.unwrap_or(0);
+    let last = fields.last.unwrap_or(0);
+    let maps = maps(fields.status);
+    let findings = [
+        (
+            Problem::CodePoint,
+            fields.first.is_none() | fields.last.is_none(),
+        ),
+        (Problem::Order, (start < next) | (last < start)),
+        (Problem::Gap, next < start),
+        (
+            Problem::MissingField,
+            fields.lacks_status | maps & fields.lacks_mapping,
+        ),
+        (Problem::Status, fields.status.is_none()),
+        (Problem::Mapping, maps & fields.mapping.is_none()),
+    ];
+    refuse(UcdFile::IdnaMappingTable.at(number), &findings)
+}
+
+/// What is recorded of the characters of a line, if anything is.
+fn range_of(disallowed: Disallowed, end: u32, fields: TableFields) -> Option<Uts46Range>
+    ensures { (text : List ℕ) → AreFieldsOf text fields → end ≡ unwrap_or (last text) 0 + 1 →
+        result ≡ range_by disallowed text }
+{
+    let first = fields.first.unwrap_or(0);
+    let status = status_of(disallowed, fields)?;
     Some(Uts46Range { first, end, status })
+}
+
+/// What is done with the characters of a line, if anything is.
+fn status_of(disallowed: Disallowed, fields: TableFields) -> Option<Uts46Status>
+    ensures { (text : List ℕ) → AreFieldsOf text fields →
+        option_map status_of_record result ≡ done disallowed text fields.status }
+{
+    match fields.status? {
+        StatusName::Valid => None,
+        StatusName::Ignored => Some(Uts46Status::Ignored),
+        StatusName::Mapped => Some(Uts46Status::Mapped(fields.mapping?)),
+        StatusName::Disallowed => {
+            let first = fields.first.unwrap_or(0);
+            let last = fields.last.unwrap_or(0);
+            if is_kept(disallowed, first, last) {
+                Some(Uts46Status::Disallowed)
+            } else {
+                None
+            }
+        }
+    }
+}
+
+/// Whether the disallowed characters of a range get records.
+fn is_kept(disallowed: Disallowed, first: u32, last: u32) -> bool
+    ensures { result ≡ is_kept disallowed first last }
+{
+    match disallowed {
+        Disallowed::All => true,
+        Disallowed::RangesUpTo(most) => last.saturating_sub(first) < most,
+    }
+}
+
+fn maps(status: Option<StatusName>) -> bool
+    ensures { result ≡ maps status }
+{
+    matches!(status, Some(StatusName::Mapped))
+}
+
+/// The first code point of a line's range.
+pub(crate) fn first(text: &[u8]) -> Option<u32>
+    ensures { result ≡ first text.now }
+{
+    code_point(before_first(field(text, 0)?, b'.'))
+}
+
+/// The last code point of a line's range.
+pub(crate) fn last(text: &[u8]) -> Option<u32>
+    ensures value { result ≡ last text.now }
+    ensures bounded { IfSome result (λ code. code ≤ 0x10FFFF) }
+{
+    code_point(last_text(field(text, 0)?))
 }
 
 fn has_stop(text: &[u8]) -> bool
@@ -230,7 +314,7 @@ fn has_stop(text: &[u8]) -> bool
 
 /// The text of the last code point of a range: what is after two full stops side by side. One code point is its own
 /// range.
-pub(crate) fn last_text(text: &[u8]) -> &[u8]
+fn last_text(text: &[u8]) -> &[u8]
     ensures { result.now ≡ last_text text.now }
 {
     if !has_stop(text) {
@@ -242,23 +326,6 @@ pub(crate) fn last_text(text: &[u8]) -> &[u8]
     } else {
         &[]
     }
-}
-
-/// The first code point of the range.
-fn first_of(place: Place, line: &[u8]) -> Result<u32, UcdError>
-    ensures { Gives (λ code. code) result (first_of place line.now) }
-{
-    let text = before_first(field_of(place, line, 0)?, b'.');
-    Ok(code_point(text).ok_or(place.fault(Problem::CodePoint))?)
-}
-
-/// The last code point of the range.
-fn last_of(place: Place, line: &[u8]) -> Result<u32, UcdError>
-    ensures value { Gives (λ code. code) result (last_of place line.now) }
-    ensures bounded { IfOk result (λ code. code ≤ 0x10FFFF) }
-{
-    let text = last_text(field_of(place, line, 0)?);
-    Ok(code_point(text).ok_or(place.fault(Problem::CodePoint))?)
 }
 
 fn is_word(text: &[u8], word: &[u8]) -> bool
@@ -290,71 +357,13 @@ fn status_named(text: &[u8]) -> Option<StatusName>
     }
 }
 
-fn name_of(place: Place, line: &[u8]) -> Result<StatusName, UcdError>
-    ensures { Gives (λ name. name) result (name_of place line.now) }
+/// The characters of a mapping, if there are any.
+fn mapping_in(alloc: Global, text: Option<&[u8]>) -> Result<Option<Vec<char>>, AllocError>
+    ensures { IfOk result (λ found.
+        option_map (λ v. v.items) found ≡ option_and_then characters (option_copied text.entry)) }
 {
-    let text = field_of(place, line, 1)?;
-    Ok(status_named(text).ok_or(place.fault(Problem::Status))?)
-}
-
-fn mapping_of(alloc: Global, place: Place, line: &[u8]) -> Result<Vec<char>, UcdError>
-    ensures { Gives (λ v. v.items) result (mapping_of place line.now) }
-{
-    let text = field_of(place, line, 2)?;
-    Ok(characters(alloc, text)?.ok_or(place.fault(Problem::Mapping))?)
-}
-
-/// Whether the disallowed characters of a range get records.
-fn is_kept(disallowed: Disallowed, first: u32, last: u32) -> bool
-    requires { first ≤ last }
-    ensures { result ≡ is_kept disallowed first last }
-{
-    match disallowed {
-        Disallowed::All => true,
-        Disallowed::RangesUpTo(most) => last - first < most,
+    match text {
+        Some(text) => characters(alloc, text),
+        None => Ok(None),
     }
-}
-
-/// What is done with the characters of a range, if anything is.
-#[tactic(auto, unfolding(crate::specs::inner::TableReads::status_of))]
-fn status_of(
-    alloc: Global,
-    disallowed: Disallowed,
-    place: Place,
-    line: &[u8],
-    range: (u32, u32),
-    name: StatusName,
-) -> Result<Option<Uts46Status>, UcdError>
-    requires { range.0 ≤ range.1 }
-    ensures { Gives (option_map status_of_record) result
-        (status_of disallowed place line.now range.0 range.1 name) }
-{
-    match name {
-        StatusName::Valid => Ok(None),
-        StatusName::Ignored => Ok(Some(Uts46Status::Ignored)),
-        StatusName::Mapped => Ok(Some(Uts46Status::Mapped(mapping_of(alloc, place, line)?))),
-        StatusName::Disallowed => {
-            let is_kept = is_kept(disallowed, range.0, range.1);
-            Ok(if is_kept {
-                Some(Uts46Status::Disallowed)
-            } else {
-                None
-            })
-        }
-    }
-}
-
-/// Returns the end of a range, if it may come next.
-fn end_of(place: Place, next: u32, first: u32, last: u32) -> Result<u32, UcdError>
-    requires { last ≤ 0x10FFFF }
-    ensures value { Gives (λ end. end) result (end_of place next first last) }
-    ensures rising { IfOk result (λ end. first ≤ last) }
-{
-    if first < next || last < first {
-        return Err(UcdError::Line(place.fault(Problem::Order)));
-    }
-    if next < first {
-        return Err(UcdError::Line(place.fault(Problem::Gap)));
-    }
-    Ok(last + 1)
 }

@@ -1,5 +1,5 @@
 //! Lines, their fields, and the numbers and characters in them.
-ghost use Rattle.std.specs.Prelude.{◌≡◌, ◌==◌, ◌≤◌, map, ◌++◌, IfOk, OnOk, count_by, position};
+ghost use Rattle.std.specs.Prelude.{◌≡◌, ◌==◌, ◌≤◌, map, ◌++◌, IfOk, OnOk, count_by, find, position};
 ghost use Rattle.std.specs.Option.{option_copied, option_map, option_to_list};
 ghost use Rattle.std.specs.List.{after_first, before_first, filter_map, slice_split};
 ghost use Rattle.normalizer_ucd.specs.Fields.{
@@ -14,7 +14,8 @@ ghost use Rattle.normalizer_ucd.specs.Fields.{
   trim,
   with_digit,
 };
-ghost use Rattle.normalizer_ucd.specs.FallibleReads.{Gives};
+ghost use Rattle.normalizer_ucd.specs.FallibleReads.{Gives, unless};
+ghost use Rattle.normalizer_ucd.specs.inner.Lines.{first_found};
 ghost use Rattle.normalizer_ucd.specs.inner.Reads.{field_of};
 
 use crate::error::{Place, Problem, UcdError};
@@ -157,6 +158,23 @@ pub(crate) fn characters(alloc: Global, text: &[u8]) -> Result<Option<Vec<char>>
     } else {
         Ok(None)
     }
+}
+
+/// An error if one of the findings is so: the first that is.
+pub(crate) fn refuse(place: Place, findings: &[(Problem, bool)]) -> Result<(), UcdError>
+    ensures { Gives (λ _. tt) result (unless (first_found place findings.now) (tt {0})) }
+{
+    match first_so(findings) {
+        Some(problem) => Err(UcdError::Line(place.fault(problem))),
+        None => Ok(()),
+    }
+}
+
+fn first_so(findings: &[(Problem, bool)]) -> Option<Problem>
+    ensures { result ≡ option_map (λ found. found.0) (find (λ found. found.1) findings.now) }
+{
+    let found = findings.iter().find(|found| found.1)?;
+    Some(found.0)
 }
 
 /// Adds what was found, if anything was.

@@ -1,11 +1,10 @@
 //! The line of a file that states a record.
 ghost use Rattle.std.specs.Prelude.{◌≡◌, IfOk, map};
-ghost use Rattle.normalizer_ucd.specs.Fields.{data_of, first, last};
 ghost use Rattle.normalizer_ucd.specs.RecordPlaces.{first_stating, place_of_record, states};
 
 use crate::error::{Place, UcdFile};
-use crate::idna_table::last_text;
-use crate::lines::{before_first, code_point, data_of, field, lines};
+use crate::idna_table::{first, last};
+use crate::lines::{code_point, data_of, field, lines};
 use normalizer_records::RecordAtFault;
 use std::alloc::{AllocError, Global};
 
@@ -54,24 +53,9 @@ fn states(fault: RecordAtFault, line: &[u8]) -> bool
             code.is_some_and(|code| code == c as u32)
         }
         RecordAtFault::OfMapper(c) => {
-            first_code(line).is_some_and(|first| first <= c as u32)
-                && last_code(line).is_some_and(|last| c as u32 <= last)
+            let text = data_of(line);
+            first(text).is_some_and(|first| first <= c as u32)
+                && last(text).is_some_and(|last| c as u32 <= last)
         }
     }
-}
-
-/// The first code point of field 0.
-fn first_code(line: &[u8]) -> Option<u32>
-    ensures { result ≡ first (data_of line.now) }
-{
-    let text = field(data_of(line), 0)?;
-    code_point(before_first(text, b'.'))
-}
-
-/// The last code point of field 0.
-fn last_code(line: &[u8]) -> Option<u32>
-    ensures { result ≡ last (data_of line.now) }
-{
-    let text = field(data_of(line), 0)?;
-    code_point(last_text(text))
 }
