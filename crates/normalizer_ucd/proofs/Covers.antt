@@ -16,7 +16,8 @@ use Rattle.normalizer_ucd.specs.Versions.{other_version, stated_in}
 use Rattle.normalizer_ucd.specs.FallibleReads.{Gives, unless}
 use Rattle.normalizer_ucd.specs.inner.Lines.{text_of}
 use Rattle.normalizer_ucd.proofs.Reading.{no_fault}
-use Rattle.normalizer_ucd.proofs.TableLines.{first_right, lines_list}
+use Rattle.normalizer_ucd.proofs.RisingLemmas.{first_right}
+use Rattle.normalizer_ucd.proofs.TableLines.{lines_list}
 
 -- nothing is wrong with a table: not with its lines, which go on to the end
 pub table_right : (exclusions table : List ℕ) → fault_of_table exclusions table ≡ None →

@@ -1,9 +1,10 @@
 pub mod CharacterLists
 pub mod Covers
+pub mod ExclusionLemmas
 pub mod FieldCounts
+pub mod FilesRead
 pub mod Heads
 pub mod Loop
-pub mod ReadingLemmas
 pub mod RisingLemmas
 pub mod SameRecords
 pub mod SortedMapperRecords
@@ -13,4 +14,3 @@ pub mod StatedRecords
 pub mod TableLines
 pub mod Stating
 pub mod Reading
-pub mod UnicodeReadings

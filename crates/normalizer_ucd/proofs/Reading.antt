@@ -1,8 +1,8 @@
 -- Lines read one after another, as a loop does: the first that is wrong is told, or else what each states.
-use Rattle.std.proofs.Common.{◌≡◌, ℕ, ◌+◌, ◌≤◌, ◌<◌, Bool, true, false, List, [], ◌++◌, length, drop, Option, Some, None}
+use Rattle.std.proofs.Common.{◌≡◌, ◌↔◌, ℕ, ◌+◌, ◌≤◌, ◌<◌, Bool, true, false, List, [], ◌++◌, length, drop, Option, Some, None}
 use Rattle.std.proofs.Common.{◌∷◌, Result, Ok, Err, Bor, refl, sym, ap, subst, ◌∙◌, append_assoc}
-use Rattle.std.specs.Prelude.{filter_map, if◌then◌else◌}
-use Rattle.std.specs.Option.{option_or, option_to_list}
+use Rattle.std.specs.Prelude.{filter_map, not, if◌then◌else◌}
+use Rattle.std.specs.Option.{is_none, is_some, option_map, option_or, option_to_list}
 use Rattle.std.specs.List.{cons_option, last_or}
 use Rattle.std.proofs.lemmas.List.{append-nil}
 use Rattle.std.proofs.Math.ListN.{drop_of_length-le}
@@ -25,6 +25,23 @@ fails_first errors.Memory o p x y h = tt
 fails_first (errors.Line e) None p x y h = absurd (cc)
 fails_first (errors.Line e) (Some f) p x y h = let same : f ≡ e = cc in ap Err same
 
+pub unless_ok : {A : Type 0} (o : Option LineFault) (x y : A) → unless o x ≡ Ok y → x ≡ y
+unless_ok (Some e) x y h = absurd (cc)
+unless_ok None x y h = cc
+
+pub unless_err : {A : Type 0} (o : Option LineFault) (x : A) (e : LineFault) → unless o x ≡ Err e ↔ (o ≡ Some e)
+unless_err (Some e) x f = (λ h. cc, λ h. cc)
+unless_err None x f = (λ h. absurd (cc), λ h. absurd (cc))
+
+-- what is returned of a view of what is read
+pub gives : {V A B : Type 0} (view : V → A) (f : A → B) (r : Result V UcdError) (o : Option LineFault) (x : A) →
+    Gives view r (unless o x) → Gives (λ v. f (view v)) r (unless o (f x))
+gives view f (Err errors.Memory) o x h = tt
+gives view f (Err (errors.Line e)) (Some g) x h = cc
+gives view f (Err (errors.Line e)) None x h = absurd (cc)
+gives view f (Ok v) (Some g) x h = absurd (cc)
+gives view f (Ok v) None x h = let is : x ≡ view v = cc in ap (λ y. Ok (f y)) is
+
 pub fails_later : {A C : Type 0} (e : UcdError) (o p : Option LineFault) (x : A) (y : C) → o ≡ None →
     Fails e (unless p x) → Fails e (unless (option_or o p) y)
 fails_later errors.Memory o p x y none h = tt
@@ -44,6 +61,17 @@ pub wrong_is : (r : Result (Unit {0}) UcdError) (p q : Place) (fs gs : Findings)
 wrong_is r p q fs gs same are h =
     subst (λ (x : Findings). Gives (λ _. tt {0}) r (unless (first_found q x) (tt {0}))) (sym are)
     (subst (λ (x : Place). Gives (λ _. tt {0}) r (unless (first_found x fs) (tt {0}))) same h)
+
+-- whether there is none
+pub none_of : {A B : Type 0} (f : A → B) (o : Option A) (p : Option B) → option_map f o ≡ p → is_none o ≡ is_none p
+none_of f None p is = rw (← is) refl
+none_of f (Some x) p is = rw (← is) refl
+
+pub none_is : {A : Type 0} (o : Option A) (b : Bool) → is_some o ≡ not b → b ≡ is_none o
+none_is None true h = refl
+none_is None false h = absurd (cc)
+none_is (Some x) true h = absurd (cc)
+none_is (Some x) false h = refl
 
 parts_of : {A B : Type 0} (a c : A) (b d : B) → (let p : A × B = (a, b) in p) ≡ (c, d) → (a ≡ c) × (b ≡ d)
 parts_of {A} {B} a c b d same = (ap (λ (p : A × B). p.0) same, ap (λ (p : A × B). p.1) same)

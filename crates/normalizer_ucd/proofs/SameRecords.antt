@@ -14,7 +14,7 @@ use Rattle.normalizer_ucd.specs.FileFaults.{fault_of_files, fault_of_table}
 use Rattle.normalizer_ucd.specs.UnicodeData.{records_of}
 use Rattle.normalizer_ucd.specs.IdnaTable.{uts46_records_beside, uts46_records_of}
 use Rattle.normalizer_ucd.specs.Layouts.{MeansTheSame, MeanTheSame}
-use Rattle.normalizer_ucd.proofs.ReadingLemmas.{unless_ok}
+use Rattle.normalizer_ucd.proofs.Reading.{unless_ok}
 use Rattle.normalizer_ucd.proofs.LinesStated.{first_has, later_has, none_has, pick, same_stated}
 
 module _ {X : Type 0} (key : X → ℕ) where

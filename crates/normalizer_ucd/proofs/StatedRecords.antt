@@ -9,7 +9,7 @@ use Rattle.normalizer_ucd.specs.FileLines.{AreStated, AreStatuses, data_lines, D
 use Rattle.normalizer_ucd.specs.FileFaults.{fault_of_files, fault_of_table}
 use Rattle.normalizer_ucd.specs.UnicodeData.{records_of}
 use Rattle.normalizer_ucd.specs.IdnaTable.{uts46_records_beside}
-use Rattle.normalizer_ucd.proofs.ReadingLemmas.{unless_ok}
+use Rattle.normalizer_ucd.proofs.Reading.{unless_ok}
 use Rattle.normalizer_ucd.proofs.LinesStated.{found, has_some, listed, some_has}
 
 pub records_are_stated : (unicode_data exclusions : List ℕ) (records : List RecordValue) →

@@ -8,7 +8,6 @@ use Rattle.std.proofs.lemmas.Bool.{ltb-true, ltb-false}
 use Rattle.normalizer_records.specs.Ranges.{Uts46RangeValue}
 use Rattle.normalizer_records.specs.RecordValue.{Status}
 use Rattle.normalizer_records.proofs.RangeRecords.{AreRanges}
-use Rattle.normalizer_records.proofs.RisingLemmas.{joined}
 use Rattle.normalizer_ucd.specs.declared.error.LineFault.{LineFault}
 use Rattle.normalizer_ucd.specs.declared.error.UcdFile.TheVariants.{IdnaMappingTable}
 use Rattle.normalizer_ucd.specs.declared.idna_table.Disallowed.{Disallowed}
@@ -17,6 +16,7 @@ use Rattle.normalizer_ucd.specs.FileFaults.{first_wrong, next_after, table_findi
 use Rattle.normalizer_ucd.specs.FileLines.{data_lines_from, DataLine, done, range_by}
 use Rattle.normalizer_ucd.specs.IdnaTable.{Lists}
 use Rattle.normalizer_ucd.specs.inner.Lines.{line_at, text_of}
+use Rattle.normalizer_ucd.proofs.RisingLemmas.{first_right, lines_within}
 
 record Joins (l : DataLine) : Type 0 where
   begin : ℕ
@@ -55,11 +55,6 @@ joins l right = by (first l.text) (last l.text) refl refl
     by (Some a) (Some b) x y =
         by_order a b (nat_lt a (next_after l.before)) (nat_lt b a) (nat_lt (next_after l.before) a) x y refl refl refl
 
--- a first line that is right, and those after it
-pub first_right : (o p : Option LineFault) → option_or o p ≡ None → (o ≡ None) × (p ≡ None)
-first_right None p h = (refl, h)
-first_right (Some e) p h = absurd (cc)
-
 end_is : (l : DataLine) (j : Joins l) → next_after (Some l.text) ≡ j.end + 1
 end_is l j = rw j.last_is refl
 
@@ -77,38 +72,12 @@ module _ (choice : Disallowed) where
       by None = let le = j.fits in omega arith
       by (Some s) = let le = j.fits in (omega arith, omega arith, omega arith)
 
-  module _ (n : ℕ) (before : Option DataLine) (line : List ℕ) (parts : List (List ℕ)) where
-    abbrev l : DataLine
-    l = line_at n before line
-
-    abbrev ls : Option DataLine → List DataLine
-    ls b = data_lines_from (n + 1) (text_of b) parts
-
-    abbrev Within : Option DataLine → List DataLine → Type 0
-    Within b ls = first_wrong IdnaMappingTable table_findings ls ≡ None →
-        AreRanges (next_after (text_of b)) (next_after (text_of (last_or b ls))) (filter_map range_at ls)
-
-    listed : (o : Option Uts46RangeValue) (xs : List Uts46RangeValue) → cons_option o xs ≡ option_to_list o ++ xs
-    listed None xs = refl
-    listed (Some x) xs = refl
-
-    step : ((b : Option DataLine) → Within b (ls b)) → (b : Bool) → has_data line ≡ b →
-        Within before (data_lines_from n (text_of before) (line ∷ parts))
-    step rest true is right =
-        let both = first_right (wrong_at IdnaMappingTable table_findings l)
-        (first_wrong IdnaMappingTable table_findings (ls (Some l))) (rw is at right) in
-        rw (is, listed (range_at l) (filter_map range_at (ls (Some l))))
-        (joined (λ r. r.first) (λ r. r.end) (next_after (text_of before)) (next_after (Some l.text)) _
-        (option_to_list (range_at l)) (filter_map range_at (ls (Some l))) (range_within l (joins l both.0))
-        (rest (Some l) both.1))
-    step rest false is right = rw is (rest before (rw is at right))
-
   pub ranges_within : (n : ℕ) (before : Option DataLine) (parts : List (List ℕ)) →
       (let ls = data_lines_from n (text_of before) parts in first_wrong IdnaMappingTable table_findings ls ≡ None →
       AreRanges (next_after (text_of before)) (next_after (text_of (last_or before ls))) (filter_map range_at ls))
-  ranges_within n before [] right = omega arith
-  ranges_within n before (line ∷ parts) right =
-      step n before line parts (λ b. ranges_within (n + 1) b parts) (has_data line) refl right
+  ranges_within =
+      lines_within (λ r. r.first) (λ r. r.end) IdnaMappingTable table_findings next_after range_at
+      (λ l right. range_within l (joins l right))
 
 -- a code point before the end of the lines is listed by one of them, or comes before them
 abbrev IsListed : List (List ℕ) → ℕ → Type 0

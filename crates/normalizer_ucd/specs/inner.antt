@@ -1,5 +1,4 @@
 -- What the contracts of private functions alone cite.
+pub mod DataFileLines
 pub mod Lines
-pub mod Reads
 pub mod TableLines
-pub mod UnicodeReads

@@ -1,15 +1,15 @@
 //! CompositionExclusions.txt.
-ghost use Rattle.std.specs.Prelude.{◌≡◌, map};
-ghost use Rattle.normalizer_ucd.specs.FileFaults.{is_mapped};
-ghost use Rattle.normalizer_ucd.specs.FallibleReads.{Gives};
-ghost use Rattle.normalizer_ucd.specs.inner.UnicodeReads.{
-  all_mapped,
-  exclusion_of,
-  exclusions_in,
-};
+ghost use Rattle.std.specs.Prelude.{◌≡◌, None, Option, map};
+ghost use Rattle.std.specs.List.{filter_map};
+ghost use Rattle.normalizer_ucd.specs.declared.error.UcdFile.TheVariants as files;
+ghost use Rattle.normalizer_ucd.specs.FileFaults.{first_wrong, is_mapped, listing_findings};
+ghost use Rattle.normalizer_ucd.specs.FileLines.{DataLine, data_lines_from};
+ghost use Rattle.normalizer_ucd.specs.FallibleReads.{Gives, unless};
+ghost use Rattle.normalizer_ucd.specs.inner.Lines.{read_of};
+ghost use Rattle.normalizer_ucd.specs.inner.DataFileLines.{exclusion_by, first_unmapped};
 
 use crate::error::{Problem, UcdError, UcdFile};
-use crate::lines::{code_point, data_of, field, push_found};
+use crate::lines::{code, data_of, push_found};
 use normalizer_records::Record;
 use std::alloc::Global;
 
@@ -21,9 +21,10 @@ pub(crate) struct Exclusion {
 }
 
 /// The code points that the lines list.
-#[tactic(auto, unfolding(crate::specs::inner::UnicodeReads::exclusions_in))]
 pub(crate) fn exclusions_in(alloc: Global, lines: &[&[u8]]) -> Result<Vec<Exclusion>, UcdError>
-    ensures { Gives (λ v. v.items) result (exclusions_in (map (λ line. line.now) lines.now)) }
+    ensures { let ls = data_lines_from 1 None (map (λ line. line.now) lines.now) in
+        Gives (λ v. v.items) result (unless (first_wrong files.CompositionExclusions listing_findings ls)
+        (filter_map exclusion_by ls)) }
 {
     let mut exclusions = Vec::new(alloc);
     for (index, line) in lines.iter().enumerate() {
@@ -33,24 +34,22 @@ pub(crate) fn exclusions_in(alloc: Global, lines: &[&[u8]]) -> Result<Vec<Exclus
     Ok(exclusions)
 }
 
-#[tactic(auto, unfolding(crate::specs::inner::UnicodeReads::exclusion_of))]
 fn exclusion_of(number: usize, line: &[u8]) -> Result<Option<Exclusion>, UcdError>
-    ensures { Gives (λ code. (tt, code)) result (exclusion_of number tt line.now) }
+    ensures { (before : Option DataLine) → Gives (λ found. (tt {0}, found)) result
+        (read_of files.CompositionExclusions listing_findings (λ _. tt {0}) exclusion_by number before line.now) }
 {
-    let data = data_of(line);
-    if data.is_empty() {
+    let text = data_of(line);
+    if text.is_empty() {
         return Ok(None);
     }
-    let code = field(data, 0).and_then(|text| code_point(text));
     let place = UcdFile::CompositionExclusions.at(number);
-    let code = code.ok_or(place.fault(Problem::CodePoint))?;
+    let code = code(text).ok_or(place.fault(Problem::CodePoint))?;
     Ok(Some(Exclusion { code, line: number }))
 }
 
 /// An error if one of the characters has no canonical mapping.
-#[tactic(auto, unfolding(crate::specs::inner::UnicodeReads::all_mapped))]
 pub(crate) fn all_mapped(exclusions: &[Exclusion], records: &[Record]) -> Result<(), UcdError>
-    ensures { Gives (λ _. tt) result (all_mapped exclusions.now records.now) }
+    ensures { Gives (λ _. tt) result (unless (first_unmapped records.now exclusions.now) (tt {0})) }
 {
     for exclusion in exclusions {
         if !is_mapped(records, exclusion.code) {

@@ -1,10 +1,11 @@
 //! Lines, their fields, and the numbers and characters in them.
-ghost use Rattle.std.specs.Prelude.{◌≡◌, ◌==◌, ◌≤◌, map, ◌++◌, IfOk, OnOk, count_by, find, position};
+ghost use Rattle.std.specs.Prelude.{◌≡◌, ◌==◌, ◌≤◌, map, ◌++◌, IfOk, IfSome, OnOk, count_by, find, position};
 ghost use Rattle.std.specs.Option.{option_copied, option_map, option_to_list};
 ghost use Rattle.std.specs.List.{after_first, before_first, filter_map, slice_split};
 ghost use Rattle.normalizer_ucd.specs.Fields.{
   character,
   characters,
+  code,
   code_point,
   data_of,
   field,
@@ -16,7 +17,6 @@ ghost use Rattle.normalizer_ucd.specs.Fields.{
 };
 ghost use Rattle.normalizer_ucd.specs.FallibleReads.{Gives, unless};
 ghost use Rattle.normalizer_ucd.specs.inner.Lines.{first_found};
-ghost use Rattle.normalizer_ucd.specs.inner.Reads.{field_of};
 
 use crate::error::{Place, Problem, UcdError};
 use std::alloc::{AllocError, Global};
@@ -82,12 +82,6 @@ pub(crate) fn field(line: &[u8], number: usize) -> Option<&[u8]>
     Some(trim(part(line, b';', number)?))
 }
 
-pub(crate) fn field_of(place: Place, line: &[u8], number: usize) -> Result<&[u8], UcdError>
-    ensures { Gives (λ text. text.now) result (field_of place line.now number) }
-{
-    Ok(field(line, number).ok_or(place.fault(Problem::MissingField))?)
-}
-
 fn with_digit(radix: u32, value: u32, digit: u8) -> Option<u32>
     requires least { 2 ≤ radix }
     requires greatest { radix ≤ 36 }
@@ -123,6 +117,14 @@ pub(crate) fn code_point(text: &[u8]) -> Option<u32>
 {
     let code = number(16, text)?;
     if code <= 0x10FFFF { Some(code) } else { None }
+}
+
+/// The code point of a line.
+pub(crate) fn code(text: &[u8]) -> Option<u32>
+    ensures value { result ≡ code text.now }
+    ensures bounded { IfSome result (λ code. code ≤ 0x10FFFF) }
+{
+    code_point(field(text, 0)?)
 }
 
 fn character(text: &[u8]) -> Option<char>

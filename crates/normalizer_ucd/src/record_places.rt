@@ -4,7 +4,7 @@ ghost use Rattle.normalizer_ucd.specs.RecordPlaces.{first_stating, place_of_reco
 
 use crate::error::{Place, UcdFile};
 use crate::idna_table::{first, last};
-use crate::lines::{code_point, data_of, field, lines};
+use crate::lines::{code, data_of, lines};
 use normalizer_records::RecordAtFault;
 use std::alloc::{AllocError, Global};
 
@@ -49,8 +49,7 @@ fn states(fault: RecordAtFault, line: &[u8]) -> bool
 {
     match fault {
         RecordAtFault::OfCharacter(c) => {
-            let code = field(data_of(line), 0).and_then(|text| code_point(text));
-            code.is_some_and(|code| code == c as u32)
+            code(data_of(line)).is_some_and(|code| code == c as u32)
         }
         RecordAtFault::OfMapper(c) => {
             let text = data_of(line);

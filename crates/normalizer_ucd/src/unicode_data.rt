@@ -1,52 +1,43 @@
 //! UnicodeData.txt.
-ghost use Rattle.std.specs.Prelude.{◌≡◌, ◌≤◌, map};
-ghost use Rattle.std.specs.Option.{ok_or, option_copied};
+ghost use Rattle.std.specs.Prelude.{◌≡◌, ◌==◌, ◌≤◌, ℕ, List, [], None, Option, Some, IfOk, map, if◌then◌else◌};
+ghost use Rattle.std.specs.Option.{is_none, option_and_then, option_copied, option_map, option_or, unwrap_or};
 ghost use Rattle.std.specs.Str.{bytes_eq};
-ghost use Rattle.normalizer_ucd.specs.Fields.{combining_class, is_tagged, mapping_in, range_name, untagged_mapping};
-ghost use Rattle.normalizer_ucd.specs.FileLines.{is_blank};
+ghost use Rattle.std.specs.List.{filter_map, last_or, list_any};
+ghost use Rattle.normalizer_ucd.specs.declared.error.UcdFile.TheVariants as files;
+ghost use Rattle.normalizer_ucd.specs.Fields.{class, code, combining_class, ends_range, field, is_tagged, mapping_in, name};
+ghost use Rattle.normalizer_ucd.specs.Fields.{range_name, untagged_mapping};
+ghost use Rattle.normalizer_ucd.specs.FileFaults.{breaks_range, data_findings, first_wrong, open_at_end, wrong_at};
+ghost use Rattle.normalizer_ucd.specs.FileLines.{DataLine, data_lines_from, is_of_character, record_by, states_some};
 ghost use Rattle.normalizer_ucd.specs.UnicodeData.{records_of};
-ghost use Rattle.normalizer_ucd.specs.FallibleReads.{Gives};
-ghost use Rattle.normalizer_ucd.specs.inner.UnicodeReads.{
-  character_of,
-  class_of,
-  closed_end,
-  code_of,
-  enough_fields,
-  entry_of,
-  follows,
-  is_listed,
-  mapping_of,
-  opened,
-  part_named,
-  read_fields,
-  read_files,
-  read_line,
-  records_in,
-  step,
-  value_of,
-};
+ghost use Rattle.normalizer_ucd.specs.FallibleReads.{Gives, unless};
+ghost use Rattle.normalizer_ucd.specs.inner.Lines.{read_of, text_of};
+ghost use Rattle.normalizer_ucd.specs.inner.DataFileLines.{AreFieldsOf, open_range, position_by, value_of};
 
-use crate::error::{LineFault, Place, Problem, UcdError, UcdFile};
+use crate::error::{Problem, UcdError, UcdFile};
 use crate::exclusions::{Exclusion, all_mapped, exclusions_in};
 use crate::lines::{
-    after_first, before_first, characters, code_point, count, data_of, field_of, number,
-    push_found, trim,
+    after_first, before_first, characters, code, count, data_of, field, number, push_found, refuse,
+    trim,
 };
 use crate::stated::agree;
 use crate::wholes::whole_lines;
 use normalizer_records::Record;
-use std::alloc::Global;
+use std::alloc::{AllocError, Global};
 
-/// What a line is for: one code point, or the first or the last of a range.
-#[derive(Clone, Copy)]
-enum Part {
-    Whole,
-    First,
-    Last,
+/// What the fields of a line say: each if it can be read, and whether the line begins or ends a range.
+#[derive(Drop)]
+struct DataFields {
+    lacks_last: bool,
+    code: Option<u32>,
+    begins: bool,
+    ends: bool,
+    class: Option<u8>,
+    mapping: Option<Vec<char>>,
+    compatibility: bool,
 }
 
-/// The position after the lines before: the least code point that may be next, the name of the range that is open, and
-/// the number of the last line with data.
+/// The position after the lines before: the least code point that may be next, the line that begins the range that is
+/// open, and the number of the last line with data.
 #[derive(Clone, Copy)]
 struct Position<'a> {
     next: u32,
@@ -70,24 +61,13 @@ struct Position<'a> {
 /// let records = records_of_unicode_data(alloc, unicode_data, b"# EOF\n")?;
 /// assert_eq!(rt; records.len(), 2);
 /// ```
+#[tactic(auto, unfolding(crate::specs::UnicodeData::records_of))]
 pub fn records_of_unicode_data(
     alloc: Global,
     unicode_data: &[u8],
     composition_exclusions: &[u8],
 ) -> Result<Vec<Record>, UcdError>
     ensures { Gives (λ v. v.items) result (records_of unicode_data.now composition_exclusions.now) }
-{
-    read_files(alloc, unicode_data, composition_exclusions)
-}
-
-/// The records of the two files, if both are whole and of one version.
-#[tactic(auto, unfolding(crate::specs::inner::UnicodeReads::read_files, crate::specs::inner::UnicodeReads::records_by))]
-fn read_files(
-    alloc: Global,
-    unicode_data: &[u8],
-    composition_exclusions: &[u8],
-) -> Result<Vec<Record>, UcdError>
-    ensures { Gives (λ v. v.items) result (read_files unicode_data.now composition_exclusions.now) }
 {
     let listed = whole_lines(
         alloc,
@@ -102,13 +82,14 @@ fn read_files(
     Ok(records)
 }
 
-#[tactic(auto, unfolding(crate::specs::inner::UnicodeReads::records_in))]
 fn records_in(
     alloc: Global,
     exclusions: &[Exclusion],
     lines: &[&[u8]],
 ) -> Result<Vec<Record>, UcdError>
-    ensures { Gives (λ v. v.items) result (records_in exclusions.now (map (λ line. line.now) lines.now)) }
+    ensures { let ls = data_lines_from 1 None (map (λ line. line.now) lines.now) in
+        Gives (λ v. v.items) result (unless (option_or (first_wrong files.UnicodeData data_findings ls) (open_at_end ls))
+        (filter_map (λ l. record_by (map (λ e. e.code) exclusions.now) l.text) ls)) }
 {
     let mut records = Vec::new(alloc);
     let mut position = Position {
@@ -127,7 +108,8 @@ fn records_in(
 
 /// An error if a range is open at the end.
 fn closed(position: Position<'_>) -> Result<(), UcdError>
-    ensures { Gives (λ _. tt) result (closed_end (value_of position.entry)) }
+    ensures { (ls : List DataLine) → value_of position.entry ≡ position_by (last_or None ls) →
+        Gives (λ _. tt) result (unless (open_at_end ls) (tt {0})) }
 {
     if position.range.is_some() {
         let place = UcdFile::UnicodeData.at(position.line);
@@ -136,7 +118,6 @@ fn closed(position: Position<'_>) -> Result<(), UcdError>
     Ok(())
 }
 
-#[tactic(auto, unfolding(crate::specs::inner::UnicodeReads::read_line))]
 fn read_line<'a>(
     alloc: Global,
     exclusions: &[Exclusion],
@@ -144,93 +125,168 @@ fn read_line<'a>(
     position: Position<'a>,
     line: &'a [u8],
 ) -> Result<(Position<'a>, Option<Record>), UcdError>
-    ensures { Gives (λ x. (value_of x.0, x.1)) result
-        (read_line exclusions.now number (value_of position.entry) line.now) }
+    ensures { (before : Option DataLine) → value_of position.entry ≡ position_by before →
+        Gives (λ x. (value_of x.0, x.1)) result (read_of files.UnicodeData data_findings position_by
+        (λ l. record_by (map (λ e. e.code) exclusions.now) l.text) number before line.now) }
 {
-    let data = data_of(line);
-    if data.is_empty() {
+    let text = data_of(line);
+    if text.is_empty() {
         return Ok((position, None));
     }
-    let place = UcdFile::UnicodeData.at(number);
-    read_fields(alloc, exclusions, place, position, data)
+    let fields = fields_of(alloc, text)?;
+    check(number, position, text, &fields)?;
+    let least = fields.code.unwrap_or(0) + 1;
+    let range = opened(fields.begins, text);
+    let record = record_of(alloc, exclusions, fields);
+    let next = Position {
+        next: least,
+        range,
+        line: number,
+    };
+    Ok((next, record))
 }
 
-#[tactic(auto, unfolding(crate::specs::inner::UnicodeReads::read_fields))]
-fn read_fields<'a>(
-    alloc: Global,
-    exclusions: &[Exclusion],
-    place: Place,
-    position: Position<'a>,
-    line: &'a [u8],
-) -> Result<(Position<'a>, Option<Record>), UcdError>
-    ensures { Gives (λ x. (value_of x.0, x.1)) result
-        (read_fields exclusions.now place (value_of position.entry) line.now) }
+/// The line, if it begins a range.
+fn opened(begins: bool, text: &[u8]) -> Option<&[u8]>
+    ensures { option_copied result ≡ (if begins then Some text.now else None) }
 {
-    enough_fields(place, line)?;
-    let code = code_of(place, line)?;
-    let name = field_of(place, line, 1)?;
-    let class = class_of(place, line)?;
-    let mapping = mapping_of(alloc, place, line)?;
-    let part = part_named(name);
-    let next = step(place, position, code, part, range_name(name))?;
-    let entry = entry_of(exclusions, place, code, part, class, mapping)?;
-    Ok((next, entry))
+    if begins { Some(text) } else { None }
 }
 
-fn is_blank(class: u8, mapping: &[char]) -> bool
-    ensures { result ≡ is_blank class mapping.now }
+fn fields_of(alloc: Global, text: &[u8]) -> Result<DataFields, AllocError>
+    ensures value { IfOk result (AreFieldsOf text.now) }
+    ensures bounded { IfOk result (λ fields. unwrap_or fields.code 0 ≤ 0x10FFFF) }
 {
-    class == 0 && mapping.is_empty()
+    let name = name(text);
+    let begins = name.ends_with(b"First>");
+    let mapping = field(text, 5);
+    Ok(DataFields {
+        lacks_last: lacks_last(text),
+        code: code(text),
+        begins,
+        ends: !begins & name.ends_with(b"Last>"),
+        class: class(text),
+        mapping: mapping_of(alloc, mapping)?,
+        compatibility: mapping.is_some_and(|mapping| is_tagged(mapping)),
+    })
+}
+
+/// An error if something is wrong with a line.
+fn check(
+    number: usize,
+    position: Position<'_>,
+    text: &[u8],
+    fields: &DataFields,
+) -> Result<(), UcdError>
+    ensures { (before : Option DataLine) → value_of position.entry ≡ position_by before →
+        AreFieldsOf text.now fields.now → Gives (λ _. tt) result (unless (wrong_at files.UnicodeData data_findings
+        (record { number = number; text = text.now; before = text_of before })) (tt {0})) }
+{
+    let code = fields.code.unwrap_or(0);
+    let findings = [
+        (Problem::MissingField, fields.lacks_last),
+        (Problem::CodePoint, fields.code.is_none()),
+        (Problem::Class, fields.class.is_none()),
+        (Problem::Mapping, fields.mapping.is_none()),
+        (Problem::Order, code < position.next),
+        (
+            Problem::Range,
+            breaks_range(position.range, fields.ends, text),
+        ),
+        (
+            Problem::NotACharacter,
+            states_some(fields) & character_of(fields).is_none(),
+        ),
+    ];
+    refuse(UcdFile::UnicodeData.at(number), &findings)
+}
+
+/// Whether the line doesn't end the range that is open, or ends one where none is.
+fn breaks_range(range: Option<&[u8]>, ends: bool, text: &[u8]) -> bool
+    ensures { (before : Option (List ℕ)) → option_copied range.entry ≡ open_range before → ends ≡ ends_range text.now →
+        result ≡ breaks_range before text.now }
+{
+    match range {
+        Some(first) => !(ends && is_same(range_name(name(first)), range_name(name(text)))),
+        None => ends,
+    }
+}
+
+fn states_some(fields: &DataFields) -> bool
+    ensures { (text : List ℕ) → AreFieldsOf text fields.now → result ≡ states_some text }
+{
+    let is_mapped = match &fields.mapping {
+        Some(mapping) => !mapping.is_empty(),
+        None => false,
+    };
+    fields.class.unwrap_or(0) != 0 || is_mapped
+}
+
+/// The character that a line is for, if it is for one.
+fn character_of(fields: &DataFields) -> Option<char>
+    ensures { (text : List ℕ) → AreFieldsOf text fields.now →
+        result ≡ (if is_of_character text then Some (unwrap_or (code text) 0) else None) }
+{
+    if fields.begins || fields.ends {
+        return None;
+    }
+    char::from_u32(fields.code.unwrap_or(0))
+}
+
+/// What a line states of a character, if anything.
+fn record_of(alloc: Global, exclusions: &[Exclusion], fields: DataFields) -> Option<Record>
+    ensures { (text : List ℕ) → AreFieldsOf text fields →
+        result ≡ record_by (map (λ e. e.code) exclusions.now) text }
+{
+    let c = character_of(&fields)?;
+    if !states_some(&fields) {
+        return None;
+    }
+    Some(Record {
+        c,
+        class: fields.class.unwrap_or(0),
+        mapping: or_empty(alloc, fields.mapping),
+        compatibility: fields.compatibility,
+        excluded: is_excluded(exclusions, c as u32),
+    })
+}
+
+fn or_empty(alloc: Global, mapping: Option<Vec<char>>) -> Vec<char>
+    ensures { result.items ≡ unwrap_or (option_map (λ v. v.items) mapping) [] }
+{
+    match mapping {
+        Some(mapping) => mapping,
+        None => Vec::new(alloc),
+    }
+}
+
+fn is_excluded(exclusions: &[Exclusion], code: u32) -> bool
+    ensures { result ≡ list_any (λ n. n == code) (map (λ e. e.code) exclusions.now) }
+{
+    is_listed(exclusions, code)
 }
 
 fn is_listed(exclusions: &[Exclusion], code: u32) -> bool
-    ensures { result ≡ is_listed exclusions.now code }
+    ensures { result ≡ list_any (λ e. e.code == code) exclusions.now }
 {
     exclusions.iter().any(|excluded| excluded.code == code)
 }
 
-/// What is recorded of a code point, if anything is.
-#[tactic(auto, unfolding(crate::specs::inner::UnicodeReads::entry_of))]
-fn entry_of(
-    exclusions: &[Exclusion],
-    place: Place,
-    code: u32,
-    part: Part,
-    class: u8,
-    mapping: (bool, Vec<char>),
-) -> Result<Option<Record>, UcdError>
-    ensures { Gives (λ x. x) result (entry_of exclusions.now place code part class (mapping.0, mapping.1.items)) }
-{
-    let (compatibility, mapping) = mapping;
-    if is_blank(class, &mapping) {
-        return Ok(None);
-    }
-    let c = character_of(place, code, part)?;
-    Ok(Some(Record {
-        c,
-        class,
-        mapping,
-        compatibility,
-        excluded: is_listed(exclusions, code),
-    }))
-}
-
-/// An error if a line has fewer than fifteen fields. (To find the last field takes longer.)
+/// Whether the last of fifteen fields is missing. (To find it takes longer.)
 #[tactic(auto, using(crate::proofs::FieldCounts::few, crate::proofs::FieldCounts::enough))]
-fn enough_fields(place: Place, line: &[u8]) -> Result<(), UcdError>
-    ensures { Gives (λ _. tt) result (enough_fields place line.now) }
+fn lacks_last(line: &[u8]) -> bool
+    ensures { result ≡ is_none (field line.now 14) }
 {
-    if count(line, b';') < 14 {
-        return Err(UcdError::Line(place.fault(Problem::MissingField)));
-    }
-    Ok(())
+    count(line, b';') < 14
 }
 
-fn code_of(place: Place, line: &[u8]) -> Result<u32, UcdError>
-    ensures { Gives (λ code. code) result (code_of place line.now) }
+fn name(text: &[u8]) -> &[u8]
+    ensures { result.now ≡ name text.now }
 {
-    let text = field_of(place, line, 0)?;
-    Ok(code_point(text).ok_or(place.fault(Problem::CodePoint))?)
+    match field(text, 1) {
+        Some(name) => name,
+        None => &[],
+    }
 }
 
 /// The name of a range: the name of its first and of its last line, up to the comma.
@@ -240,16 +296,16 @@ fn range_name(name: &[u8]) -> &[u8]
     before_first(name, b',')
 }
 
-fn part_named(name: &[u8]) -> Part
-    ensures { result ≡ part_named name.now }
+fn is_same(text: &[u8], other: &[u8]) -> bool
+    ensures { result ≡ bytes_eq text.now other.now }
 {
-    if name.ends_with(b"First>") {
-        Part::First
-    } else if name.ends_with(b"Last>") {
-        Part::Last
-    } else {
-        Part::Whole
-    }
+    text == other
+}
+
+fn class(text: &[u8]) -> Option<u8>
+    ensures { result ≡ class text.now }
+{
+    combining_class(field(text, 3)?)
 }
 
 fn combining_class(text: &[u8]) -> Option<u8>
@@ -259,30 +315,24 @@ fn combining_class(text: &[u8]) -> Option<u8>
     if class < 255 { Some(class as u8) } else { None }
 }
 
-fn class_of(place: Place, line: &[u8]) -> Result<u8, UcdError>
-    ensures { Gives (λ class. class) result (class_of place line.now) }
+fn mapping_of(alloc: Global, text: Option<&[u8]>) -> Result<Option<Vec<char>>, AllocError>
+    ensures { IfOk result (λ found.
+        option_map (λ v. v.items) found ≡ option_and_then mapping_in (option_copied text.entry)) }
 {
-    let text = field_of(place, line, 3)?;
-    Ok(combining_class(text).ok_or(place.fault(Problem::Class))?)
-}
-
-/// The mapping of a line, and whether it is for compatibility.
-fn mapping_of(alloc: Global, place: Place, line: &[u8]) -> Result<(bool, Vec<char>), UcdError>
-    ensures { Gives (λ mapping. (mapping.0, mapping.1.items)) result (mapping_of place line.now) }
-{
-    let text = field_of(place, line, 5)?;
-    let mapping = mapping_in(alloc, place.fault(Problem::Mapping), text)?;
-    Ok((is_tagged(text), mapping))
+    match text {
+        Some(text) => mapping_in(alloc, text),
+        None => Ok(None),
+    }
 }
 
 #[tactic(auto, unfolding(crate::specs::Fields::mapping_in))]
-fn mapping_in(alloc: Global, fault: LineFault, text: &[u8]) -> Result<Vec<char>, UcdError>
-    ensures { Gives (λ v. v.items) result (ok_or (mapping_in text.now) fault) }
+fn mapping_in(alloc: Global, text: &[u8]) -> Result<Option<Vec<char>>, AllocError>
+    ensures { IfOk result (λ found. option_map (λ v. v.items) found ≡ mapping_in text.now) }
 {
     if text.is_empty() {
-        return Ok(Vec::new(alloc));
+        return Ok(Some(Vec::new(alloc)));
     }
-    Ok(characters(alloc, untagged(text))?.ok_or(fault)?)
+    characters(alloc, untagged(text))
 }
 
 fn is_tagged(text: &[u8]) -> bool
@@ -299,65 +349,5 @@ fn untagged(text: &[u8]) -> &[u8]
         trim(after_first(text, b'>'))
     } else {
         text
-    }
-}
-
-/// Whether a line may come next: the last line of a range right after its first, and no other line there.
-fn follows(range: Option<&[u8]>, part: Part, name: &[u8]) -> bool
-    ensures { result ≡ follows (option_copied range.entry) part name.now }
-{
-    match part {
-        Part::Whole | Part::First => range.is_none(),
-        Part::Last => range.is_some_and(|first| is_same(first, name)),
-    }
-}
-
-fn is_same(text: &[u8], other: &[u8]) -> bool
-    ensures { result ≡ bytes_eq text.now other.now }
-{
-    text == other
-}
-
-/// The name of the range that is open after a line.
-fn opened(part: Part, name: &[u8]) -> Option<&[u8]>
-    ensures { option_copied result ≡ opened part name.now }
-{
-    match part {
-        Part::First => Some(name),
-        Part::Whole | Part::Last => None,
-    }
-}
-
-/// The position after a line, if it may follow.
-fn step<'a>(
-    place: Place,
-    position: Position<'a>,
-    code: u32,
-    part: Part,
-    name: &'a [u8],
-) -> Result<Position<'a>, UcdError>
-    requires { code ≤ 0x10FFFF }
-    ensures { Gives value_of result (step place (value_of position.entry) code part name.now) }
-{
-    if code < position.next {
-        return Err(UcdError::Line(place.fault(Problem::Order)));
-    }
-    if !follows(position.range, part, name) {
-        return Err(UcdError::Line(place.fault(Problem::Range)));
-    }
-    Ok(Position {
-        next: code + 1,
-        range: opened(part, name),
-        line: place.line,
-    })
-}
-
-/// The character of a line, if the line is for one.
-fn character_of(place: Place, code: u32, part: Part) -> Result<char, UcdError>
-    ensures { Gives (λ c. c) result (character_of place code part) }
-{
-    match part {
-        Part::Whole => { Ok(char::from_u32(code).ok_or(place.fault(Problem::NotACharacter))?) }
-        Part::First | Part::Last => Err(UcdError::Line(place.fault(Problem::NotACharacter))),
     }
 }

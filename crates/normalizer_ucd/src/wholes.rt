@@ -14,7 +14,7 @@ ghost use Rattle.normalizer_ucd.specs.Wholes.{
 ghost use Rattle.normalizer_ucd.specs.FallibleReads.{Gives, unless};
 
 use crate::error::{Problem, UcdError, UcdFile};
-use crate::lines::{code_point, field, lines};
+use crate::lines::{code, field, lines};
 use std::alloc::{AllocError, Global};
 
 /// The lines of a file that isn't cut off.
@@ -79,9 +79,7 @@ fn is_end_mark(line: &[u8]) -> bool
 fn closes_last_range(line: &[u8]) -> bool
     ensures { result ≡ closes_last_range line.now }
 {
-    field(line, 0)
-        .and_then(|text| code_point(text))
-        .is_some_and(|code| code == 0x10FFFD)
+    code(line).is_some_and(|code| code == 0x10FFFD)
         && field(line, 1).is_some_and(|name| name.ends_with(b"Last>"))
 }
 

@@ -1,11 +1,9 @@
-use Rattle.std.proofs.Common.{◌≡◌, ◌+◌, drop, map}
-use Rattle.normalizer_ucd.specs.inner.Reads.{read_each}
-use Rattle.normalizer_ucd.specs.inner.UnicodeReads.{exclusion_of}
-use Rattle.normalizer_ucd.proofs.Loop.{with_front}
+use Rattle.normalizer_ucd.specs.declared.error.UcdFile.TheVariants.{CompositionExclusions}
+use Rattle.normalizer_ucd.specs.FileFaults.{listing_findings}
+use Rattle.normalizer_ucd.specs.inner.DataFileLines.{exclusion_by}
+use Rattle.normalizer_ucd.proofs.Reading.{IsRead}
 use Rattle.normalizer_ucd.proofs.exclusions.exclusions_in.Given as goal
 
 abbrev pub invariant-loop-index : goal.invariant-loop-index
 invariant-loop-index l =
-    with_front l.exclusions.items (read_each exclusion_of (l.index + 1) tt
-    (map (λ line. line.now) (drop l.index l.lines)))
-    ≡ read_each exclusion_of 1 tt (map (λ line. line.now) l.lines)
+    IsRead CompositionExclusions listing_findings (λ _. tt {0}) exclusion_by l.lines l.index tt l.exclusions.items

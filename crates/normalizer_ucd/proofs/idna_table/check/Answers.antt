@@ -9,18 +9,8 @@ use Rattle.normalizer_ucd.specs.Fields.{mapped_to}
 use Rattle.normalizer_ucd.specs.FileFaults.{next_after, table_findings}
 use Rattle.normalizer_ucd.specs.FileLines.{DataLine, maps}
 use Rattle.normalizer_ucd.specs.inner.TableLines.{AreFieldsOf}
-use Rattle.normalizer_ucd.proofs.Reading.{wrong_is}
+use Rattle.normalizer_ucd.proofs.Reading.{none_is, none_of, wrong_is}
 use Rattle.normalizer_ucd.proofs.idna_table.check.Goals as goal
-
-none_of : {A B : Type 0} (f : A → B) (o : Option A) (p : Option B) → option_map f o ≡ p → is_none o ≡ is_none p
-none_of f None p is = rw (← is) refl
-none_of f (Some x) p is = rw (← is) refl
-
-none_is : {A : Type 0} (o : Option A) (b : Bool) → is_some o ≡ not b → b ≡ is_none o
-none_is None true h = refl
-none_is None false h = absurd (cc)
-none_is (Some x) true h = absurd (cc)
-none_is (Some x) false h = refl
 
 module _ (l : DataLine) (fields : TableFields) (are : AreFieldsOf l.text fields) where
   findings_are : (next start last : ℕ) (maps_some no_first no_last no_status no_mapping : Bool) →

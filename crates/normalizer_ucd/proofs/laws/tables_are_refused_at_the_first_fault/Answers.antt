@@ -1,7 +1,7 @@
 use Rattle.std.proofs.Common.{[]}
 use Rattle.normalizer_ucd.specs.FileFaults.{fault_of_table}
 use Rattle.normalizer_ucd.specs.IdnaTable.{uts46_records_beside}
-use Rattle.normalizer_ucd.proofs.ReadingLemmas.{unless_err}
+use Rattle.normalizer_ucd.proofs.Reading.{unless_err}
 use Rattle.normalizer_ucd.proofs.laws.tables_are_refused_at_the_first_fault.Goals as goal
 
 pub returns : goal.returns

@@ -1,12 +1,12 @@
-use Rattle.std.proofs.Common.{◌≡◌, ◌+◌, drop, map}
-use Rattle.normalizer_ucd.specs.inner.Reads.{read_each}
-use Rattle.normalizer_ucd.specs.inner.UnicodeReads.{read_line, start, value_of}
-use Rattle.normalizer_ucd.proofs.Loop.{with_front}
+use Rattle.std.proofs.Common.{map}
+use Rattle.normalizer_ucd.specs.declared.error.UcdFile.TheVariants.{UnicodeData}
+use Rattle.normalizer_ucd.specs.FileFaults.{data_findings}
+use Rattle.normalizer_ucd.specs.FileLines.{record_by}
+use Rattle.normalizer_ucd.specs.inner.DataFileLines.{position_by, value_of}
+use Rattle.normalizer_ucd.proofs.Reading.{IsRead}
 use Rattle.normalizer_ucd.proofs.unicode_data.records_in.Given as goal
 
 abbrev pub invariant-loop-index : goal.invariant-loop-index
 invariant-loop-index l =
-    with_front l.records.items
-    (read_each (read_line l.exclusions) (l.index + 1) (value_of l.position)
-    (map (λ line. line.now) (drop l.index l.lines)))
-    ≡ read_each (read_line l.exclusions) 1 start (map (λ line. line.now) l.lines)
+    IsRead UnicodeData data_findings position_by (λ d. record_by (map (λ e. e.code) l.exclusions) d.text) l.lines l.index
+    (value_of l.position) l.records.items
