@@ -1,15 +1,14 @@
 -- The lines of a table that is read list each code point.
-use Rattle.std.proofs.Common.{◌≡◌, ⊎_elim, ℕ, ◌<◌, Bool, true, false, List, [], Option, Some, None, Result, Ok, Err, refl, arith, sym, subst}
+use Rattle.std.proofs.Common.{◌≡◌, ⊎_elim, ℕ, ◌<◌, Bool, true, false, List, Some, None, Result, Ok, Err, refl, arith, sym, subst}
 use Rattle.std.specs.Prelude.{◌==◌, OnOk, if◌then◌else◌}
 use Rattle.std.specs.List.{last_or}
-use Rattle.std.specs.Option.{option_or}
 use Rattle.std.proofs.lemmas.Bool.{eqb-true}
 use Rattle.normalizer_ucd.specs.declared.error.LineFault.{LineFault}
 use Rattle.normalizer_ucd.specs.declared.error.UcdError.{UcdError}
 use Rattle.normalizer_ucd.specs.declared.error.UcdFile.TheVariants.{IdnaMappingTable}
 use Rattle.normalizer_ucd.specs.Fields.{lines}
 use Rattle.normalizer_ucd.specs.FileFaults.{fault_of_table, first_wrong, next_after, table_findings, too_short}
-use Rattle.normalizer_ucd.specs.FileLines.{data_lines, DataLine}
+use Rattle.normalizer_ucd.specs.FileLines.{data_lines}
 use Rattle.normalizer_ucd.specs.IdnaTable.{ListsAll}
 use Rattle.normalizer_ucd.specs.Wholes.{cut_off}
 use Rattle.normalizer_ucd.specs.Versions.{other_version, stated_in}

@@ -1,5 +1,5 @@
 -- Reading the two files: each fault, where nothing before it is wrong.
-use Rattle.std.proofs.Common.{◌≡◌, List, ℕ, Option, Some, None, Result, Ok, refl}
+use Rattle.std.proofs.Common.{◌≡◌, List, ℕ, Option, Some, None, Ok, refl}
 use Rattle.std.specs.Prelude.{filter_map}
 use Rattle.std.specs.Option.{option_or}
 use Rattle.normalizer_records.specs.RecordValue.{RecordValue}

@@ -1,6 +1,6 @@
 -- The records of UnicodeData.txt are sorted by character.
 use Rattle.std.proofs.Common.{◌≡◌, ◌≤◌, ◌+◌, ℕ, Bool, true, false, List, [], ◌∷◌, Option, Some, None, Ok, refl, subst, arith}
-use Rattle.std.specs.Prelude.{◌&&◌, filter_map, find, if◌then◌else◌, nat_lt}
+use Rattle.std.specs.Prelude.{◌&&◌, filter_map, find, if◌then◌else◌}
 use Rattle.std.specs.Option.{option_map, option_to_list, unwrap_or}
 use Rattle.std.specs.List.{last_or}
 use Rattle.std.proofs.lemmas.Bool.{ltb-false}

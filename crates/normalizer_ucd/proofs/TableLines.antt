@@ -1,14 +1,13 @@
 -- Lines of a table with which nothing is wrong: each begins where the one before it ends.
-use Rattle.std.proofs.Common.{◌≡◌, ◌⊎◌, ⊎_elim, inl, inr, ◌<◌, ◌≤◌, ℕ, ◌+◌, Bool, true, false, ltb, List, [], ◌∷◌, ◌++◌}
+use Rattle.std.proofs.Common.{◌≡◌, ◌⊎◌, ⊎_elim, inl, inr, ◌<◌, ◌≤◌, ℕ, ◌+◌, Bool, true, false, List, [], ◌∷◌}
 use Rattle.std.proofs.Common.{suc, Option, Some, None, refl, sym, subst, arith}
-use Rattle.std.specs.Prelude.{Contains, filter_map, nat_lt, ◌||◌, if◌then◌else◌}
-use Rattle.std.specs.Option.{option_map, option_or, option_to_list, unwrap_or}
-use Rattle.std.specs.List.{cons_option, last_or}
+use Rattle.std.specs.Prelude.{Contains, filter_map, nat_lt}
+use Rattle.std.specs.Option.{option_map, option_to_list}
+use Rattle.std.specs.List.{last_or}
 use Rattle.std.proofs.lemmas.Bool.{ltb-true, ltb-false}
 use Rattle.normalizer_records.specs.Ranges.{Uts46RangeValue}
 use Rattle.normalizer_records.specs.RecordValue.{Status}
 use Rattle.normalizer_records.proofs.RangeRecords.{AreRanges}
-use Rattle.normalizer_ucd.specs.declared.error.LineFault.{LineFault}
 use Rattle.normalizer_ucd.specs.declared.error.UcdFile.TheVariants.{IdnaMappingTable}
 use Rattle.normalizer_ucd.specs.declared.idna_table.Disallowed.{Disallowed}
 use Rattle.normalizer_ucd.specs.Fields.{data_of, first, has_data, last, status}

@@ -1,6 +1,6 @@
-use Rattle.std.proofs.Common.{◌≡◌, ◌∷◌, [], ℕ, Bool, List, Option, Some, None, true, false, not, refl, sym, ◌∙◌, ap}
+use Rattle.std.proofs.Common.{◌≡◌, ◌∷◌, [], ℕ, Bool, Option, Some, None, true, false, not, refl, sym, ◌∙◌, ap}
 use Rattle.std.specs.Prelude.{◌&&◌, if◌then◌else◌, nat_lt}
-use Rattle.std.specs.Option.{is_none, is_some, option_map, unwrap_or}
+use Rattle.std.specs.Option.{is_none, is_some, unwrap_or}
 use Rattle.normalizer_ucd.specs.declared.error.Problem.TheVariants as problems
 use Rattle.normalizer_ucd.specs.declared.unicode_data.DataFields.{DataFields}
 use Rattle.normalizer_ucd.specs.Fields.{code, mapping}
