@@ -4,7 +4,8 @@ ghost use Rattle.std.specs.Option.{is_none, option_and_then, option_copied, opti
 ghost use Rattle.std.specs.Str.{bytes_eq};
 ghost use Rattle.std.specs.List.{filter_map, last_or, list_any};
 ghost use Rattle.normalizer_ucd.specs.declared.error.UcdFile.TheVariants as files;
-ghost use Rattle.normalizer_ucd.specs.Fields.{class, code, combining_class, ends_range, field, is_tagged, mapping_in, name};
+ghost use Rattle.normalizer_ucd.specs.Fields.{class, code, combining_class, ends_range};
+ghost use Rattle.normalizer_ucd.specs.Fields.{field, is_tagged, mapping_in, name};
 ghost use Rattle.normalizer_ucd.specs.Fields.{range_name, untagged_mapping};
 ghost use Rattle.normalizer_ucd.specs.FileFaults.{breaks_range, data_findings, first_wrong, open_at_end, wrong_at};
 ghost use Rattle.normalizer_ucd.specs.FileLines.{DataLine, data_lines_from, is_of_character, record_by, states_some};
@@ -88,7 +89,8 @@ fn records_in(
     lines: &[&[u8]],
 ) -> Result<Vec<Record>, UcdError>
     ensures { let ls = data_lines_from 1 None (map (λ line. line.now) lines.now) in
-        Gives (λ v. v.items) result (unless (option_or (first_wrong files.UnicodeData data_findings ls) (open_at_end ls))
+        Gives (λ v. v.items) result
+        (unless (option_or (first_wrong files.UnicodeData data_findings ls) (open_at_end ls))
         (filter_map (λ l. record_by (map (λ e. e.code) exclusions.now) l.text) ls)) }
 {
     let mut records = Vec::new(alloc);
