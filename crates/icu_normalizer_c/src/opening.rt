@@ -9,7 +9,8 @@ ghost use Rattle.normalizer_handles.specs.Made.{AreReadBy};
 ghost use Rattle.normalizer_handles.specs.Opening.{both, indices_of, lines_of, of_idna_table, of_unicode_data};
 ghost use Rattle.normalizer_handles.specs.Opening.{Opens, OpensTo};
 ghost use Rattle.normalizer_handles.specs.PlainRecords.{entries_of, mapper_entries_of};
-ghost use Rattle.normalizer_handles.specs.Prepared.{AreOfFile, IsFaultOfFile, IsFileOf};
+ghost use Rattle.normalizer_handles.specs.Prepared.{AreOfFile, IsFaultOfFile};
+ghost use Rattle.normalizer_prepared.specs.Prepared.{IsFileOf};
 ghost use Rattle.normalizer_handles.specs.Status.{IsStatus};
 ghost use Rattle.normalizer_handles.specs.declared.fault.Fault.TheVariants.{Memory};
 

@@ -14,7 +14,8 @@ use std::alloc::AllocError;
 /// Data built from records: a provider for all seven markers. [`Records::build`](crate::Records::build) makes it.
 /// `load` copies what is held.
 pub struct Built {
-    pub(crate) packed: Packed,
+    /// The data of all markers.
+    pub packed: Packed,
 }
 
 // Written out, so that each place that drops one makes one call.

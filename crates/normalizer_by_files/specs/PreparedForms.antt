@@ -8,7 +8,7 @@ use Rattle.icu_normalizer.specs.Forms.{form_of}
 use Rattle.icu_normalizer.specs.HeldForms.{held_for_forms, HeldForForms, RefusesForm}
 use Rattle.icu_normalizer.specs.declared.any_normalizer.NormalForm.{NormalForm}
 use Rattle.normalizer_prepared.specs.Files.{IsFirstFault}
-use Rattle.normalizer_prepared.specs.Prepared.{prepared_bytes, Fits}
+use Rattle.normalizer_prepared.specs.Prepared.{IsFileOf}
 use Rattle.normalizer_prepared.specs.declared.fault.PreparedError.TheVariants as prepared_error
 use Rattle.normalizer_by_files.specs.declared.by_prepared.PreparedFault.{PreparedFault}
 use Rattle.normalizer_by_files.specs.declared.by_prepared.PreparedFault.TheVariants.{File, Data}
@@ -16,7 +16,7 @@ use Rattle.normalizer_by_files.specs.declared.by_prepared.PreparedFault.TheVaria
 -- the form of a text by the data whose file it is
 abbrev pub IsFormByPrepared : List ℕ → NormalForm → List ℕ → List ℕ → Type 0
 IsFormByPrepared prepared form x result =
-    (p : Packed) × Fits p × (prepared ≡ prepared_bytes p) × (result ≡ form_of (packed_form p form) x)
+    (p : Packed) × IsFileOf prepared p × (result ≡ form_of (packed_form p form) x)
 
 -- what data hold for the forms
 abbrev pub held_by : Packed → HeldForForms
@@ -32,7 +32,7 @@ IsFaultOfData p form e = (e ≡ data_error.Memory) ⊎ RefusesForm form (held_by
 abbrev pub IsFaultOfPrepared : List ℕ → NormalForm → PreparedFault → Type 0
 IsFaultOfPrepared prepared form (File e) = IsFirstFault prepared e
 IsFaultOfPrepared prepared form (Data e) =
-    (p : Packed) × Fits p × (prepared ≡ prepared_bytes p) × IsFaultOfData p form e
+    (p : Packed) × IsFileOf prepared p × IsFaultOfData p form e
 
 -- memory ran out
 abbrev pub IsMemory : PreparedFault → Type 0

@@ -7,7 +7,7 @@ ghost use Rattle.icu_normalizer.specs.Utf8.{decoded_utf8};
 ghost use Rattle.icu_normalizer.specs.ByRecords.{packed_form};
 ghost use Rattle.icu_normalizer.specs.Forms.{form_of};
 ghost use Rattle.icu_normalizer.specs.RecordedForms.{recorded_form};
-ghost use Rattle.normalizer_prepared.specs.Prepared.{prepared_bytes, prepared_in, Fits};
+ghost use Rattle.normalizer_prepared.specs.Prepared.{prepared_in, IsFileOf};
 ghost use Rattle.normalizer_by_files.specs.PreparedForms.{
   IsFaultOfData,
   IsFaultOfPrepared,
@@ -47,7 +47,7 @@ pub fn form_by_prepared_data(
 
     // By the records that these data were built from, unless memory ran out.
     ensures records { (records : List RecordValue) (uts46 : List Uts46RecordValue) (p : Packed) →
-        Builds records uts46 p → Fits p → prepared.now ≡ prepared_bytes p →
+        Builds records uts46 p → IsFileOf prepared.now p →
         MatchResult result (λ v. v.items ≡ recorded_form records form (decoded_utf8 bytes.now)) IsMemory }
     ensures fault { IfErr result (IsFaultOfPrepared prepared.now form) }
 {
@@ -73,7 +73,7 @@ fn form_by_read(
         (λ v. v.items ≡ form_of (packed_form (prepared_in read.now) form) (decoded_utf8 bytes.now))
         (IsFaultOfData (prepared_in read.now) form) }
 {
-    let normalizer = read.normalizer(form)?;
+    let normalizer = read.built.normalizer(form)?;
     let characters = Utf8Chars::new(bytes);
     match normalizer
         .as_borrowed()

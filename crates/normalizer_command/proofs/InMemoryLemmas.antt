@@ -24,7 +24,8 @@ use Rattle.normalizer_command.specs.FileReports.{Report, Tells}
 use Rattle.normalizer_command.specs.FileFaults.{IsFileFault}
 use Rattle.normalizer_command.specs.InMemory.{bytes_in, effect_of, reports_of, AreHandled, Effect, IsEffectOf, IsEffectOfData, IsFaultInMemory, IsHandled, IsThere, LacksDataInMemory, LacksPreparedInMemory, NamedBytes, RunsByDataInMemory, RunsInMemory}
 use Rattle.normalizer_command.specs.Outcomes.{fault_told, greater, status_of, AreDone, IsDone, State}
-use Rattle.normalizer_command.specs.PreparedFiles.{work_of, IsFaultOfPrepared, IsFileAt, IsFileOf}
+use Rattle.normalizer_prepared.specs.Prepared.{IsFileOf}
+use Rattle.normalizer_command.specs.PreparedFiles.{work_of, IsFaultOfPrepared, IsFileAt}
 use Rattle.normalizer_command.specs.Runs.{IsRun, LacksData, LacksPrepared, RunsByData, RunsByFiles, RunsWithData, RunsWithDirectory, RunsWithFile}
 use Rattle.normalizer_command.specs.UnicodeFiles.{path_of, IsReadFault}
 use Rattle.normalizer_command.specs.inner.Kept.{is_refusal, IsOfData}

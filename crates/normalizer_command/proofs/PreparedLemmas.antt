@@ -17,16 +17,16 @@ use Rattle.icu_normalizer.specs.Uts46.{MapperData}
 use Rattle.icu_normalizer.specs.declared.any_normalizer.AnyNormalizer.{AnyNormalizer}
 use Rattle.icu_normalizer.specs.declared.any_normalizer.NormalForm.{NormalForm}
 use Rattle.icu_normalizer.proofs.PackedForms.{packed_form-made, packed_form-recorded, packed-maps}
-use Rattle.normalizer_prepared.specs.Files.{file_at, IsFirstFault}
+use Rattle.normalizer_prepared.specs.Files.{IsFirstFault}
 use Rattle.normalizer_prepared.specs.declared.fault.PreparedError.{PreparedError}
 use Rattle.normalizer_prepared.specs.declared.fault.PreparedError.TheVariants as prepared_error
-use Rattle.normalizer_prepared.proofs.decoding.Fields.{ok_is}
-use Rattle.normalizer_prepared.proofs.decoding.FileLaws.{file_again}
+use Rattle.normalizer_prepared.proofs.SameFile.{same_data, unread}
 use Rattle.normalizer_command.specs.Making.{making_by, mapping_by, mapping_of, Makes, Maps}
 use Rattle.normalizer_command.specs.declared.worker.Command.{Command}
 use Rattle.normalizer_command.specs.declared.worker.Command.TheVariants as command
 use Rattle.normalizer_command.proofs.MakingLemmas.{makes-ok, maps-recorded}
-use Rattle.normalizer_command.specs.PreparedFiles.{fault_of_data, fault_of_prepared, held_by, making_of, mapper_data_in, IsFaultOfData, IsFaultOfPrepared, IsFileOf, LacksMapper, RefusesWork}
+use Rattle.normalizer_prepared.specs.Prepared.{IsFileOf}
+use Rattle.normalizer_command.specs.PreparedFiles.{fault_of_data, fault_of_prepared, held_by, making_of, mapper_data_in, IsFaultOfData, IsFaultOfPrepared, LacksMapper, RefusesWork}
 use Rattle.normalizer_command.specs.declared.fault.Fault.{Fault}
 use Rattle.normalizer_command.specs.declared.fault.Fault.TheVariants.{Memory}
 
@@ -78,11 +78,6 @@ module _ (p : Packed) where
   maps-built-ok (Ok m) held records uts46 builds = maps-built records uts46 builds (mapper_data_of m) held.0
   maps-built-ok (Err e) held records uts46 builds = tt
 
--- bytes are the file of one data
-same_data : (bytes : List ℕ) (p q : Packed) → IsFileOf bytes p → IsFileOf bytes q → p ≡ q
-same_data bytes p q hp hq =
-    ok_is p q (sym (ap file_at hp.1 ∙ file_again p hp.0) ∙ (ap file_at hq.1 ∙ file_again q hq.0))
-
 -- the file of data that no constructor refuses
 module _ (p : Packed) (bytes : List ℕ) (file : IsFileOf bytes p)
     (forms_never : (form : NormalForm) (e : DataError) → ¬ RefusesForm form (held_by p) e)
@@ -95,9 +90,7 @@ module _ (p : Packed) (bytes : List ℕ) (file : IsFileOf bytes p)
   right : (e : PreparedError) → IsFirstFault bytes e → e ≡ prepared_error.Memory
   right prepared_error.Memory h = refl
   right (prepared_error.Wrong fault offset) h =
-      let read : file_at bytes ≡ Ok p = ap file_at file.1 ∙ file_again p file.0 in
-      let wrong : file_at bytes ≡ Err (fault, h.0) = h.1 in
-      absurd cc
+      absurd (unread bytes p file fault h.0 h.1)
 
   of_data : (command : Command) → ¬ LacksMapper command p → (fault : Fault) → IsFaultOfData command p fault → fault ≡ Memory
   of_data command suits fault h = elim h [

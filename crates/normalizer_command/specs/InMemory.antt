@@ -16,7 +16,8 @@ use Rattle.normalizer_command.specs.Listings.{listed}
 use Rattle.normalizer_command.specs.declared.listing.Listing.{Listing}
 use Rattle.normalizer_command.specs.FileReports.{Report}
 use Rattle.normalizer_command.specs.Outcomes.{fault_told, greater, status_of}
-use Rattle.normalizer_command.specs.PreparedFiles.{work_of, IsFaultOfPrepared, IsFileOf, LacksMapper}
+use Rattle.normalizer_prepared.specs.Prepared.{IsFileOf}
+use Rattle.normalizer_command.specs.PreparedFiles.{work_of, IsFaultOfPrepared, LacksMapper}
 use Rattle.normalizer_command.specs.UnicodeFiles.{AreFiles, AreRecorded, IsFaultOf, NeedsFile, path_of}
 use Rattle.normalizer_command.specs.declared.fault.Fault.{Fault}
 use Rattle.normalizer_command.specs.declared.fault.Fault.TheVariants.{Memory, Open}

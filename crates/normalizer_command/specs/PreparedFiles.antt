@@ -11,7 +11,7 @@ use Rattle.icu_normalizer.specs.ReadBack.{characters_of}
 use Rattle.icu_normalizer.specs.Uts46.{MapperData}
 use Rattle.icu_normalizer.specs.declared.any_normalizer.NormalForm.{NormalForm}
 use Rattle.normalizer_prepared.specs.Files.{IsFirstFault}
-use Rattle.normalizer_prepared.specs.Prepared.{prepared_bytes, Fits}
+use Rattle.normalizer_prepared.specs.Prepared.{IsFileOf}
 use Rattle.normalizer_prepared.specs.declared.fault.PreparedError.{PreparedError}
 use Rattle.normalizer_prepared.specs.declared.fault.PreparedError.TheVariants as prepared_error
 use Rattle.normalizer_command.specs.declared.worker.Command.{Command}
@@ -23,10 +23,6 @@ use Rattle.normalizer_command.specs.FileFaults.{IsFileFault}
 use Rattle.normalizer_command.specs.declared.fault.Fault.{Fault}
 use Rattle.normalizer_command.specs.declared.fault.Fault.TheVariants.{Memory, Prepared}
 use Rattle.normalizer_command.specs.declared.fault.PreparedFault.TheVariants.{Wrong, Unfit, NoMapper}
-
--- the bytes are the file of these data
-abbrev pub IsFileOf : List ℕ → Packed → Type 0
-IsFileOf bytes p = Fits p × (bytes ≡ prepared_bytes p)
 
 -- a normal form by data
 abbrev pub making_of : Packed → NormalForm → Making

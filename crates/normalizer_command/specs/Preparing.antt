@@ -1,5 +1,7 @@
 -- The prepared data of a directory.
-use Rattle.std.specs.Prelude.{◌⊎◌, ℕ, List, Option, Some, None, ⊤}
+use Rattle.std.specs.Prelude.{◌≡◌, ◌⊎◌, ℕ, List, Ok, Option, Some, None, ⊤}
+use Rattle.std.specs.Option.{option_map}
+use Rattle.std.specs.Prelude.{unwrap_or}
 use Rattle.std.specs.declared.io.ErrorKind.{ErrorKind}
 use Rattle.std.specs.declared.io.ErrorKind.TheVariants.{NotFound}
 use Rattle.icu_normalizer.specs.Packed.{Packed}
@@ -8,9 +10,14 @@ use Rattle.normalizer_ucd.specs.declared.error.UcdFile.{UcdFile}
 use Rattle.normalizer_ucd.specs.declared.error.UcdFile.TheVariants.{UnicodeData, CompositionExclusions, IdnaMappingTable}
 use Rattle.normalizer_command.specs.FileFaults.{IsFileFault}
 use Rattle.normalizer_command.specs.FileReports.{Report, Tells}
-use Rattle.normalizer_command.specs.PreparedFiles.{IsFileOf}
+use Rattle.normalizer_prepared.specs.Files.{held_in, holding}
+use Rattle.normalizer_ucd.specs.Versions.{stated_version}
 use Rattle.normalizer_command.specs.UnicodeFiles.{path_of, AreBuiltOf, IsFaultOf, IsFile}
 use Rattle.normalizer_command.specs.declared.fault.Fault.{Fault}
+
+-- the version of Unicode that the exclusions state, or 0.0.0
+abbrev pub version_of : (exclusions : List ℕ) → ℕ × ℕ × ℕ
+version_of exclusions = unwrap_or (option_map (λ v. (v.major, v.minor, v.update)) (stated_version exclusions)) (0, 0, 0)
 
 module _ (bytes_of : List ℕ → Option (List ℕ)) (can_open : List ℕ → Type 0) (cannot_open : List ℕ → ErrorKind → Type 0) where
   -- the table of a directory, or it has none
@@ -33,7 +40,7 @@ module _ (bytes_of : List ℕ → Option (List ℕ)) (can_open : List ℕ → Ty
     pub uts46 : List Uts46RecordValue
     pub data_built : Packed
     pub built : AreBuiltOf unicode_data exclusions table records uts46 data_built
-    pub prepared : IsFileOf file data_built
+    pub prepared : held_in file ≡ Ok (holding data_built (version_of exclusions))
 
   module _ (read_refused : List ℕ → Type 0) where
     -- why there is none: this file of the directory can't be read, or the bytes of the files make no data

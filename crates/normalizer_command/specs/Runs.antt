@@ -8,7 +8,8 @@ use Rattle.normalizer_command.specs.declared.fault.Fault.{Fault}
 use Rattle.normalizer_command.specs.declared.listing.Listing.{Listing}
 use Rattle.normalizer_command.specs.declared.worker.Command.{Command}
 use Rattle.normalizer_command.specs.UnicodeFiles.{AreFiles, AreRecorded, IsDataFault, path_of}
-use Rattle.normalizer_command.specs.PreparedFiles.{work_of, IsDirectory, IsFileAt, IsFileOf, IsPreparedFault, LacksMapper}
+use Rattle.normalizer_prepared.specs.Prepared.{IsFileOf}
+use Rattle.normalizer_command.specs.PreparedFiles.{work_of, IsDirectory, IsFileAt, IsPreparedFault, LacksMapper}
 use Rattle.normalizer_command.specs.Devices.{Devices}
 use Rattle.normalizer_command.specs.Outcomes.{AreDone, State}
 use Rattle.normalizer_command.specs.FileReports.{Tells}

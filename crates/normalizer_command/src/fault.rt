@@ -111,7 +111,6 @@ fn words_of(fault: FileFault) -> &'static str
         FileFault::Length => "the file has another length",
         FileFault::Sum => "a sum of the bytes is another",
         FileFault::Short => "the file is cut off",
-        FileFault::Count => "a count is longer than it needs to be",
         FileFault::Runs => "the runs of a table aren't those of all code points",
         FileFault::Scalar => "a number isn't that of a character",
         FileFault::Trailing => "there are more bytes",

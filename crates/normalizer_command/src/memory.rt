@@ -23,7 +23,7 @@ ghost use Rattle.std.specs.declared.io.ErrorKind.TheVariants.{NotFound};
 ghost use Rattle.icu_normalizer.specs.Building.{Builds};
 ghost use Rattle.icu_normalizer.specs.Packed.{Packed};
 ghost use Rattle.icu_normalizer.specs.RecordValue.{RecordValue, Uts46RecordValue};
-ghost use Rattle.normalizer_prepared.specs.Prepared.{prepared_bytes, Fits};
+ghost use Rattle.normalizer_prepared.specs.Prepared.{IsFileOf};
 ghost use Rattle.normalizer_command.specs.Works.{work_by};
 ghost use Rattle.normalizer_command.specs.InMemory.{
   bytes_in,
@@ -98,7 +98,8 @@ pub fn run_in_memory(
 
     // With the file of data that records build, the command is done by what these records mean.
     ensures records { (records : List RecordValue) (uts46 : List Uts46RecordValue) (p : Packed) →
-        Builds records uts46 p → Fits p → bytes_in (files_of files.now) path.now ≡ Some (prepared_bytes p) →
+        Builds records uts46 p → (prepared : List ℕ) → IsFileOf prepared p →
+        bytes_in (files_of files.now) path.now ≡ Some prepared →
         ¬ LacksMapper command p → IfOk result (λ outcome. AreHandled (files_of files.now) listing
         (work_by records uts46 command) (map (λ name. name.now) names.now) (effect_of outcome)) }
 {

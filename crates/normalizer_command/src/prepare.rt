@@ -3,7 +3,14 @@ ghost use Rattle.std.specs.Prelude.{◌≡◌, ⊤, IfErr, IfOk, MatchOption};
 ghost use Rattle.std.specs.Option.{option_map};
 ghost use Rattle.normalizer_command.specs.FileFaults.{IsFileFault};
 ghost use Rattle.normalizer_command.specs.FileReports.{Tells};
-ghost use Rattle.normalizer_command.specs.Preparing.{AreAllFiles, IsPrepareFault, IsPrepared, IsTableIfThere, Refuses};
+ghost use Rattle.normalizer_command.specs.Preparing.{
+  AreAllFiles,
+  IsPrepareFault,
+  IsPrepared,
+  IsTableIfThere,
+  Refuses,
+  version_of,
+};
 ghost use Rattle.normalizer_command.specs.UnicodeFiles.{path_of};
 
 use crate::devices::{Inputs, Reports};
@@ -11,8 +18,8 @@ use crate::fault::Fault;
 use crate::run::tell;
 use crate::unicode_files::{DataFault, DataFiles, built, read_file};
 use normalizer_prepared::prepared_data;
-use normalizer_ucd::UcdFile;
-use std::alloc::Global;
+use normalizer_ucd::{UcdFile, stated_version};
+use std::alloc::{AllocError, Global};
 use std::io::ErrorKind;
 
 /// Returns the file of prepared data of Unicode's files in a directory, with those of its mapping table, if there is one.
@@ -45,12 +52,27 @@ fn prepared<I: Inputs>(alloc: Global, directory: &str, inputs: &I) -> Result<Vec
 {
     let files = read_all_files(alloc, inputs, directory)?;
     let data = built(alloc, &files)?;
-    match prepared_data(alloc, &data) {
+    let Ok(version) = version_of(alloc, &files.exclusions) else {
+        return Err(OUT_OF_MEMORY);
+    };
+    match prepared_data(alloc, &data, version) {
         Ok(file) => Ok(file),
-        Err(_) => Err(DataFault {
-            file: UcdFile::UnicodeData,
-            fault: Fault::Memory,
-        }),
+        Err(_) => Err(OUT_OF_MEMORY),
+    }
+}
+
+const OUT_OF_MEMORY: DataFault = DataFault {
+    file: UcdFile::UnicodeData,
+    fault: Fault::Memory,
+};
+
+/// The version of Unicode that the exclusions state, or 0.0.0.
+fn version_of(alloc: Global, exclusions: &[u8]) -> Result<(u32, u32, u32), AllocError>
+    ensures { IfOk result (λ version. version ≡ version_of exclusions.now) }
+{
+    match stated_version(alloc, exclusions)? {
+        Some(version) => Ok((version.major, version.minor, version.update)),
+        None => Ok((0, 0, 0)),
     }
 }
 

@@ -80,7 +80,7 @@ fn normalizer_by(read: &PreparedData, form: NormalForm) -> Result<AnyNormalizer,
     ensures refused { IfErr result (λ e. (e ≡ DataError.Memory)
         ⊎ RefusesForm form (held_by (prepared_in read.now)) e) }
 {
-    read.normalizer(form)
+    read.built.normalizer(form)
 }
 
 /// The mapper using data, and so by the records that build them.
@@ -92,5 +92,5 @@ fn mapper_by(read: &PreparedData) -> Result<Uts46Mapper, DataError>
     ensures refused { IfErr result (λ e. (e ≡ DataError.Memory)
         ⊎ RefusesMapper (Ok (mapper_data_in (prepared_in read.now))) e) }
 {
-    read.mapper()
+    read.built.mapper()
 }

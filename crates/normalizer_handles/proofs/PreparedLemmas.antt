@@ -14,20 +14,14 @@ use Rattle.icu_normalizer.specs.RecordValue.{RecordValue, Uts46RecordValue}
 use Rattle.icu_normalizer.specs.declared.any_normalizer.NormalForm.{NormalForm}
 use Rattle.icu_normalizer.specs.declared.uts46.Uts46Mapper.{Uts46Mapper}
 use Rattle.icu_normalizer.proofs.PackedForms.{packed_form-recorded, packed-maps}
-use Rattle.normalizer_prepared.specs.Files.{file_at}
-use Rattle.normalizer_prepared.proofs.decoding.Fields.{ok_is}
-use Rattle.normalizer_prepared.proofs.decoding.FileLaws.{file_again}
+use Rattle.normalizer_prepared.proofs.SameFile.{same_data, unread}
 use Rattle.normalizer_handles.specs.declared.fault.Fault.{Fault}
 use Rattle.normalizer_handles.specs.declared.fault.Fault.TheVariants as faults
 use Rattle.normalizer_handles.specs.declared.normalizers.Normalizers.{Normalizers}
 use Rattle.normalizer_handles.specs.Made.{AreReadBy, MakeOver, MapOver}
 use Rattle.normalizer_handles.specs.Opening.{Holds, OpensTo}
-use Rattle.normalizer_handles.specs.Prepared.{forms, held_by, AreOfFile, IsFaultOfFile, IsFileOf, Refuses}
-
--- bytes are the file of one data
-same_data : (bytes : List ℕ) (p q : Packed) → IsFileOf bytes p → IsFileOf bytes q → p ≡ q
-same_data bytes p q hp hq =
-    ok_is p q (sym (ap file_at hp.1 ∙ file_again p hp.0) ∙ (ap file_at hq.1 ∙ file_again q hq.0))
+use Rattle.normalizer_prepared.specs.Prepared.{IsFileOf}
+use Rattle.normalizer_handles.specs.Prepared.{forms, held_by, AreOfFile, IsFaultOfFile, Refuses}
 
 module _ (records : List RecordValue) (mapper : List Uts46RecordValue) (p : Packed) (builds : Builds records mapper p)
     (bytes : List ℕ) (file : IsFileOf bytes p) where
@@ -60,9 +54,7 @@ module _ (records : List RecordValue) (mapper : List Uts46RecordValue) (p : Pack
     memory-only : (fault : Fault) → IsFaultOfFile bytes fault → fault ≡ faults.Memory
     memory-only faults.Memory h = refl
     memory-only (faults.Prepared f offset) h =
-        let read : file_at bytes ≡ Ok p = ap file_at file.1 ∙ file_again p file.0 in
-        let wrong : file_at bytes ≡ Err (f, h.0) = h.1 in
-        absurd cc
+        absurd (unread bytes p file f h.0 h.1)
     memory-only (faults.Unfit condition) h =
         let same : h.0 ≡ p = same_data bytes h.0 p h.2 file in
         absurd (unrefused h.1 (subst (λ (q : Packed). Refuses q h.1) same h.3))

@@ -16,7 +16,8 @@ use Rattle.icu_normalizer.specs.ReadBack.{characters_of}
 use Rattle.icu_normalizer.specs.declared.any_normalizer.NormalForm.{NormalForm}
 use Rattle.icu_normalizer.specs.declared.any_normalizer.NormalForm.TheVariants.{Nfd, Nfc, Nfkd, Nfkc}
 use Rattle.icu_normalizer.proofs.acceptance.AllForms.{composing-refuses, DecomposesBy-composing}
-use Rattle.normalizer_handles.specs.Prepared.{forms, held_by, IsFaultOfFile, IsFileOf, Refuses}
+use Rattle.normalizer_prepared.specs.Prepared.{IsFileOf}
+use Rattle.normalizer_handles.specs.Prepared.{forms, held_by, IsFaultOfFile, Refuses}
 use Rattle.normalizer_handles.specs.Status.{fault_of_data}
 
 module _ (p : Packed) (e : DataError) where

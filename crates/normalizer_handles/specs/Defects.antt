@@ -58,7 +58,6 @@ number_of_fault file_fault.Version = 26
 number_of_fault file_fault.Length = 27
 number_of_fault file_fault.Sum = 28
 number_of_fault file_fault.Short = 29
-number_of_fault file_fault.Count = 30
 number_of_fault file_fault.Runs = 31
 number_of_fault file_fault.Scalar = 32
 number_of_fault file_fault.Trailing = 33

@@ -8,17 +8,13 @@ use Rattle.icu_normalizer.specs.ReadBack.{characters_of}
 use Rattle.icu_normalizer.specs.declared.any_normalizer.NormalForm.{NormalForm}
 use Rattle.icu_normalizer.specs.declared.any_normalizer.NormalForm.TheVariants.{Nfd, Nfc, Nfkd, Nfkc}
 use Rattle.normalizer_prepared.specs.Files.{IsFirstFault}
-use Rattle.normalizer_prepared.specs.Prepared.{prepared_bytes, Fits}
+use Rattle.normalizer_prepared.specs.Prepared.{IsFileOf}
 use Rattle.normalizer_prepared.specs.declared.fault.PreparedError.TheVariants.{Wrong}
 use Rattle.normalizer_handles.specs.declared.fault.Fault.{Fault}
 use Rattle.normalizer_handles.specs.declared.fault.Fault.TheVariants.{Memory, Prepared, Unfit}
 use Rattle.normalizer_handles.specs.declared.normalizers.Normalizers.{Normalizers}
 use Rattle.normalizer_handles.specs.Made.{MakeOver, MapOver}
 use Rattle.normalizer_handles.specs.Status.{fault_of_data}
-
--- the bytes are the file of these data
-abbrev pub IsFileOf : List ℕ → Packed → Type 0
-IsFileOf bytes p = Fits p × (bytes ≡ prepared_bytes p)
 
 -- the normalizers are by the data whose file the bytes are
 abbrev pub AreOfFile : List ℕ → Normalizers → Type 0

@@ -96,7 +96,6 @@ fn number_of_fault(fault: FileFault) -> u32
         FileFault::Length => 27,
         FileFault::Sum => 28,
         FileFault::Short => 29,
-        FileFault::Count => 30,
         FileFault::Runs => 31,
         FileFault::Scalar => 32,
         FileFault::Trailing => 33,

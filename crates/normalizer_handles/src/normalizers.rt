@@ -66,7 +66,7 @@ impl Normalizers {
         ensures refused { IfErr result (λ e. (e ≡ DataError.Memory) ⊎ Refuses (prepared_in prepared.now) e) }
     {
         Ok(Normalizers {
-            forms: prepared.normalizers()?,
+            forms: prepared.built.normalizers()?,
             mapper: prepared_mapper(prepared)?,
         })
     }
@@ -114,5 +114,5 @@ fn prepared_mapper(prepared: &PreparedData) -> Result<Option<Uts46Mapper>, DataE
     if prepared.has_canonical_mapper() {
         return Ok(None);
     }
-    Ok(Some(prepared.mapper()?))
+    Ok(Some(prepared.built.mapper()?))
 }

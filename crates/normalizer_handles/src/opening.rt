@@ -22,7 +22,8 @@ ghost use Rattle.normalizer_handles.specs.Opening.{
   Reads,
 };
 ghost use Rattle.normalizer_handles.specs.PlainRecords.{entries_of, mapper_entries_of};
-ghost use Rattle.normalizer_handles.specs.Prepared.{AreOfFile, IsFaultOfFile, IsFileOf};
+ghost use Rattle.normalizer_handles.specs.Prepared.{AreOfFile, IsFaultOfFile};
+ghost use Rattle.normalizer_prepared.specs.Prepared.{IsFileOf};
 ghost use Rattle.normalizer_handles.specs.declared.fault.Fault.TheVariants.{Memory};
 
 use crate::fault::{Fault, RecordsFault};

@@ -1,1 +1,4 @@
-pub mod decoding
+pub mod Loops
+pub mod RunRanges
+pub mod SameData
+pub mod SameFile

@@ -1,4 +1,3 @@
-pub mod Bytes
 pub mod Files
 pub mod Prepared
 pub mod Reading

@@ -1,16 +1,15 @@
 -- Reading from left to right: a value and the bytes after it, or the first fault that is met.
-use Rattle.std.specs.Prelude.{◌≡◌, ℕ, zero, suc, ◌+◌, ◌*◌, ◌==◌, nat_lt, List, [], ◌∷◌, length, Result, Ok, Err}
-use Rattle.std.specs.Prelude.{Option, Some, None, if◌then◌else◌}
+use Rattle.std.specs.Prelude.{◌≡◌, ℕ, zero, suc, ◌+◌, ◌*◌, ◌==◌, List, [], ◌∷◌, length, Result, Ok, Err}
+use Rattle.std.specs.Prelude.{if◌then◌else◌}
 use lib.Utf8.{scalar}
 use Rattle.normalizer_tables.specs.Table.{Table, code_points}
 use Rattle.normalizer_tables.specs.Pairs.{Pair}
 use Rattle.normalizer_tables.specs.Data.{Decompositions, Lists, Supplement}
 use Rattle.normalizer_prepared.specs.declared.fault.Fault.{Fault}
-use Rattle.normalizer_prepared.specs.declared.fault.Fault.TheVariants.{Short, Count, Runs, Scalar}
+use Rattle.normalizer_prepared.specs.declared.fault.Fault.TheVariants.{Short, Runs, Scalar}
 use Rattle.normalizer_prepared.specs.declared.fault.ReadError.{ReadError}
 use Rattle.normalizer_prepared.specs.declared.fault.ReadError.TheVariants as errors
-use Rattle.normalizer_prepared.specs.declared.run.Run.{Run}
-use Rattle.normalizer_prepared.specs.Runs.{run, words_of, is_next}
+use Rattle.normalizer_prepared.specs.Runs.{Run, words_of}
 
 -- what is wrong, and how many bytes are left there
 abbrev pub Wrong : Type 0
@@ -73,48 +72,22 @@ pair_at bytes = do
   result ← scalar_at first.1
   Ok ((second.0, first.0, result.0), result.1)
 
--- a count that one byte has no room for
-unfoldable pub long_count_at : List ℕ → Read ℕ
-long_count_at bytes = do
-  n ← number_at 3 bytes
-  if nat_lt n.0 256 then Err (Count, length bytes) else Ok n
-
-unfoldable pub count_at : List ℕ → Read ℕ
-count_at bytes = do
-  n ← byte_at bytes
-  if n.0 == 0 then long_count_at n.1 else Ok n
-
+-- the size of a run, and the word of its code points
 unfoldable pub run_at : List ℕ → Read Run
 run_at bytes = do
-  count ← count_at bytes
-  word ← number_at 4 count.1
-  Ok (run count.0 word.0, word.1)
+  size ← byte_at bytes
+  word ← number_at 4 size.1
+  Ok ((size.0, word.0), word.1)
 
--- a run that goes on from this code point, after a run of this word
-unfoldable pub next_run_at : ℕ → Option ℕ → List ℕ → Read Run
-next_run_at n before bytes = do
-  r ← run_at bytes
-  if is_next n before r.0 then Ok r else Err (Runs, length bytes)
+abbrev pub table : List Run → ℕ → Table
+table runs past = record { words = words_of runs; past = past }
 
--- this many runs, each of which goes on after the one before it, up to the last code point
-unfoldable pub runs_from : ℕ → Option ℕ → ℕ → List ℕ → Read (List Run)
-runs_from n before zero bytes = if n == code_points then Ok ([], bytes) else Err (Runs, length bytes)
-runs_from n before (suc count) bytes = do
-  first ← next_run_at n before bytes
-  others ← runs_from (n + first.0.count) (Some first.0.word) count first.1
-  Ok (first.0 ∷ others.0, others.1)
-
--- the runs of all code points, and the bytes after them
-unfoldable pub runs_at : List ℕ → Read (List Run)
-runs_at bytes = do
-  count ← number_at 4 bytes
-  runs_from 0 None count.0 count.1
-
+-- the words of runs, which must be those of all code points, and the word of all numbers above
 unfoldable pub table_at : List ℕ → Read Table
 table_at bytes = do
-  rs ← runs_at bytes
-  past ← number_at 4 rs.1
-  Ok (record { words = words_of rs.0; past = past.0 }, past.1)
+  runs ← list_at run_at bytes
+  past ← number_at 4 runs.1
+  if length (words_of runs.0) == code_points then Ok (table runs.0 past.0, past.1) else Err (Runs, length bytes)
 
 unfoldable pub decompositions_at : List ℕ → Read Decompositions
 decompositions_at bytes = do

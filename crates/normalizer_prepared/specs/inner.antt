@@ -1,4 +1,2 @@
 -- What the contracts of private functions alone cite.
-pub mod Own
-pub mod Ranges
-pub mod Typed
+pub mod Same

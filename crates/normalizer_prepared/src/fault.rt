@@ -23,10 +23,7 @@ pub enum Fault {
     /// A byte is missing.
     #[error("the file is cut off")]
     Short,
-    /// A count is in three bytes, but one has room for it.
-    #[error("a count is longer than it needs to be")]
-    Count,
-    /// The runs of a table aren't those of all code points, or two have the same word.
+    /// The runs of a table aren't those of all code points.
     #[error("the runs of a table aren't those of all code points")]
     Runs,
     /// A number isn't that of a character.

@@ -4,23 +4,20 @@
 mod fault;
 mod items;
 mod numbers;
-mod prepare;
-mod provider;
 mod reading;
-mod run;
 mod sums;
 mod tables;
 mod writing;
 
 pub use fault::{Fault, PreparedError};
-pub use prepare::prepared_data;
-pub use provider::PreparedData;
+pub use reading::PreparedData;
+pub use writing::prepared_data;
 
 /// The letters NORM, as the number that begins a file.
 const MAGIC: u32 = 0x4D52_4F4E;
 
 /// The version of the format.
-const VERSION: u32 = 1;
+const VERSION: u32 = 2;
 
-/// How many bytes are before the data.
+/// How many bytes are before what the sums are of.
 const HEADER_LENGTH: usize = 20;

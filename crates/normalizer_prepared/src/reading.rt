@@ -1,36 +1,54 @@
 //! Files of prepared data, as they are read.
-ghost use Rattle.std.specs.Prelude.{◌≡◌, IfErr, IfOk, IsOkUnless, drop, unwrap_or};
-ghost use Rattle.normalizer_packing.specs.declared.Packed.{Packed};
-ghost use Rattle.normalizer_prepared.specs.Bytes.{sums};
-ghost use Rattle.normalizer_prepared.specs.Files.{data_at, error_for, file_at, fixed_at, header_at, IsFirstFault};
-ghost use Rattle.normalizer_prepared.specs.Prepared.{header_length, prepared_bytes, prepared_in, Fits};
-ghost use Rattle.normalizer_prepared.specs.Reading.{decompositions_at, list_at, pair_at, Gives};
-ghost use Rattle.normalizer_prepared.specs.inner.Own.{IsOwn};
+ghost use Rattle.std.specs.Prelude.{◌≡◌, ◌↔◌, IfErr, IfOk, IsOkUnless, IsTrue, Ok, drop};
+ghost use Rattle.normalizer_prepared.specs.Files.{
+  data_at,
+  error_for,
+  fixed_at,
+  header_at,
+  header_length,
+  held_in,
+  mapper_at,
+  sums,
+  version_at,
+  IsFirstFault,
+};
+ghost use Rattle.normalizer_prepared.specs.Prepared.{prepared_in};
+ghost use Rattle.normalizer_prepared.specs.Reading.{Gives};
+ghost use Rattle.normalizer_prepared.specs.declared.reading.PreparedData.{PreparedData};
 
 use crate::fault::{Fault, PreparedError, ReadError};
-use crate::items::list_at;
-use crate::numbers::u32_at;
-use crate::provider::PreparedData;
+use crate::numbers::{u8_at, u32_at};
 use crate::sums::sums;
-use crate::tables::{decompositions_at, lists_at, supplement_at};
+use crate::tables::{compositions_at, decompositions_at, lists_at, supplement_at};
 use crate::{HEADER_LENGTH, MAGIC, VERSION};
-use normalizer_tables::{CanonicalCompositions, DecompositionData};
+use normalizer_builder::Built;
+use normalizer_packing::Packed;
+use normalizer_tables::DecompositionData;
 use std::alloc::Global;
 
+/// What a file of prepared data holds. [`PreparedData::read`] makes it.
+#[derive(Drop)]
+pub struct PreparedData {
+    /// The data: a provider for all seven markers.
+    pub built: Built,
+    /// The version of Unicode that they are of, or 0.0.0 if none was stated.
+    pub version: (u32, u32, u32),
+}
+
 impl PreparedData {
-    /// Reads a file of prepared data. Each byte of it is checked: the data are those whose file it is.
+    /// Reads a file of prepared data: what its bytes hold, or their first fault.
     ///
     /// Constructors check what the data say, as they check any provider's.
     ///
     /// # Errors
     /// The first fault with its offset, or `Memory` if an allocation failed.
     pub fn read(alloc: Global, bytes: &[u8]) -> Result<PreparedData, PreparedError>
-        // What is read has these bytes.
-        ensures found { IfOk result (λ d. Fits (prepared_in d) × (bytes.now ≡ prepared_bytes (prepared_in d))) }
+        // What is read is what the bytes hold.
+        ensures found { IfOk result (λ d. held_in bytes.now ≡ Ok d) }
 
-        // What has these bytes is read, unless memory ran out.
-        ensures only { (p : Packed) → Fits p → bytes.now ≡ prepared_bytes p →
-            IfOk result (λ d. prepared_in d ≡ p) × IsOkUnless result PreparedError.Memory }
+        // What the bytes hold is read, unless memory ran out.
+        ensures only { (d : PreparedData) → held_in bytes.now ≡ Ok d →
+            IfOk result (λ e. e ≡ d) × IsOkUnless result PreparedError.Memory }
 
         // Which fault it is, and where.
         ensures fault { IfErr result (IsFirstFault bytes.now) }
@@ -39,6 +57,13 @@ impl PreparedData {
             Ok(data) => Ok(data),
             Err(error) => Err(error_for(bytes.len(), error)),
         }
+    }
+
+    /// Returns whether the mapper's data are the canonical ones. A mapper over them maps a text to its NFC.
+    pub fn has_canonical_mapper(&self) -> bool
+        ensures { IsTrue result ↔ ((prepared_in self.now).mapper ≡ (prepared_in self.now).canonical) }
+    {
+        self.built.packed.mapper == self.built.packed.canonical
     }
 }
 
@@ -55,17 +80,21 @@ fn error_for(length: usize, error: ReadError) -> PreparedError
     }
 }
 
-/// The data in a file.
-#[tactic(auto, unfolding(crate::specs::Files::file_at))]
+/// What a file holds.
+#[tactic(auto, unfolding(crate::specs::Files::held_in))]
 fn data_in(alloc: Global, bytes: &[u8]) -> Result<PreparedData, ReadError>
-    ensures { Gives prepared_in result (file_at bytes.now) }
+    ensures { Gives (λ d. d) result (held_in bytes.now) }
 {
     let rest = header_at(bytes)?;
-    let (data, rest) = data_at(alloc, rest)?;
+    let (version, rest) = version_at(rest)?;
+    let (packed, rest) = data_at(alloc, rest)?;
     if !rest.is_empty() {
         return Err(ReadError::Wrong(Fault::Trailing, rest.len()));
     }
-    Ok(data)
+    Ok(PreparedData {
+        built: Built { packed },
+        version,
+    })
 }
 
 /// The bytes after the header.
@@ -103,19 +132,30 @@ fn fixed_at(fault: Fault, wanted: usize, bytes: &[u8]) -> Result<&[u8], ReadErro
     Ok(rest)
 }
 
+/// The version of Unicode.
+#[tactic(auto, unfolding(crate::specs::Files::version_at))]
+fn version_at(bytes: &[u8]) -> Result<((u32, u32, u32), &[u8]), ReadError>
+    ensures { Gives (λ x. (x.0, x.1.now)) result (version_at bytes.now) }
+{
+    let (major, rest) = u32_at(bytes)?;
+    let (minor, rest) = u32_at(rest)?;
+    let (update, rest) = u32_at(rest)?;
+    Ok(((major, minor, update), rest))
+}
+
 /// The data of all markers.
 #[tactic(auto, unfolding(crate::specs::Files::data_at))]
-fn data_at(alloc: Global, bytes: &[u8]) -> Result<(PreparedData, &[u8]), ReadError>
-    ensures { Gives (λ x. (prepared_in x.0, x.1.now)) result (data_at bytes.now) }
+fn data_at(alloc: Global, bytes: &[u8]) -> Result<(Packed, &[u8]), ReadError>
+    ensures { Gives (λ x. (x.0, x.1.now)) result (data_at bytes.now) }
 {
-    let (canonical, own, rest) = canonical_at(alloc, bytes)?;
+    let (canonical, rest) = decompositions_at(alloc, bytes)?;
     let (compatibility, rest) = decompositions_at(alloc, rest)?;
-    let (mapper, rest) = mapper_at(alloc, &canonical, own, rest)?;
+    let (mapper, rest) = mapper_at(alloc, &canonical, rest)?;
     let (tables, rest) = lists_at(alloc, rest)?;
     let (supplementary_tables, rest) = lists_at(alloc, rest)?;
     let (compositions, rest) = compositions_at(alloc, rest)?;
     let (supplement, rest) = supplement_at(alloc, rest)?;
-    let data = PreparedData {
+    let data = Packed {
         canonical,
         compatibility,
         mapper,
@@ -127,40 +167,18 @@ fn data_at(alloc: Global, bytes: &[u8]) -> Result<(PreparedData, &[u8]), ReadErr
     Ok((data, rest))
 }
 
-/// The canonical data, and their bytes.
-fn canonical_at(alloc: Global, bytes: &[u8]) -> Result<(DecompositionData, &[u8], &[u8]), ReadError>
-    ensures read { Gives (λ x. (x.0, x.2.now)) result (decompositions_at bytes.now) }
-    ensures own { IfOk result (λ x. IsOwn x.0 x.1.now) }
-{
-    let (canonical, rest) = decompositions_at(alloc, bytes)?;
-    let (own, _) = bytes.split_at(bytes.len().saturating_sub(rest.len()));
-    Ok((canonical, own, rest))
-}
-
-/// The mapper's data, unless they have the bytes of the canonical ones.
+/// The mapper's data, if a flag says that they are its own; otherwise the canonical ones.
+#[tactic(auto, unfolding(crate::specs::Files::mapper_at))]
 fn mapper_at<'a>(
     alloc: Global,
     canonical: &DecompositionData,
-    own: &[u8],
     bytes: &'a [u8],
-) -> Result<(Option<DecompositionData>, &'a [u8]), ReadError>
-    requires { IsOwn canonical.now own.now }
-    ensures { Gives (λ x. (unwrap_or x.0 canonical.now, x.1.now)) result (decompositions_at bytes.now) }
+) -> Result<(DecompositionData, &'a [u8]), ReadError>
+    ensures { Gives (λ x. (x.0, x.1.now)) result (mapper_at canonical.now bytes.now) }
 {
-    if let Some(rest) = bytes.strip_prefix(own) {
-        return Ok((None, rest));
+    let (flag, rest) = u8_at(bytes)?;
+    if flag == 0 {
+        return Ok((canonical.clone()?, rest));
     }
-    let (mapper, rest) = decompositions_at(alloc, bytes)?;
-    Ok((Some(mapper), rest))
-}
-
-/// The composing pairs.
-fn compositions_at(alloc: Global, bytes: &[u8]) -> Result<(CanonicalCompositions, &[u8]), ReadError>
-    ensures { Gives (λ x. (x.0, x.1.now)) result (list_at pair_at bytes.now) }
-{
-    let (pairs, rest) = list_at::<(char, char, char)>(alloc, bytes)?;
-    match CanonicalCompositions::from_pairs(pairs) {
-        Ok(compositions) => Ok((compositions, rest)),
-        Err(_) => Err(ReadError::Memory),
-    }
+    decompositions_at(alloc, rest)
 }

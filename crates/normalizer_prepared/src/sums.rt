@@ -1,9 +1,9 @@
 //! The sums of bytes that a file has.
 ghost use Rattle.std.specs.Prelude.{◌≡◌};
-ghost use Rattle.normalizer_prepared.specs.Bytes.{sums};
+ghost use Rattle.normalizer_prepared.specs.Files.{sums};
 
 /// The sum of bytes, and the sum of the sums of all their beginnings, modulo 2^32.
-#[tactic(auto, unfolding(crate::specs::Bytes::sums))]
+#[tactic(auto, unfolding(crate::specs::Files::sums))]
 pub(crate) fn sums(bytes: &[u8]) -> (u32, u32)
     ensures { result ≡ sums bytes.now }
 {

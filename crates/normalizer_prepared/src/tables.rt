@@ -1,116 +1,75 @@
-//! Tables of words, as they are read.
-ghost use Rattle.std.specs.Prelude.{◌≡◌, ◌+◌, ◌<◌, ◌≤◌, [], None, IfOk, IsTrue, MatchResult};
+//! Tables and lists, as they are read.
+ghost use Rattle.std.specs.Prelude.{◌≡◌, ◌≢◌, ◌<◌, ◌≤◌, length, IfOk, MatchOption};
 ghost use Rattle.normalizer_tables.specs.Table.{code_points};
 ghost use Rattle.normalizer_prepared.specs.Reading.{
   decompositions_at,
+  list_at,
   lists_at,
-  next_run_at,
-  runs_at,
-  runs_from,
+  pair_at,
   supplement_at,
   table_at,
-  Fails,
   Gives,
 };
-ghost use Rattle.normalizer_prepared.specs.Runs.{is_next, is_other};
-ghost use Rattle.normalizer_prepared.specs.inner.Ranges.{with_ranges, IsReadOf};
+ghost use Rattle.normalizer_prepared.specs.Runs.{ranges_from, run_size, words_of};
 
 use crate::fault::{Fault, ReadError};
-use crate::items::{Item, list_at};
+use crate::items::list_at;
 use crate::numbers::{u16_at, u32_at};
-use crate::run::Run;
 use normalizer_tables::characters::CODE_POINTS;
 use normalizer_tables::{
-    CodePointTable, DecompositionData, DecompositionTables, NonRecursiveDecompositionSupplement,
-    Scalars16, Scalars24, TableError,
+    CanonicalCompositions, CodePointTable, DecompositionData, DecompositionTables,
+    NonRecursiveDecompositionSupplement, Scalars16, Scalars24, TableError,
 };
-use std::alloc::Global;
+use std::alloc::{AllocError, Global};
 
 /// A table of words.
-#[tactic(auto, using(crate::proofs::decoding::RunRanges::table_rules), unfolding(crate::specs::Reading::table_at))]
+#[tactic(auto, using(crate::proofs::RunRanges::table_rules), unfolding(crate::specs::Reading::table_at))]
 fn table_at(alloc: Global, bytes: &[u8]) -> Result<(CodePointTable, &[u8]), ReadError>
     ensures { Gives (λ x. (x.0, x.1.now)) result (table_at bytes.now) }
 {
-    let (ranges, rest) = ranges_at(alloc, bytes)?;
+    let (runs, rest) = list_at::<(u8, u32)>(alloc, bytes)?;
     let (past, rest) = u32_at(rest)?;
+    let Some(ranges) = ranges_of(alloc, &runs)? else {
+        return Err(ReadError::Wrong(Fault::Runs, bytes.len()));
+    };
     match CodePointTable::from_ranges(ranges, past) {
-        // The copy has no spare room, which the tables of a handle would lie beside.
-        Ok(table) => Ok((table.clone()?, rest)),
+        Ok(table) => Ok((table, rest)),
         Err(TableError::Memory) => Err(ReadError::Memory),
         Err(TableError::Ranges) => unreachable!(),
     }
 }
 
-/// The ranges of the runs of all code points.
-#[tactic(auto, using(crate::proofs::decoding::RunReading::read_rules), unfolding(crate::specs::Reading::runs_at))]
-fn ranges_at(alloc: Global, bytes: &[u8]) -> Result<(Vec<(u32, u32, u32)>, &[u8]), ReadError>
-    ensures { let read = runs_at bytes.now in
-        MatchResult result (λ x. IsReadOf x.0.items x.1.now read) (λ e. Fails e read) }
-{
-    let (count, rest) = u32_at(bytes)?;
-    let (ranges, rest) = ranges_of(alloc, count, rest)?;
-    Ok((ranges, rest))
-}
-
-/// The ranges of this many runs, which must be those of all code points.
-fn ranges_of(
-    alloc: Global,
-    count: u32,
-    bytes: &[u8],
-) -> Result<(Vec<(u32, u32, u32)>, &[u8]), ReadError>
-    ensures { Gives (λ x. (x.0.items, x.1.now)) result (with_ranges [] 0 (runs_from 0 None count bytes.now)) }
+/// The ranges of runs, if they are the runs of all code points.
+fn ranges_of(alloc: Global, runs: &[(u8, u32)]) -> Result<Option<Vec<(u32, u32, u32)>>, AllocError>
+    ensures { IfOk result (λ o. MatchOption o (length (words_of runs.now) ≢ code_points)
+        (λ v. (length (words_of runs.now) ≡ code_points) × (v.items ≡ ranges_from 0 runs.now))) }
 {
     let mut ranges = Vec::new(alloc);
-    let mut rest = bytes;
     let mut next = 0;
-    let mut before = None;
-    for _ in 0..count {
-        let (run, after) = next_run_at(next, before, rest)?;
-        ranges.push((next, next + run.count - 1, run.word))?;
-        next += run.count;
-        before = Some(run.word);
-        rest = after;
+    for run in runs {
+        let size = run_size(run.0);
+        if CODE_POINTS - next < size {
+            return Ok(None);
+        }
+        ranges.push((next, next + size - 1, run.1))?;
+        next += size;
     }
     if next != CODE_POINTS {
-        return Err(ReadError::Wrong(Fault::Runs, rest.len()));
+        return Ok(None);
     }
-    Ok((ranges, rest))
+    Ok(Some(ranges))
 }
 
-/// A run that goes on from a code point, after a run of a word.
-#[tactic(auto, unfolding(crate::specs::Reading::next_run_at))]
+/// How many code points a run has.
 #[inline(always)]
-fn next_run_at(next: u32, before: Option<u32>, bytes: &[u8]) -> Result<(Run, &[u8]), ReadError>
-    requires { next ≤ code_points }
-    ensures run { Gives (λ x. (x.0, x.1.now)) result (next_run_at next before bytes.now) }
-    ensures within { IfOk result (λ x. (0 < x.0.count) × (next + x.0.count ≤ code_points)) }
+pub(crate) fn run_size(size: u8) -> u32
+    ensures size { result ≡ run_size size }
+    ensures some { 0 < result }
 {
-    let (run, rest) = Run::read(bytes)?;
-    if !goes_on(next, before, run) {
-        return Err(ReadError::Wrong(Fault::Runs, bytes.len()));
-    }
-    Ok((run, rest))
-}
-
-/// Whether a run goes on from a code point, after a run of a word.
-#[tactic(auto, unfolding(normalizer_tables::specs::Table::code_points))]
-#[inline(always)]
-fn goes_on(next: u32, before: Option<u32>, run: Run) -> bool
-    requires { next ≤ code_points }
-    ensures is { result ≡ is_next next before run }
-    ensures within { IsTrue result → (0 < run.count) × (next + run.count ≤ code_points) }
-{
-    0 < run.count && run.count <= CODE_POINTS - next && is_other(before, run.word)
-}
-
-/// Whether a word comes after a run of another.
-#[inline(always)]
-fn is_other(before: Option<u32>, word: u32) -> bool
-    ensures { result ≡ is_other before word }
-{
-    match before {
-        None => true,
-        Some(before) => before != word,
+    if size < 128 {
+        size as u32 + 1
+    } else {
+        128 * (size as u32 - 127)
     }
 }
 
@@ -146,6 +105,20 @@ pub(crate) fn lists_at(
         scalars24: Scalars24::from(wide),
     };
     Ok((tables, rest))
+}
+
+/// The composing pairs.
+pub(crate) fn compositions_at(
+    alloc: Global,
+    bytes: &[u8],
+) -> Result<(CanonicalCompositions, &[u8]), ReadError>
+    ensures { Gives (λ x. (x.0, x.1.now)) result (list_at pair_at bytes.now) }
+{
+    let (pairs, rest) = list_at::<(char, char, char)>(alloc, bytes)?;
+    match CanonicalCompositions::from_pairs(pairs) {
+        Ok(compositions) => Ok((compositions, rest)),
+        Err(_) => Err(ReadError::Memory),
+    }
 }
 
 /// The words of the supplement, and its list.

@@ -1,190 +1,206 @@
-//! Numbers, items and tables, as they are written.
-ghost use Rattle.std.specs.Prelude.{
-  ◌≡◌,
-  ◌+◌,
-  ◌++◌,
-  ◌∷◌,
-  ◌<◌,
-  ◌≤◌,
-  ◌^◌,
-  All,
-  IfOk,
-  OnOk,
-  flat_map,
-  length,
-  reverse,
-  slice_index,
-};
-ghost use Rattle.normalizer_tables.specs.Table.{code_points};
-ghost use Rattle.normalizer_prepared.specs.Bytes.{list_bytes, number_bytes};
-ghost use Rattle.normalizer_prepared.specs.Prepared.{
-  decompositions_bytes,
-  lists_bytes,
-  supplement_bytes,
-  FitsDecompositions,
-  FitsTable,
-};
-ghost use Rattle.normalizer_prepared.specs.Runs.{count_bytes, joined, runs, table_bytes};
-ghost use Rattle.normalizer_prepared.specs.inner.Typed.{AreTypedLists, IsTypedSupplement};
+//! Files of prepared data, as they are written.
+ghost use Rattle.std.specs.Prelude.{◌≡◌, ◌≤◌, IfOk, IsOkUnless, IsTrue, Ok};
+ghost use Rattle.normalizer_prepared.specs.Files.{held_in, holding};
+ghost use Rattle.normalizer_prepared.specs.inner.Same.{HaveEqualLists, HaveEqualWords};
 
 use crate::items::Item;
-use crate::run::Run;
+use crate::reading::PreparedData;
+use crate::sums::sums;
+use crate::tables::run_size;
+use crate::{HEADER_LENGTH, MAGIC, VERSION};
+use normalizer_builder::Built;
+use normalizer_packing::Packed;
 use normalizer_tables::characters::CODE_POINTS;
 use normalizer_tables::{
-    CodePointTable, DecompositionData, DecompositionTables, NonRecursiveDecompositionSupplement,
+    CanonicalCompositions, CodePointTable, DataError, DecompositionData, DecompositionTables,
+    pair_at, pair_count,
 };
 use std::alloc::{AllocError, Global};
 
-/// Appends a number in this many bytes.
-pub(crate) fn append_number(
-    out: &mut Vec<u8>,
-    width: usize,
-    number: usize,
-) -> Result<(), AllocError>
-    ensures { OnOk result (out.new.items ≡ out.old.items ++ number_bytes width number) }
+/// Returns the file of built data and of the version of Unicode that they are of, or 0.0.0 if none is known.
+///
+/// # Errors
+/// `Memory` if an allocation failed.
+pub fn prepared_data(
+    alloc: Global,
+    built: &Built,
+    version: (u32, u32, u32),
+) -> Result<Vec<u8>, DataError>
+    // What is written reads back.
+    ensures held { IfOk result (λ v. held_in v.items ≡ Ok (holding built.now.packed version)) }
+    ensures refused { IsOkUnless result DataError.Memory }
 {
-    let mut high = number;
-    for _ in 0..width {
-        out.push((high % 256) as u8)?;
-        high /= 256;
+    match file_of(alloc, &built.packed, version) {
+        // It is read back before it is returned.
+        Ok(file) if holds(alloc, &file, &built.packed, version) => Ok(file),
+        _ => Err(DataError::Memory),
     }
-    Ok(())
 }
 
-/// Appends a count of code points.
-#[tactic(auto, unfolding(crate::specs::Runs::count_bytes))]
-pub(crate) fn append_count(out: &mut Vec<u8>, count: u32) -> Result<(), AllocError>
-    ensures { OnOk result (out.new.items ≡ out.old.items ++ count_bytes count) }
+/// Whether a file is read as these data and this version.
+fn holds(alloc: Global, file: &[u8], packed: &Packed, version: (u32, u32, u32)) -> bool
+    ensures { IsTrue result → held_in file.now ≡ Ok (holding packed.now version) }
 {
-    if count < 256 {
-        append_number(out, 1, count as usize)
-    } else {
-        out.push(0)?;
-        append_number(out, 3, count as usize)
+    match PreparedData::read(alloc, file) {
+        Ok(read) => is_same(&read, packed, version),
+        Err(_) => false,
     }
+}
+
+#[tactic(auto, using(crate::proofs::SameData::same_data))]
+fn is_same(read: &PreparedData, packed: &Packed, version: (u32, u32, u32)) -> bool
+    ensures { IsTrue result → read.now ≡ holding packed.now version }
+{
+    read.version == version
+        && have_equal_words(&read.built.packed, packed)
+        && have_equal_lists(&read.built.packed, packed)
+}
+
+fn have_equal_words(packed: &Packed, other: &Packed) -> bool
+    ensures { IsTrue result → HaveEqualWords packed.now other.now }
+{
+    packed.canonical == other.canonical
+        && packed.compatibility == other.compatibility
+        && packed.mapper == other.mapper
+        && packed.supplement == other.supplement
+}
+
+fn have_equal_lists(packed: &Packed, other: &Packed) -> bool
+    ensures { IsTrue result → HaveEqualLists packed.now other.now }
+{
+    packed.tables == other.tables
+        && packed.supplementary_tables == other.supplementary_tables
+        && have_equal_pairs(&packed.compositions, &other.compositions)
+}
+
+fn have_equal_pairs(compositions: &CanonicalCompositions, other: &CanonicalCompositions) -> bool
+    ensures { IsTrue result → compositions.now ≡ other.now }
+{
+    compositions == other
+}
+
+/// A header, a version and data.
+fn file_of(
+    alloc: Global,
+    packed: &Packed,
+    version: (u32, u32, u32),
+) -> Result<Vec<u8>, AllocError> {
+    let mut bytes = Vec::new(alloc);
+    append_number(&mut bytes, 4, version.0 as usize)?;
+    append_number(&mut bytes, 4, version.1 as usize)?;
+    append_number(&mut bytes, 4, version.2 as usize)?;
+    append_data(&mut bytes, packed)?;
+    let (sum, sum_of_sums) = sums(&bytes);
+    let mut file = Vec::new(alloc);
+    append_number(&mut file, 4, MAGIC as usize)?;
+    append_number(&mut file, 4, VERSION as usize)?;
+    append_number(&mut file, 4, HEADER_LENGTH.wrapping_add(bytes.len()))?;
+    append_number(&mut file, 4, sum as usize)?;
+    append_number(&mut file, 4, sum_of_sums as usize)?;
+    file.extend_from_slice(&bytes)?;
+    Ok(file)
+}
+
+/// Appends the data of all markers.
+fn append_data(out: &mut Vec<u8>, packed: &Packed) -> Result<(), AllocError> {
+    append_decompositions(out, &packed.canonical)?;
+    append_decompositions(out, &packed.compatibility)?;
+    if packed.mapper == packed.canonical {
+        out.push(0)?;
+    } else {
+        out.push(1)?;
+        append_decompositions(out, &packed.mapper)?;
+    }
+    append_lists(out, &packed.tables)?;
+    append_lists(out, &packed.supplementary_tables)?;
+    let pairs = pairs_of(*out.allocator(), &packed.compositions)?;
+    append_list(out, &pairs)?;
+    append_table(out, &packed.supplement.table)?;
+    append_list(out, packed.supplement.scalars24.as_slice())
+}
+
+/// Appends the words of decomposition data, and their cap.
+fn append_decompositions(out: &mut Vec<u8>, data: &DecompositionData) -> Result<(), AllocError> {
+    append_table(out, &data.table)?;
+    append_number(out, 2, data.passthrough_cap as usize)
+}
+
+/// Appends both lists of tables.
+fn append_lists(out: &mut Vec<u8>, tables: &DecompositionTables) -> Result<(), AllocError> {
+    append_list(out, tables.scalars16.as_slice())?;
+    append_list(out, tables.scalars24.as_slice())
+}
+
+/// The pairs, as a list.
+fn pairs_of(
+    alloc: Global,
+    compositions: &CanonicalCompositions,
+) -> Result<Vec<(char, char, char)>, AllocError> {
+    let mut pairs = Vec::new(alloc);
+    for place in 0..pair_count(compositions) {
+        pairs.push(pair_at(compositions, place))?;
+    }
+    Ok(pairs)
+}
+
+/// Appends the runs of a table, and the word of all numbers above.
+fn append_table(out: &mut Vec<u8>, table: &CodePointTable) -> Result<(), AllocError> {
+    let mut runs = Vec::new(*out.allocator());
+    let mut next = 0;
+    for number in 0..CODE_POINTS {
+        if next <= number {
+            let run = run_from(table, number);
+            runs.push(run)?;
+            next = number.saturating_add(run_size(run.0));
+        }
+    }
+    append_list(out, &runs)?;
+    append_number(out, 4, table.get32(CODE_POINTS) as usize)
+}
+
+/// The longest run of a table from a code point on.
+fn run_from(table: &CodePointTable, from: u32) -> (u8, u32) {
+    let count = equal_from(table, from);
+    let size = if count < 128 {
+        count.saturating_sub(1)
+    } else {
+        127 + count / 128
+    };
+    (size as u8, table.get32(from))
+}
+
+/// How many code points from this one on have its word, up to those of the largest run.
+fn equal_from(table: &CodePointTable, from: u32) -> u32
+    ensures { result ≤ 16384 }
+{
+    for count in 1..16384u32 {
+        let number = from.saturating_add(count);
+        if CODE_POINTS <= number || table.get32(number) != table.get32(from) {
+            return count;
+        }
+    }
+    16384
 }
 
 /// Appends how many items there are, and the items.
-pub(crate) fn append_list<T: Item>(out: &mut Vec<u8>, items: &[T]) -> Result<(), AllocError>
-    ensures bytes { OnOk result (out.new.items ≡ out.old.items ++ list_bytes T.item_bytes items.now) }
-    ensures room { OnOk result (All T.fits items.now) }
-{
+fn append_list<T: Item>(out: &mut Vec<u8>, items: &[T]) -> Result<(), AllocError> {
     append_number(out, 4, items.len())?;
-    append_items(out, items)
-}
-
-#[tactic(auto, using(crate::proofs::decoding::Loops::item_rules))]
-fn append_items<T: Item>(out: &mut Vec<u8>, items: &[T]) -> Result<(), AllocError>
-    ensures bytes { OnOk result (out.new.items ≡ out.old.items ++ flat_map T.item_bytes items.now) }
-    ensures room { OnOk result (All T.fits items.now) }
-{
     for item in items {
         item.append(out)?;
     }
     Ok(())
 }
 
-/// Appends a table of words.
-#[tactic(auto, using(crate::proofs::decoding::FitLemmas::table_fits), unfolding(crate::specs::Runs::table_bytes, normalizer_tables::specs::Table::code_points))]
-fn append_table(out: &mut Vec<u8>, table: &CodePointTable) -> Result<(), AllocError>
-    ensures bytes { OnOk result (out.new.items ≡ out.old.items ++ table_bytes table.now) }
-    ensures fits { OnOk result (FitsTable table.now) }
-{
-    let runs = runs_of(table)?;
-    word_of(table, 0);
-    append_list(out, runs.as_slice())?;
-    append_number(out, 4, past_of(table) as usize)
-}
-
-#[tactic(auto, unfolding(normalizer_tables::specs::Table::code_points))]
-fn past_of(table: &CodePointTable) -> u32
-    ensures { result ≡ table.now.past }
-{
-    table.get32(CODE_POINTS)
-}
-
-/// The runs of the words of all code points.
-#[tactic(auto, using(crate::proofs::decoding::RunLoops::run_loops), unfolding(normalizer_tables::specs::Table::code_points))]
-fn runs_of(table: &CodePointTable) -> Result<Vec<Run>, AllocError>
-    ensures { IfOk result (λ v. v.items ≡ runs table.now.words) }
-{
-    let mut reversed = Vec::new(table.allocator());
-    let mut first = Run {
-        count: 1,
-        word: word_of(table, CODE_POINTS - 1),
-    };
-    for passed in 1..CODE_POINTS {
-        let word = word_of(table, CODE_POINTS - 1 - passed);
-        first = joined(word, first, &mut reversed)?;
+/// Appends a number in this many bytes.
+pub(crate) fn append_number(
+    out: &mut Vec<u8>,
+    width: usize,
+    number: usize,
+) -> Result<(), AllocError> {
+    let mut high = number;
+    for _ in 0..width {
+        out.push((high % 256) as u8)?;
+        high /= 256;
     }
-    reversed.push(first)?;
-    reversed.reverse();
-    Ok(reversed)
-}
-
-/// The first run, if a code point with this word comes before runs.
-#[tactic(auto, using(crate::proofs::decoding::RunLoops::pushes), unfolding(crate::specs::Runs::joined))]
-fn joined(word: u32, first: Run, reversed: &mut Vec<Run>) -> Result<Run, AllocError>
-    requires { first.count < 2 ^ 31 }
-    ensures runs { IfOk result (λ run.
-        run ∷ reverse reversed.new.items ≡ joined word (first ∷ reverse reversed.old.items)) }
-    ensures count { IfOk result (λ run. run.count ≤ first.count + 1) }
-{
-    if word == first.word {
-        return Ok(Run {
-            count: first.count + 1,
-            word,
-        });
-    }
-    reversed.push(first)?;
-    Ok(Run { count: 1, word })
-}
-
-/// The word of a code point.
-#[tactic(auto, unfolding(normalizer_tables::specs::Table::code_points, normalizer_tables::specs::Table::word_at, normalizer_tables::specs::Ranges::IsComplete))]
-fn word_of(table: &CodePointTable, number: u32) -> u32
-    requires { number < code_points }
-    ensures word { slice_index table.now.words number ≡ result }
-    ensures complete { length table.now.words ≡ code_points }
-{
-    table.get32(number)
-}
-
-/// Appends the words of decomposition data, and their cap.
-#[tactic(auto, unfolding(crate::specs::Prepared::decompositions_bytes))]
-pub(crate) fn append_decompositions(
-    out: &mut Vec<u8>,
-    decompositions: &DecompositionData,
-) -> Result<(), AllocError>
-    ensures bytes { OnOk result (out.new.items ≡ out.old.items ++ decompositions_bytes decompositions.now) }
-    ensures fits { OnOk result (FitsDecompositions decompositions.now) }
-{
-    append_table(out, &decompositions.table)?;
-    append_number(out, 2, decompositions.passthrough_cap as usize)
-}
-
-/// Appends both lists of tables.
-#[tactic(auto, unfolding(crate::specs::Prepared::lists_bytes))]
-pub(crate) fn append_lists(
-    out: &mut Vec<u8>,
-    tables: &DecompositionTables,
-) -> Result<(), AllocError>
-    ensures bytes { OnOk result (out.new.items ≡ out.old.items ++ lists_bytes tables.now) }
-    ensures typed { OnOk result (AreTypedLists tables.now) }
-{
-    append_list(out, tables.scalars16.as_slice())?;
-    append_list(out, tables.scalars24.as_slice())
-}
-
-/// Appends the words of the supplement, and its list.
-#[tactic(auto, unfolding(crate::specs::Prepared::supplement_bytes))]
-pub(crate) fn append_supplement(
-    out: &mut Vec<u8>,
-    supplement: &NonRecursiveDecompositionSupplement,
-) -> Result<(), AllocError>
-    ensures bytes { OnOk result (out.new.items ≡ out.old.items ++ supplement_bytes supplement.now) }
-    ensures typed { OnOk result (IsTypedSupplement supplement.now) }
-{
-    append_table(out, &supplement.table)?;
-    append_list(out, supplement.scalars24.as_slice())
+    Ok(())
 }

@@ -1,6 +1,6 @@
 use Rattle.std.proofs.lemmas.Result.{err_from_is_err_and}
 use Rattle.normalizer_prepared.specs.Reading.{items_at}
-use Rattle.normalizer_prepared.proofs.decoding.Loops.{goes_on, ends, is_done}
+use Rattle.normalizer_prepared.proofs.Loops.{goes_on, ends, is_done}
 use Rattle.normalizer_prepared.proofs.items.items_at.Goals as goal
 
 pub returns-in_err-item : goal.returns-in_err-item

@@ -1,6 +1,6 @@
 use Rattle.std.proofs.Common.{◌≡◌, ◌-◌}
 use Rattle.normalizer_prepared.specs.Reading.{items_at}
-use Rattle.normalizer_prepared.proofs.decoding.Loops.{with_front}
+use Rattle.normalizer_prepared.proofs.Loops.{with_front}
 use Rattle.normalizer_prepared.proofs.items.items_at.Given as goal
 
 abbrev pub invariant-loop : goal.invariant-loop

@@ -1,6 +1,6 @@
 use Rattle.std.proofs.Common.{◌≡◌, drop}
 use Rattle.std.specs.List.{fold}
-use Rattle.normalizer_prepared.specs.Bytes.{add_byte, sums}
+use Rattle.normalizer_prepared.specs.Files.{add_byte, sums}
 use Rattle.normalizer_prepared.proofs.sums.sums.Given as goal
 
 abbrev pub invariant-loop-byte : goal.invariant-loop-byte

@@ -1,8 +1,7 @@
 -- Reading items one after another, as a loop does.
 use Rattle.std.proofs.Common.{◌≡◌, ℕ, suc, ◌-◌, ◌+◌, ◌≤◌, ◌<◌, List, [], ◌∷◌, ◌++◌, Ok, Err, refl, sym, ap}
-use Rattle.std.proofs.Common.{◌∙◌, append_assoc, arith, subst, length, take, get_or, All}
-use Rattle.std.proofs.lemmas.List.{append-nil, take_more}
-use Rattle.std.proofs.lemmas.List.Elements.{All-append, All-cons, All-nil}
+use Rattle.std.proofs.Common.{◌∙◌, append_assoc, arith}
+use Rattle.std.proofs.lemmas.List.{append-nil}
 use Rattle.normalizer_prepared.specs.declared.fault.ReadError.{ReadError}
 use Rattle.normalizer_prepared.specs.declared.fault.ReadError.TheVariants as errors
 use Rattle.normalizer_prepared.specs.Reading.{◌>>=◌, Fails, items_at, Read}
@@ -47,12 +46,3 @@ module _ {A : Type 0} where
       let one : with_front front (items_at item_at (count - i) bytes) ≡ Ok (front, bytes) =
       rw k (ap (λ (ns : List A). Ok (ns, bytes)) (append-nil front)) in
       sym so_far ∙ one
-
--- what holds of items that were written holds with one more
-pub All-take_more : {A : Type 0} (P : A → Type 0) (xs : List A) (i : ℕ) (d : A) → i < length xs → All P (take i xs)
-    → P (get_or xs i d) → All P (take (i + 1) xs)
-All-take_more P xs i d below front last =
-    subst (λ ys. All P ys) (sym (take_more xs i d below))
-    (All-append P (take i xs) (get_or xs i d ∷ []) front (All-cons P (get_or xs i d) [] last (All-nil P)))
-
-pub ruleset item_rules = (All-take_more)
