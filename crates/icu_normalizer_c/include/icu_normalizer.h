@@ -204,7 +204,6 @@ static inline const char *icu_normalizer_reason_text(uint32_t reason) {
         case 27: return "the file has another length";
         case 28: return "a sum of the bytes is another";
         case 29: return "the file is cut off";
-        case 30: return "a count is longer than it needs to be";
         case 31: return "the runs of a table aren't those of all code points";
         case 32: return "a number isn't that of a character";
         case 33: return "there are more bytes";

@@ -7,9 +7,9 @@ use Rattle.normalizer_tables.specs.Ranges.{WordRange}
 abbrev pub Run : Type 0
 Run = ℕ × ℕ
 
--- how many code points a run of this size has: one more below 128, otherwise a multiple of 128
+-- how many code points a run of this size has: one more below 128, otherwise a multiple of 512
 abbrev pub run_size : ℕ → ℕ
-run_size n = if nat_lt n 128 then n + 1 else 128 * (n - 127)
+run_size n = if nat_lt n 128 then n + 1 else 512 * (n - 127)
 
 -- the words of runs
 abbrev pub words_of : List Run → List ℕ

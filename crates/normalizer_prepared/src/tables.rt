@@ -69,7 +69,7 @@ pub(crate) fn run_size(size: u8) -> u32
     if size < 128 {
         size as u32 + 1
     } else {
-        128 * (size as u32 - 127)
+        512 * (size as u32 - 127)
     }
 }
 

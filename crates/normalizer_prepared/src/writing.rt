@@ -163,23 +163,25 @@ fn run_from(table: &CodePointTable, from: u32) -> (u8, u32) {
     let count = equal_from(table, from);
     let size = if count < 128 {
         count.saturating_sub(1)
+    } else if count < 512 {
+        127
     } else {
-        127 + count / 128
+        127 + count / 512
     };
     (size as u8, table.get32(from))
 }
 
 /// How many code points from this one on have its word, up to those of the largest run.
 fn equal_from(table: &CodePointTable, from: u32) -> u32
-    ensures { result ≤ 16384 }
+    ensures { result ≤ 65536 }
 {
-    for count in 1..16384u32 {
+    for count in 1..65536u32 {
         let number = from.saturating_add(count);
         if CODE_POINTS <= number || table.get32(number) != table.get32(from) {
             return count;
         }
     }
-    16384
+    65536
 }
 
 /// Appends how many items there are, and the items.
