@@ -10,6 +10,7 @@ ghost use Rattle.std.specs.Prelude.{
   string_bytes,
   All,
   IfNone,
+  ℕ,
   IfOk,
   IfSome,
   None,

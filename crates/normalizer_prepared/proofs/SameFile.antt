@@ -3,7 +3,6 @@ use Rattle.std.proofs.Common.{◌≡◌, ℕ, List, Ok, Err, sym, ap, ◌∙◌}
 use Rattle.normalizer_packing.specs.declared.Packed.{Packed}
 use Rattle.normalizer_prepared.specs.Files.{held_in}
 use Rattle.normalizer_prepared.specs.Prepared.{prepared_in, IsFileOf}
-use Rattle.normalizer_prepared.specs.Reading.{Wrong}
 use Rattle.normalizer_prepared.specs.declared.fault.Fault.{Fault}
 use Rattle.normalizer_prepared.specs.declared.reading.PreparedData.{PreparedData}
 

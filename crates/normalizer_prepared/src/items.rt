@@ -3,7 +3,6 @@ ghost use Rattle.normalizer_prepared.specs.Reading.{items_at, list_at, Gives};
 
 use crate::fault::{Fault, ReadError};
 use crate::numbers::{u8_at, u16_at, u24_at, u32_at};
-use crate::writing::append_number;
 use std::alloc::{AllocError, Global};
 
 /// An item of a list.
@@ -33,7 +32,7 @@ impl Item for u16 {
     }
 
     fn append(self, out: &mut Vec<u8>) -> Result<(), AllocError> {
-        append_number(out, 2, self as usize)
+        out.extend_from_slice(&self.to_le_bytes())
     }
 }
 
@@ -53,7 +52,7 @@ impl Item for char {
     }
 
     fn append(self, out: &mut Vec<u8>) -> Result<(), AllocError> {
-        append_number(out, 3, self as u32 as usize)
+        out.extend_from_slice(&(self as u32).to_le_bytes()[..3])
     }
 }
 
@@ -97,7 +96,7 @@ impl Item for (u8, u32) {
     fn append(self, out: &mut Vec<u8>) -> Result<(), AllocError> {
         let (size, word) = self;
         out.push(size)?;
-        append_number(out, 4, word as usize)
+        out.extend_from_slice(&word.to_le_bytes())
     }
 }
 

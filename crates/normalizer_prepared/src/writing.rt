@@ -86,17 +86,18 @@ fn file_of(
     version: (u32, u32, u32),
 ) -> Result<Vec<u8>, AllocError> {
     let mut bytes = Vec::new(alloc);
-    append_number(&mut bytes, 4, version.0 as usize)?;
-    append_number(&mut bytes, 4, version.1 as usize)?;
-    append_number(&mut bytes, 4, version.2 as usize)?;
+    bytes.extend_from_slice(&version.0.to_le_bytes())?;
+    bytes.extend_from_slice(&version.1.to_le_bytes())?;
+    bytes.extend_from_slice(&version.2.to_le_bytes())?;
     append_data(&mut bytes, packed)?;
     let (sum, sum_of_sums) = sums(&bytes);
+    let length = HEADER_LENGTH.wrapping_add(bytes.len());
     let mut file = Vec::new(alloc);
-    append_number(&mut file, 4, MAGIC as usize)?;
-    append_number(&mut file, 4, VERSION as usize)?;
-    append_number(&mut file, 4, HEADER_LENGTH.wrapping_add(bytes.len()))?;
-    append_number(&mut file, 4, sum as usize)?;
-    append_number(&mut file, 4, sum_of_sums as usize)?;
+    file.extend_from_slice(&MAGIC.to_le_bytes())?;
+    file.extend_from_slice(&VERSION.to_le_bytes())?;
+    file.extend_from_slice(&length.to_le_bytes()[..4])?;
+    file.extend_from_slice(&sum.to_le_bytes())?;
+    file.extend_from_slice(&sum_of_sums.to_le_bytes())?;
     file.extend_from_slice(&bytes)?;
     Ok(file)
 }
@@ -122,7 +123,7 @@ fn append_data(out: &mut Vec<u8>, packed: &Packed) -> Result<(), AllocError> {
 /// Appends the words of decomposition data, and their cap.
 fn append_decompositions(out: &mut Vec<u8>, data: &DecompositionData) -> Result<(), AllocError> {
     append_table(out, &data.table)?;
-    append_number(out, 2, data.passthrough_cap as usize)
+    out.extend_from_slice(&data.passthrough_cap.to_le_bytes())
 }
 
 /// Appends both lists of tables.
@@ -155,7 +156,7 @@ fn append_table(out: &mut Vec<u8>, table: &CodePointTable) -> Result<(), AllocEr
         }
     }
     append_list(out, &runs)?;
-    append_number(out, 4, table.get32(CODE_POINTS) as usize)
+    out.extend_from_slice(&table.get32(CODE_POINTS).to_le_bytes())
 }
 
 /// The longest run of a table from a code point on.
@@ -186,23 +187,9 @@ fn equal_from(table: &CodePointTable, from: u32) -> u32
 
 /// Appends how many items there are, and the items.
 fn append_list<T: Item>(out: &mut Vec<u8>, items: &[T]) -> Result<(), AllocError> {
-    append_number(out, 4, items.len())?;
+    out.extend_from_slice(&items.len().to_le_bytes()[..4])?;
     for item in items {
         item.append(out)?;
-    }
-    Ok(())
-}
-
-/// Appends a number in this many bytes.
-pub(crate) fn append_number(
-    out: &mut Vec<u8>,
-    width: usize,
-    number: usize,
-) -> Result<(), AllocError> {
-    let mut high = number;
-    for _ in 0..width {
-        out.push((high % 256) as u8)?;
-        high /= 256;
     }
     Ok(())
 }
