@@ -27,7 +27,8 @@ starts : (n : ℕ) (rs : List Run) → All (λ s. n ≤ s.0) (ranges_from n rs)
 unfolding ranges_from
 starts n [] = All-nil (λ (s : WordRange). n ≤ s.0)
 starts n (r ∷ rs) =
-    All-cons (λ (s : WordRange). n ≤ s.0) (n, n + run_size r.0 - 1, r.1) (ranges_from (n + run_size r.0) rs) (omega arith)
+    All-cons (λ (s : WordRange). n ≤ s.0) (n, n + run_size r.0 - 1, r.1) (ranges_from (n + run_size r.0) rs)
+    (omega arith)
     (λ k d below. omega (arith, starts (n + run_size r.0) rs k d below))
 
 are_ranges : (n : ℕ) (rs : List Run) → n + length (words_of rs) ≤ code_points → IsRangeList (ranges_from n rs)
@@ -57,7 +58,8 @@ word_in-runs n (r ∷ rs) k below =
     elim (cases_lt k size) [
       | inl lt ↦
           word_in-held first others (n + k) (omega arith) (omega (arith, lt))
-          ∙ sym (get_or_append_left front (words_of rs) 0 k (omega (arith, long, lt)) ∙ get_or-replicate size k r.1 0 lt)
+          ∙ sym (get_or_append_left front (words_of rs) 0 k (omega (arith, long, lt))
+          ∙ get_or-replicate size k r.1 0 lt)
       | inr le ↦
           let left : k - size < length (words_of rs) = omega (arith, below, length_more r rs, le) in
           let place : n + k ≡ n + size + (k - size) = omega (arith, le) in
@@ -86,7 +88,8 @@ module _ (rs : List Run) (all : length (words_of rs) ≡ code_points) where
       ∙ is.words i (omega (arith, is.complete, below))
       ∙ ap (word_in (ranges_from 0 rs)) zeroth
       ∙ word_in-runs 0 rs i (omega (arith, is.complete, all, below))) in
-      same_table t.words (words_of rs) t.past past t (record { words = words_of rs; past = past }) refl refl words is.past
+      let made : Table = record { words = words_of rs; past = past } in
+      same_table t.words (words_of rs) t.past past t made refl refl words is.past
 
 pub ruleset table_rules = (IsRangeList-runs, table-runs)
 

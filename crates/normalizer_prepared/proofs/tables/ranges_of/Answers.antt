@@ -32,7 +32,8 @@ unfolding code_points
 returns-then-next-ne-CODE_POINTS c = λ all.
     let l = c.loop-run in
     c.if-next-ne-CODE_POINTS.true
-    (total_end l.ranges.items l.next l.run-index c.args.runs.now l.invariant.0 l.invariant.1 c.loop-run-test.false ∙ all)
+    (total_end l.ranges.items l.next l.run-index c.args.runs.now l.invariant.0 l.invariant.1 c.loop-run-test.false
+    ∙ all)
 
 pub returns : goal.returns
 unfolding code_points
