@@ -15,7 +15,7 @@ const HEADER: usize = 20;
 /// The file of what the records build.
 pub fn prepared_file(setting: &Setting) -> Result<Vec<u8>, Fault> {
     let built = Records::build(setting.alloc, &setting.records, &setting.mapper)?;
-    Ok(prepared_data(setting.alloc, &built)?)
+    Ok(prepared_data(setting.alloc, &built, (18, 0, 0))?)
 }
 
 /// The data of a file.
@@ -33,7 +33,7 @@ pub fn file_of(alloc: Global, data: &[u8]) -> Result<Vec<u8>, Fault> {
     }
     let length = u32::try_from(data.len()).unwrap_or(0).wrapping_add(20);
     let mut file = Vec::new(alloc);
-    for number in [0x4D52_4F4E, 1, length, sum, sum_of_sums] {
+    for number in [0x4D52_4F4E, 2, length, sum, sum_of_sums] {
         file.extend_from_slice(&number.to_le_bytes())?;
     }
     file.extend_from_slice(data)?;
@@ -79,8 +79,8 @@ fn is_cut_refused(alloc: Global, cut: &[u8]) -> Result<bool, Fault> {
     Ok(has_fault(alloc, cut, fault, offset) && has_fault(alloc, &own, Short, end.max(HEADER)))
 }
 
-/// Whether each bit that is flipped is refused in the field that shows it; and data with it, after a header of their own,
-/// inside the file, unless they are checked.
+/// Whether each bit that is flipped is refused in the field that shows it; and data with the lowest one, after a header of
+/// their own, inside the file, unless they are checked.
 fn are_flips_refused(alloc: Global, file: &[u8], place: usize, byte: u8) -> Result<bool, Fault> {
     let (fault, offset) = match place {
         0..4 => (Magic, 0),
@@ -89,13 +89,11 @@ fn are_flips_refused(alloc: Global, file: &[u8], place: usize, byte: u8) -> Resu
         16..20 => (Sum, 16),
         _ => (Sum, 12),
     };
-    let mut are_refused = true;
+    let own = file_of(alloc, data_of(&with_byte(alloc, file, place, byte ^ 1)?))?;
+    let mut are_refused = is_checked(alloc, &own);
     for bit in [1, 2, 4, 8, 16, 32, 64, 128] {
         let other = with_byte(alloc, file, place, byte ^ bit)?;
-        let own = file_of(alloc, data_of(&other))?;
-        are_refused = are_refused
-            && has_fault(alloc, &other, fault, offset)
-            && is_checked(alloc, &own);
+        are_refused = are_refused && has_fault(alloc, &other, fault, offset);
     }
     Ok(are_refused)
 }
