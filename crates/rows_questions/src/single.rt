@@ -13,8 +13,8 @@ use crate::language::setting::Setting;
 use crate::language::words::{all, first_of, form_named, words};
 use icu_normalizer::{CanonicalCompositions, CodePointTable, MappingData, Records};
 
-/// Makes the call of a row, or if the row asks for a form the call of this name. It stops `before` the call if told so.
-/// Nothing else allocates after that.
+/// Makes the call of a row, or for the form of an input the call of this name. If `stop` is `before`, it returns before
+/// the call. Nothing else allocates from there on.
 ///
 /// # Errors
 /// [`Fault::Memory`] if the call returned it, and left what it may; [`Fault::MemoryOfItem`] if it made an iterator,

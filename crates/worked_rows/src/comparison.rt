@@ -26,8 +26,8 @@ pub fn what_differs(setting: &mut Setting, row: &str) -> Result<Option<String>, 
 
 const AS_EXPECTED: &str = "as expected";
 
-/// What came of a row in place of what it says. Its first word may be that its result is another, that it can't be read,
-/// or that its data are refused or not there.
+/// What came of a row in place of what it says. Its first word may be that its result is another, that it can't be
+/// read, or that its data are refused or not there.
 fn unexpected(setting: &mut Setting, row: &str) -> Result<Option<String>, AllocError> {
     let alloc = setting.alloc;
     let (expected, row) = match row.split_once(' ') {

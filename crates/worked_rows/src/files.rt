@@ -4,44 +4,48 @@ mod closed;
 mod prepared;
 mod unicode;
 
-use rows_questions::language::fault::{Answer, Fault};
+use rows_questions::language::fault::{Answer, Fault, agreed};
 use rows_questions::language::setting::Setting;
 use rows_questions::language::words::{Spelled, first_of, words};
 use std::alloc::Global;
 use std::fmt::Display;
 
-/// The result of a question. It is an empty one if the question is only taken up to its call.
+/// The result of a question, or an empty one if it stops after its `call`.
 ///
 /// # Errors
-/// [`Fault::Stopped`] if it isn't taken so far.
-pub fn asked(setting: &Setting, name: &str, question: &[&str], stop: Option<&str>) -> Answer {
+/// [`Fault::Stopped`] if it stops `before` its call.
+pub fn asked(setting: &Setting, stop: &str, name: &str, question: &[&str]) -> Answer {
     let alloc = setting.alloc;
     match name {
         "read" => unicode::read(alloc, question),
         "build-files" => unicode::built(alloc, question),
-        "table" => unicode::table(alloc, question, stop),
-        "by-files" => closed::by_files(alloc, question, stop),
-        "by-records" => closed::by_records(setting, question, stop),
-        "by-prepared" => closed::by_prepared(setting, question, stop),
+        "table" => unicode::table(alloc, stop, question),
+        "by-files" => closed::by_files(alloc, stop, question),
+        "by-records" => closed::by_records(setting, stop, question),
+        "by-prepared" => closed::by_prepared(setting, stop, question),
         "prepared" => prepared::first_unrefused(setting),
         _ => closed::constants(alloc, question),
     }
 }
 
-/// Makes the call of a row, or stops `before` it. Nothing else allocates after that.
+/// Makes the call of a row, whose result must be the expected one if it doesn't stop there. Nothing else allocates up to
+/// the end of the call.
 pub fn make(setting: &Setting, stop: &str, call: &str, row: &str) -> Result<(), Fault> {
-    let (question, _) = row.split_once('=').ok_or(Fault::Unreadable)?;
+    let (question, wanted) = row.split_once('=').ok_or(Fault::Unreadable)?;
     let question = words(setting.alloc, question)?;
-    let (_, rest) = first_of(&question)?;
-    asked(setting, call, rest, Some(stop))?;
-    Ok(())
+    let (_, question) = first_of(&question)?;
+    let answer = asked(setting, stop, call, question)?;
+    if stop == "call" {
+        return Ok(());
+    }
+    agreed(words(setting.alloc, wanted)?.as_slice() == words(setting.alloc, &answer)?.as_slice())
 }
 
-/// Stops before a call if told so.
-fn goes_on(stop: Option<&str>) -> Result<(), Fault> {
-    match stop {
-        Some("before") => Err(Fault::Stopped),
-        _ => Ok(()),
+fn goes_past(stop: &str) -> Result<(), Fault> {
+    if stop == "before" {
+        Err(Fault::Stopped)
+    } else {
+        Ok(())
     }
 }
 

@@ -1,6 +1,6 @@
-//! Compares results of the library with rows of data. An argument `NAME.rows` names a file; each row has a question, its
-//! input and the expected result, as `nfc 0061 0308 = 00E4`. Written are the rows with another result, and the number of
-//! rows of each file. A row without `=` sets the data of later questions. `data/README.md` has the words of rows.
+//! Compares results of the library with rows of data. An argument `NAME.rows` names a file, whose rows are explained in
+//! `data/README.md`. Written are the rows with another result, and the number of rows of each file. Any other argument
+//! names files of the Unicode Character Database; written is what they are read as (`unicode_files`).
 //!
 //! `call NAME ROW..` makes one call that the question of the last row is about, as `normalize_to`, once the other rows
 //! have set the data; `before NAME ROW..` does all that comes before the call, and `after NAME ROW..` compares the row

@@ -23,7 +23,7 @@ pub fn answer(setting: &mut Setting, question: &[&str]) -> Answer {
         | "by-records"
         | "by-prepared"
         | "prepared"
-        | "text" => files::asked(setting, name, rest, None),
+        | "text" => files::asked(setting, "after", name, rest),
         "build" if rest.is_empty() => building(alloc, setting.refusal()),
         "record" => record_questions::record(alloc, &setting.records, rest),
         "mapper" => record_questions::mapper_record(alloc, &setting.mapper, rest),

@@ -24,8 +24,8 @@ const NOT_MADE: u8 = 4;
 /// That the row has not the expected result after the call.
 const WRONG_AFTER: u8 = 6;
 
-/// The status for a call of the last row, once the other rows have set its data. It stops `before` the call, or after the
-/// `call`, or else `after` it compares the row.
+/// The status for a call of the last row, once the other rows have set its data. It stops `before` the call, or after
+/// the `call`, or else `after` it compares the row.
 pub fn status(alloc: Global, stop: &str, call: &str, rows: &[&str]) -> u8 {
     stopped(alloc, stop, call, rows).unwrap_or(NOT_MADE)
 }

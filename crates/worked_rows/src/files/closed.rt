@@ -4,7 +4,7 @@
 //! may be the text of a fault. `text sink = the sink refused a write`: a text that no other row can cause; `text markers`:
 //! the places of the markers.
 use crate::files::prepared::{data_of, file_of, prepared_file, with_byte};
-use crate::files::{file, goes_on, parts, said};
+use crate::files::{file, goes_past, parts, said};
 use icu_normalizer::{
     BuildError, DataError, DataMarker, NormalizeError, NormalizerNfcV1, NormalizerNfdDataV1,
     NormalizerNfdSupplementV1, NormalizerNfdTablesV1, NormalizerNfkdDataV1, NormalizerNfkdTablesV1,
@@ -20,15 +20,16 @@ use rows_questions::language::words::{Spelled, first_of, form_named, hexadecimal
 use std::alloc::Global;
 
 /// A form, or nothing after a call.
-fn spelled(alloc: Global, form: &[char], stop: Option<&str>) -> Answer {
-    match stop {
-        None => spelled_all(alloc, form),
-        Some(_) => Ok(String::new(alloc)),
+fn spelled(alloc: Global, stop: &str, form: &[char]) -> Answer {
+    if stop == "call" {
+        Ok(String::new(alloc))
+    } else {
+        spelled_all(alloc, form)
     }
 }
 
 /// The form by two files, or the fault.
-pub fn by_files(alloc: Global, question: &[&str], stop: Option<&str>) -> Answer {
+pub fn by_files(alloc: Global, stop: &str, question: &[&str]) -> Answer {
     let parts = parts(alloc, question)?;
     let [input, unicode_data, exclusions] = parts.as_slice() else {
         return Err(Fault::Unreadable);
@@ -38,28 +39,28 @@ pub fn by_files(alloc: Global, question: &[&str], stop: Option<&str>) -> Answer 
     let text = text(alloc, characters)?;
     let unicode_data = file(alloc, unicode_data)?;
     let exclusions = file(alloc, exclusions)?;
-    goes_on(stop)?;
+    goes_past(stop)?;
     match form_by_unicode_data(alloc, &unicode_data, &exclusions, form, text.as_bytes()) {
-        Ok(form) => spelled(alloc, &form, stop),
+        Ok(form) => spelled(alloc, stop, &form),
         Err(UnicodeFault::File(error)) => said(alloc, &error),
         Err(UnicodeFault::Records(error)) => said(alloc, &error),
     }
 }
 
 /// The form by the records.
-pub fn by_records(setting: &Setting, question: &[&str], stop: Option<&str>) -> Answer {
+pub fn by_records(setting: &Setting, stop: &str, question: &[&str]) -> Answer {
     let alloc = setting.alloc;
     let (form, characters) = first_of(question)?;
     let form = form_named(form)?;
     let text = text(alloc, characters)?;
-    goes_on(stop)?;
+    goes_past(stop)?;
     let (records, mapper) = (&setting.records, &setting.mapper);
     let form = form_by_records(alloc, records, mapper, form, text.as_bytes())?;
-    spelled(alloc, &form, stop)
+    spelled(alloc, stop, &form)
 }
 
 /// The form by the file of prepared data of the records, perhaps with another byte.
-pub fn by_prepared(setting: &Setting, question: &[&str], stop: Option<&str>) -> Answer {
+pub fn by_prepared(setting: &Setting, stop: &str, question: &[&str]) -> Answer {
     let alloc = setting.alloc;
     let parts = parts(alloc, question)?;
     let [input, edits @ ..] = parts.as_slice() else {
@@ -72,9 +73,9 @@ pub fn by_prepared(setting: &Setting, question: &[&str], stop: Option<&str>) -> 
     for edit in edits {
         file = edited(alloc, &file, edit)?;
     }
-    goes_on(stop)?;
+    goes_past(stop)?;
     match form_by_prepared_data(alloc, &file, form, text.as_bytes()) {
-        Ok(form) => spelled(alloc, &form, stop),
+        Ok(form) => spelled(alloc, stop, &form),
         Err(PreparedFault::File(error)) => said(alloc, &error),
         Err(PreparedFault::Data(error)) => said(alloc, &error),
     }

@@ -79,8 +79,8 @@ fn is_cut_refused(alloc: Global, cut: &[u8]) -> Result<bool, Fault> {
     Ok(has_fault(alloc, cut, fault, offset) && has_fault(alloc, &own, Short, end.max(HEADER)))
 }
 
-/// Whether each bit that is flipped is refused in the field that shows it; and data with the lowest one, after a header of
-/// their own, inside the file, unless they are checked.
+/// Whether each bit that is flipped is refused in the field that shows it; and data with the lowest one, after a header
+/// of their own, inside the file, unless they are checked.
 fn are_flips_refused(alloc: Global, file: &[u8], place: usize, byte: u8) -> Result<bool, Fault> {
     let (fault, offset) = match place {
         0..4 => (Magic, 0),

@@ -3,7 +3,7 @@
 //! of `IdnaMappingTable.txt`, perhaps after exclusions, of disallowed ranges with at most 9 characters, or `all`. Each
 //! beginning of a first file that is read must be refused. `build-files #_EOF | #_EOF | 0000..10FFFF;valid = ok`:
 //! whether data are built of the records of all three, and otherwise the first record at fault.
-use crate::files::{file, goes_on, parts, said};
+use crate::files::{file, goes_past, parts, said};
 use icu_normalizer::{BuildError, RecordAtFault, Records, Uts46Record, records_of_ranges};
 use normalizer_ucd::{
     Disallowed, UcdError, place_of_record, records_of_unicode_data, uts46_ranges_beside_exclusions,
@@ -48,7 +48,7 @@ fn push_record(alloc: Global, text: &mut String, c: char, record: &str) -> Resul
 }
 
 /// The records of a table, or the first fault.
-pub fn table(alloc: Global, question: &[&str], stop: Option<&str>) -> Answer {
+pub fn table(alloc: Global, stop: &str, question: &[&str]) -> Answer {
     let (most, files) = first_of(question)?;
     let disallowed = match most {
         "all" => Disallowed::All,
@@ -69,14 +69,14 @@ fn by_each_call(
     exclusions: Option<&[u8]>,
     table: &[u8],
     disallowed: Disallowed,
-    stop: Option<&str>,
+    stop: &str,
 ) -> Answer {
-    goes_on(stop)?;
+    goes_past(stop)?;
     let ranges = match exclusions {
         Some(other) => uts46_ranges_beside_exclusions(alloc, other, table, disallowed),
         None => uts46_ranges_of_idna_table(alloc, table, disallowed),
     };
-    if stop.is_some() && ranges.is_ok() {
+    if stop == "call" && ranges.is_ok() {
         return Ok(String::new(alloc));
     }
     agreed(ranges.is_err() || are_table_cuts_refused(alloc, table))?;
