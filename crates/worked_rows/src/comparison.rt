@@ -56,7 +56,8 @@ pub fn difference(setting: &mut Setting, row: &str) -> Result<Option<String>, Fa
     Ok(if is_wanted { None } else { Some(answer) })
 }
 
-fn are_same_words<'a>(alloc: Global, wanted: &'a str, answer: &'a str) -> Result<bool, Fault> {
+/// Whether two texts have the same words.
+pub fn are_same_words<'a>(alloc: Global, wanted: &'a str, answer: &'a str) -> Result<bool, Fault> {
     Ok(words(alloc, wanted)?.as_slice() == words(alloc, answer)?.as_slice())
 }
 

@@ -4,6 +4,7 @@ mod closed;
 mod prepared;
 mod unicode;
 
+use crate::comparison::are_same_words;
 use rows_questions::language::fault::{Answer, Fault, agreed};
 use rows_questions::language::setting::Setting;
 use rows_questions::language::words::{Spelled, first_of, words};
@@ -38,7 +39,7 @@ pub fn make(setting: &Setting, stop: &str, call: &str, row: &str) -> Result<(), 
     if stop == "call" {
         return Ok(());
     }
-    agreed(words(setting.alloc, wanted)?.as_slice() == words(setting.alloc, &answer)?.as_slice())
+    agreed(are_same_words(setting.alloc, wanted, &answer)?)
 }
 
 fn goes_past(stop: &str) -> Result<(), Fault> {

@@ -16,7 +16,7 @@ use normalizer_by_files::{
 use rows_questions::language::fault::{Answer, Fault};
 use rows_questions::language::input::text;
 use rows_questions::language::setting::Setting;
-use rows_questions::language::words::{Spelled, first_of, form_named, hexadecimal, spelled_all};
+use rows_questions::language::words::{Spelled, decimal, first_of, form_named, spelled_all};
 use std::alloc::Global;
 
 /// A form, or nothing after a call.
@@ -86,7 +86,7 @@ fn edited(alloc: Global, file: &[u8], edit: &[&str]) -> Result<Vec<u8>, Fault> {
     let [place, byte] = edit else {
         return Err(Fault::Unreadable);
     };
-    let place = hexadecimal(place)? as usize;
+    let place = decimal(place)? as usize;
     let data = with_byte(alloc, data_of(file), place, u8::read(byte)?)?;
     file_of(alloc, &data)
 }
