@@ -1,19 +1,17 @@
 //! Questions about texts: what the calls of a normalizer return, which must agree, of characters in all three
-//! encodings; the NFD over data that are checked once and then used unchecked; the form by records; and what the mapper
-//! makes.
+//! encodings; the NFD over data that are checked once and then used unchecked; and what the mapper makes.
 use crate::encoded::{Results, results_of_input};
 use crate::language::fault::{Answer, Fault, agreed};
 use crate::language::held::Held;
 use crate::language::input::{Input, text};
 use crate::language::items::are;
 use crate::language::printing::spelled_bool;
-use crate::language::setting::Setting;
-use crate::language::words::{Spelled, first_of, form_named, spelled_all};
+use crate::language::words::{Spelled, spelled_all};
 use icu_normalizer::IgnoredCharacters::{self, Dropped, Replaced};
 use icu_normalizer::uts46::Uts46Mapper;
 use icu_normalizer::{
-    AnyNormalizer, DecomposingNormalizerBorrowed, Decomposition, MappingData, NormalForm, Offence,
-    Records, Utf8Chars, check_nfd_data, collected, mapped, normalizer_to,
+    AnyNormalizer, DecomposingNormalizerBorrowed, Decomposition, MappingData, Offence, Utf8Chars,
+    check_nfd_data, collected, mapped,
 };
 use std::alloc::Global;
 
@@ -73,24 +71,6 @@ pub fn is_unchecked_form(held: &Held, text: &str, form: &[char]) -> Result<bool,
     };
     check_nfd_data(words, tables)?;
     are(Decomposition::new(text.chars(), words, tables)?, form)
-}
-
-/// The form of a text by the records.
-pub fn by_records(alloc: Global, setting: &Setting, question: &[&str]) -> Answer {
-    let (name, characters) = first_of(question)?;
-    let text = text(alloc, characters)?;
-    let normalizer = normalizer_by_records(setting, form_named(name)?)?;
-    let bytes = Utf8Chars::new(text.as_bytes());
-    spelled_all(
-        alloc,
-        &normalizer.as_borrowed().form_of_characters(alloc, bytes)?,
-    )
-}
-
-/// The normalizer to a form over what the records build.
-pub fn normalizer_by_records(setting: &Setting, form: NormalForm) -> Result<AnyNormalizer, Fault> {
-    let built = Records::build(setting.alloc, &setting.records, &setting.mapper)?;
-    Ok(normalizer_to(&built, form)?)
 }
 
 /// What becomes of ignored characters in `map` and `validate`.

@@ -1,16 +1,15 @@
 //! One call of the library, whose growths of memory can be counted and refused apart from those of what comes before it
 //! and of what compares its result. Of `nfc` and the other forms it is the call of a name, as `normalize_to`; of
 //! `unchecked`, `map` and `validate` the iterator, of `ranges` and `pairs` what makes them, of `build` that of
-//! `Records::build`, of `by-records nfc` that one and the constructor over what it builds, of `try nfc` the
-//! constructor, of `copies` the copies of each part.
-use crate::calls::{are_mapped, is_unchecked_form, normalizer_by_records};
+//! `Records::build`, of `try nfc` the constructor, of `copies` the copies of each part.
+use crate::calls::{are_mapped, is_unchecked_form};
 use crate::data::{are_copied, refusal};
 use crate::encoded::Encoded;
 use crate::language::by_hand::{pairs_of, ranges_of};
 use crate::language::fault::{Fault, agreed};
 use crate::language::input::{Input, text};
 use crate::language::setting::Setting;
-use crate::language::words::{all, first_of, form_named, words};
+use crate::language::words::{all, first_of, words};
 use icu_normalizer::{CanonicalCompositions, CodePointTable, MappingData, Records};
 
 /// Makes the call of a row, or for the form of an input the call of this name. If `stop` is `before`, it returns before
@@ -37,7 +36,7 @@ pub fn make(setting: &mut Setting, stop: &str, call: &str, row: &str) -> Result<
             drop(CanonicalCompositions::from_pairs(pairs)?);
             Ok(())
         }
-        "build" | "by-records" | "try" | "copies" => make_of_data(setting, stop, name, rest),
+        "build" | "try" | "copies" => make_of_data(setting, stop, name, rest),
         _ => {
             let wanted: Vec<char> = all(alloc, &words(alloc, wanted)?)?;
             make_of_text(setting, stop, call, &question, &wanted)
@@ -58,7 +57,6 @@ fn make_of_data(setting: &mut Setting, stop: &str, name: &str, rest: &[&str]) ->
     goes_past(stop)?;
     match (name, rest) {
         ("build", _) => drop(Records::build(setting.alloc, &setting.records, &setting.mapper)?),
-        ("by-records", [form, ..]) => drop(normalizer_by_records(setting, form_named(form)?)?),
         ("try", [name]) => {
             if let Some(error) = refusal(setting.held()?, name)? {
                 return Err(Fault::from(error));
