@@ -28,6 +28,7 @@ Requires-Python: >=3.10
 WHEEL = f"Wheel-Version: 1.0\nGenerator: {NAME}\nRoot-Is-Purelib: false\nTag: {TAG}\n"
 MODULE = f"_native{sysconfig.get_config_var('EXT_SUFFIX')}"
 SOURCES = ("__init__.py", "__init__.pyi", "py.typed")
+DATA = ("prepared", "LICENSE-UNICODE")
 
 
 def get_requires_for_build_wheel(config_settings=None):
@@ -42,13 +43,6 @@ def prefix_of_library(room):
     if ran.returncode:
         sys.exit("icu_normalizer: set ICU_NORMALIZER_PREFIX, or run `rt lib --cpu x86-64` in crates/icu_normalizer_c")
     return pathlib.Path(room) / "installed/usr"
-
-
-def data_of(prefix):
-    """The data by their names: prepared ones, or Unicode's files if the prefix has none."""
-    folder = prefix / "share/uninorm"
-    names = ["prepared"] if (folder / "prepared").exists() else ["UnicodeData.txt", "CompositionExclusions.txt"]
-    return {name: (folder / name).read_bytes() for name in [*names, "LICENSE-UNICODE"]}
 
 
 def compiled(prefix, room):
@@ -73,7 +67,7 @@ def build_wheel(wheel_directory, config_settings=None, metadata_directory=None):
     with tempfile.TemporaryDirectory() as room:
         prefix = prefix_of_library(room)
         content = {f"{NAME}/{it}": (HERE / NAME / it).read_bytes() for it in SOURCES}
-        content |= {f"{NAME}/data/{name}": data for name, data in data_of(prefix).items()}
+        content |= {f"{NAME}/data/{it}": (prefix / "share/uninorm" / it).read_bytes() for it in DATA}
         content[f"{NAME}/{MODULE}"] = pathlib.Path(compiled(prefix, room)).read_bytes()
     content |= {f"{INFO}/METADATA": METADATA.encode(), f"{INFO}/WHEEL": WHEEL.encode()}
     name = f"{NAME}-{VERSION}-{TAG}.whl"

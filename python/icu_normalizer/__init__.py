@@ -10,21 +10,54 @@ Mismatch(offset=1, found='a', expected='ä')
 >>> icu_normalizer.split("NFC", "xya\\u0308")
 ('xy', 'a\\u0308')
 
-Text is a `str`, or bytes in UTF-8. Each unpaired surrogate of a `str`, and each maximal ill-formed subpart of bytes,
-reads as U+FFFD. Offsets are in characters of a `str`, or in bytes.
+A text is a `str`, or bytes in UTF-8. Offsets are in characters of a `str`, or in bytes. A text that is already in the
+form is returned itself. `split` returns the longest beginning with which the form begins, followed by the form of the
+rest, and the rest.
 
-The functions use the data of the package, which the first call opens. `Normalizer` uses those of other files, with
-which it can `map`.
+Surrogates of a `str` stay, as with `unicodedata`, and so do names of files. What lies between them is normalized by
+itself; they are in each form, no mismatch, and no place to split at. `map` and `validate` write U+FFFD for each.
+
+>>> icu_normalizer.normalize("NFC", "a\\u0308\\udce9")
+'ä\\udce9'
+
+Ill-formed bytes are in no form, a mismatch, where U+FFFD is found, and a place to split at. `normalize`, `map` and
+`validate` raise a `UnicodeDecodeError`, or with `errors="replace"` write U+FFFD for each maximal ill-formed subpart.
+
+>>> icu_normalizer.normalize("NFC", b"a\\xff", errors="replace").decode()
+'a\ufffd'
+
+`map` maps by Unicode Technical Standard #46 and normalizes to NFC: ignored characters are dropped, disallowed ones
+become U+FFFD. Mapped text is valid only if `validate` leaves it unchanged. A `LookupError` says that the data have no
+mapper, as those of the package: a `Normalizer` of files with IdnaMappingTable.txt has one.
+
+The functions use the data of the package, of the version of Unicode `unidata_version`. `Normalizer` uses those of other
+files. Each may be called in any thread, but not in a forked child of a process with threads. While a text of 65536
+units or more is normalized, other threads run.
 """
+import operator
 import os
 from collections import namedtuple
 
-from ._native import Normalizer as _Native
-from ._native import version
+from . import _native
 
-__all__ = ["Mismatch", "Normalizer", "first_mismatch", "is_normalized", "normalize", "split", "version"]
-_DATA = os.path.join(os.path.dirname(__file__), "data")
-_PREPARED = os.path.join(_DATA, "prepared")
+__all__ = [
+    "Mismatch",
+    "Normalizer",
+    "first_mismatch",
+    "is_normalized",
+    "map",
+    "normalize",
+    "split",
+    "unidata_version",
+    "validate",
+]
+__version__ = ".".join(str(_native.version >> bits & 255) for bits in (16, 8, 0))
+_PREPARED = os.path.join(os.path.dirname(__file__), "data", "prepared")
+_ARGUMENTS = {
+    "form": ((str,), ("NFC", "NFD", "NFKC", "NFKD")),
+    "text": ((str, bytes), ()),
+    "errors": ((str,), ("strict", "replace")),
+}
 
 Mismatch = namedtuple("Mismatch", ["offset", "found", "expected"])
 Mismatch.__doc__ = """The first place where a text differs from its form.
@@ -38,49 +71,122 @@ def _read(*place):
         return file.read()
 
 
-def _read_files(directory, disallowed_limit):
-    has_table = os.path.exists(os.path.join(directory, "IdnaMappingTable.txt"))
-    table = _read(directory, "IdnaMappingTable.txt") if has_table else b""
-    return _read(directory, "UnicodeData.txt"), _read(directory, "CompositionExclusions.txt"), table, disallowed_limit
+def _stated_version(file):
+    """The version of Unicode that the first line of a file names, or None."""
+    import re
+
+    found = re.search(rb"\d+\.\d+(\.\d+)?", file.partition(b"\n")[0])
+    return found and found[0].decode()
 
 
-class Normalizer(_Native):
+def _check(call, **passed):
+    """Raises the exception of an argument that is wrong."""
+    for place, (name, it) in enumerate(passed.items(), 1):
+        kinds, values = _ARGUMENTS[name]
+        argument = f"{call}() argument {repr(name) if name == 'errors' else place} must be"
+        if not isinstance(it, kinds):
+            kind = "None" if it is None else type(it).__name__
+            raise TypeError(f"{argument} {' or '.join(it.__name__ for it in kinds)}, not {kind}")
+        if values and it not in values:
+            raise ValueError(f"{argument} one of {', '.join(repr(it) for it in values)}, not {it!r}")
+
+
+def _parts(text):
+    """What lies between the surrogates of a str."""
+    import re
+
+    return re.finditer("[^\ud800-\udfff]+", text)
+
+
+def _scalars(text, errors):
+    """A text in which U+FFFD stands for surrogates, and for ill-formed bytes if these aren't an error."""
+    if isinstance(text, bytes):
+        return text.decode("utf-8", errors).encode()
+    return "".join("\ufffd" if "\ud800" <= it <= "\udfff" else it for it in text)
+
+
+class Normalizer(_native.Normalizer):
     """Normalizers to the four forms by the files UnicodeData.txt and CompositionExclusions.txt of a directory, and a
     mapper (Unicode Technical Standard #46) by its IdnaMappingTable.txt, if it has that file.
 
     Disallowed ranges of more than `disallowed_limit` code points are left out, and a mapper leaves their characters as
     they are. The limit is from 0 to 2**32 - 1, or a `ValueError` is raised. With `prepared`, a file that `uninorm
-    prepare` made is in place of the directory: it is opened in less time. The files are read by the first call. A
-    `ValueError` says what is wrong with them.
+    prepare` made is in place of the directory: it is opened in less time. With neither, the data are the package's.
+    An `OSError` says which file can't be read, a `ValueError` what is wrong with one.
 
-    `share()` returns a normalizer for another thread, over the same data.
+    `unidata_version` is the version of Unicode that the data state, or None.
     """
 
-    __slots__ = ()
+    __slots__ = ("unidata_version",)
 
     def __new__(cls, directory=None, disallowed_limit=0x110000, *, prepared=None):
-        if not 0 <= disallowed_limit < 2**32:
+        if not 0 <= operator.index(disallowed_limit) < 2**32:
             raise ValueError(f"disallowed_limit is {disallowed_limit}, not from 0 to 2**32 - 1")
+        if directory is not None and prepared is not None:
+            raise TypeError("Normalizer() takes a directory or prepared data, not both")
+        if directory is None:
+            place = os.fsdecode(_PREPARED if prepared is None else prepared)
+            data = (_read(place),)
+        else:
+            place = os.fsdecode(directory)
+            has_table = os.path.exists(os.path.join(place, "IdnaMappingTable.txt"))
+            table = _read(place, "IdnaMappingTable.txt") if has_table else b""
+            data = _read(place, "UnicodeData.txt"), _read(place, "CompositionExclusions.txt"), table, disallowed_limit
+        try:
+            self = super().__new__(cls, Mismatch, *data)
+        except ValueError as fault:
+            raise ValueError(f"{place}: {fault}") from None
+        if directory is None:
+            numbers = [int.from_bytes(data[0][it : it + 4], "little") for it in (20, 24, 28)]
+            self.unidata_version = ".".join(str(it) for it in numbers) if any(numbers) else None
+        else:
+            self.unidata_version = _stated_version(data[1]) or _stated_version(table)
+        return self
 
-        def read():
-            if prepared is not None:
-                return _read(prepared)
-            if directory is None and os.path.exists(_PREPARED):
-                return _read(_PREPARED)
-            return _read_files(_DATA if directory is None else directory, disallowed_limit)
+    # The calls in C end with these where a `str` has surrogates, or arguments are others than a form and a text.
 
-        return super().__new__(cls, read, Mismatch)
+    def _normalize(self, form, text, /, *, errors="strict"):
+        _check("normalize", form=form, text=text, errors=errors)
+        if isinstance(text, bytes):
+            return self.normalize(form, _scalars(text, errors))
+        parts, place = [], 0
+        for part in _parts(text):
+            parts += text[place : part.start()], self.normalize(form, part[0])
+            place = part.end()
+        return "".join([*parts, text[place:]])
 
-    def map(self, text):
-        """Returns a text mapped by Unicode Technical Standard #46 and in NFC.
+    def _is_normalized(self, form, text, /):
+        _check("is_normalized", form=form, text=text)
+        return all(self.is_normalized(form, part[0]) for part in _parts(text))
 
-        Ignored characters are dropped, disallowed ones become U+FFFD. A `LookupError` says that there is no mapper.
-        """
-        return self._map(text)
+    def _first_mismatch(self, form, text, /):
+        _check("first_mismatch", form=form, text=text)
+        found = ((part.start(), self.first_mismatch(form, part[0])) for part in _parts(text))
+        return next((it._replace(offset=it.offset + start) for start, it in found if it), None)
 
+    def _split(self, form, text, /):
+        _check("split", form=form, text=text)
+        rests = ((part.end(), self.split(form, part[0])[1]) for part in _parts(text))
+        cut = next((end - len(rest) for end, rest in rests if rest), len(text))
+        return text[:cut], text[cut:]
+
+    def _map(self, text, /, *, errors="strict"):
+        _check("map", text=text, errors=errors)
+        return self.map(_scalars(text, errors))
+
+    def _validate(self, text, /, *, errors="strict"):
+        _check("validate", text=text, errors=errors)
+        return self.validate(_scalars(text, errors))
+
+
+for _call in ("normalize", "is_normalized", "first_mismatch", "split", "map", "validate"):
+    getattr(Normalizer, f"_{_call}").__qualname__ = _call  # which Python's own exceptions say
 
 _default = Normalizer()
 normalize = _default.normalize
 is_normalized = _default.is_normalized
 first_mismatch = _default.first_mismatch
 split = _default.split
+map = _default.map
+validate = _default.validate
+unidata_version = _default.unidata_version

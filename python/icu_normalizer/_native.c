@@ -1,28 +1,24 @@
-/* The calls of icu_normalizer.h for Python. */
+/* The calls of icu_normalizer.h for Python. What is rare they leave to `__init__.py`. */
 #define PY_SSIZE_T_CLEAN
 #include <Python.h>
-
 #include "icu_normalizer.h"
 
-#include <stdlib.h>
-#include <string.h>
-
-/* Up to this many units the form is written to the stack; from so many on, other Python threads run meanwhile. */
+/* Up to this many units a result is written to the stack; from so many on, other Python threads run meanwhile. */
 #define SHORT 128
 #define LONG 65536
+#define INLINE static inline __attribute__((always_inline)) /* compiled into each call, which takes less time then */
+
+typedef icu_normalizer_form Form;
+typedef icu_normalizer_status Status;
 
 typedef struct {
     PyObject_HEAD icu_normalizer handle;
-    PyObject *read;     /* returns the data of the files, with which the first call opens the handle */
     PyObject *mismatch; /* the type of mismatches */
     PyObject *words[4]; /* by form: the last str that named it, so that the same one is known at once */
     bool changes[4];    /* by form: whether the last text changed, as the next one is likely to */
 } Normalizer;
 
-typedef enum { NORMALIZE, MAP, VALIDATE } Call;
-
-/* A text: bytes, or an ASCII str, in UTF-8; a str with characters beyond U+FFFF in UTF-32, until it is `widened`; any
-   other str in UTF-16. A short text that has no surrogates is decomposed in UTF-32 too. */
+/* A text: bytes and ASCII in UTF-8, a str beyond U+FFFF in UTF-32 until it is widened, any other str in UTF-16. */
 typedef struct {
     PyObject *object;
     const void *units;
@@ -32,578 +28,322 @@ typedef struct {
     uint16_t own[2 * SHORT];
 } Text;
 
-static PyObject *failed(icu_normalizer_status status) {
+typedef enum { NORMALIZE, MAP, VALIDATE, ASK } Way; /* what a call writes; or it only answers a question */
+
+/* The library's function of this name for a text of this width. */
+#define BY_WIDTH(width, name, ...) \
+    ((width) == 1 ? icu_normalizer_##name##_utf8(__VA_ARGS__) : icu_normalizer_##name##_utf16(__VA_ARGS__))
+#define BY_ANY_WIDTH(width, name, ...) \
+    ((width) == 4 ? icu_normalizer_##name##_utf32(__VA_ARGS__) : BY_WIDTH(width, name, __VA_ARGS__))
+
+static PyObject *failed(Status status) {
     if (status == ICU_NORMALIZER_OUT_OF_MEMORY) return PyErr_NoMemory();
-    PyObject *kind = status == ICU_NORMALIZER_NO_MAPPER ? PyExc_LookupError : PyExc_ValueError;
-    PyErr_SetString(kind, icu_normalizer_status_text(status));
-    return NULL;
+    if (status == ICU_NORMALIZER_NO_MAPPER) return PyErr_Format(PyExc_LookupError, "the data have no mapper (UTS #46)");
+    return PyErr_Format(PyExc_ValueError, "%s", icu_normalizer_status_text(status));
 }
 
-static PyObject *failed_to_open(icu_normalizer_status status, const icu_normalizer_defect *defect) {
-    const char *files[] = {"UnicodeData.txt", "CompositionExclusions.txt", "IdnaMappingTable.txt"};
-    if (status == ICU_NORMALIZER_WRONG_LINE && defect->source < 3)
-        return PyErr_Format(PyExc_ValueError, "%s:%zu: %s", files[defect->source], defect->place,
-            icu_normalizer_reason_text(defect->reason));
-    if (status == ICU_NORMALIZER_WRONG_RECORDS && defect->source < 3)
-        return PyErr_Format(PyExc_ValueError, "%s:%zu: U+%04X: %s", files[defect->source], defect->place,
-            (unsigned)defect->character, icu_normalizer_reason_text(defect->reason));
-    if (status == ICU_NORMALIZER_WRONG_RECORDS)
-        return PyErr_Format(PyExc_ValueError, "%s: %s", icu_normalizer_status_text(status),
-            icu_normalizer_reason_text(defect->reason));
-    if (status == ICU_NORMALIZER_WRONG_PREPARED && defect->condition)
-        return PyErr_Format(PyExc_ValueError, "%s: condition %u", icu_normalizer_reason_text(defect->reason),
-            (unsigned)defect->condition);
-    if (status == ICU_NORMALIZER_WRONG_PREPARED)
-        return PyErr_Format(PyExc_ValueError, "%s at byte %zu", icu_normalizer_reason_text(defect->reason),
-            defect->place);
-    return failed(status);
-}
-
-/* By the bytes of a file of prepared data. */
-static bool opened_prepared(Normalizer *self, PyObject *data) {
-    icu_normalizer_defect defect = {0};
-    icu_normalizer_status status = icu_normalizer_open_prepared(&self->handle,
-        (const uint8_t *)PyBytes_AS_STRING(data), (size_t)PyBytes_GET_SIZE(data), &defect);
-    if (status) failed_to_open(status, &defect);
-    return !status;
-}
-
-/* By the bytes of three files, and the limit of disallowed ranges. */
-static bool opened_files(Normalizer *self, PyObject *data) {
-    const char *unicode_data, *exclusions, *table;
-    Py_ssize_t unicode_data_length, exclusions_length, table_length;
-    unsigned int limit;
-    icu_normalizer_defect defect = {0};
-    icu_normalizer_status status = ICU_NORMALIZER_NOT_OPEN;
-    bool is_read = PyArg_ParseTuple(data, "y#y#y#I", &unicode_data, &unicode_data_length, &exclusions,
-        &exclusions_length, &table, &table_length, &limit);
-    if (is_read) {
-        status = icu_normalizer_open_files(&self->handle, (const uint8_t *)unicode_data, (size_t)unicode_data_length,
-            (const uint8_t *)exclusions, (size_t)exclusions_length, (const uint8_t *)table, (size_t)table_length, limit,
-            &defect);
-        if (status) failed_to_open(status, &defect);
-    }
-    return is_read && !status;
-}
-
-static bool opened(Normalizer *self) {
-    PyObject *data = PyObject_CallNoArgs(self->read);
-    if (!data) return false;
-    bool is = PyBytes_Check(data) ? opened_prepared(self, data) : opened_files(self, data);
-    Py_DECREF(data);
-    return is;
-}
-
-static inline bool is_open(Normalizer *self) {
-    return self->handle.is_open || opened(self);
-}
-
-/* Until Python 3.12 a str may have been made without its characters. */
-static inline bool is_ready(PyObject *str) {
-#if PY_VERSION_HEX < 0x030C0000
-    if (PyUnicode_READY(str)) return false;
-#endif
-    (void)str;
-    return true;
-}
-
-static bool named_form(PyObject *word, icu_normalizer_form *form) {
-    if (PyUnicode_Check(word) && is_ready(word) && PyUnicode_IS_ASCII(word)) {
-        const Py_UCS1 *name = PyUnicode_1BYTE_DATA(word);
-        Py_ssize_t length = PyUnicode_GET_LENGTH(word);
-        bool has_k = length == 4 && name[2] == 'K';
-        if (length == 3 + has_k && name[0] == 'N' && name[1] == 'F') {
-            if (name[length - 1] == 'C') return *form = has_k ? ICU_NORMALIZER_NFKC : ICU_NORMALIZER_NFC, true;
-            if (name[length - 1] == 'D') return *form = has_k ? ICU_NORMALIZER_NFKD : ICU_NORMALIZER_NFD, true;
-        }
-    }
-    if (!PyErr_Occurred()) PyErr_SetString(PyExc_ValueError, "the form is not NFC, NFD, NFKC or NFKD");
-    return false;
-}
-
-static inline bool form_of(Normalizer *self, PyObject *word, icu_normalizer_form *form) {
+INLINE bool is_form(Normalizer *self, PyObject *word, Form *form) {
+    static const char *const forms[] = {"NFD", "NFC", "NFKD", "NFKC"};
     for (*form = 0; *form < 4; ++*form)
         if (word == self->words[*form]) return true;
-    if (!named_form(word, form)) return false;
-    Py_INCREF(word);
-    Py_XSETREF(self->words[*form], word);
-    return true;
+    for (*form = PyUnicode_Check(word) ? 0 : 4; *form < 4; ++*form)
+        if (!PyUnicode_CompareWithASCIIString(word, forms[*form])) break;
+    if (*form < 4) Py_XSETREF(self->words[*form], Py_NewRef(word));
+    return *form < 4;
 }
 
 typedef uint32_t Four __attribute__((vector_size(16)));
+#define PAIR_OF(character) ((((character) >> 10) + 0xD7C0) | (((character) & 0x3FF) | 0xDC00) << 16)
 
 /* Writes four characters as pairs of surrogates, if all are beyond U+FFFF. */
 static inline bool widen_four(const Py_UCS4 *from, uint16_t *to) {
     Four four;
     uint64_t narrow[2];
     memcpy(&four, from, sizeof four);
-    Four is_narrow = (Four)(four >> 16 == 0);
+    Four is_narrow = (Four)(four >> 16 == 0), pairs = PAIR_OF(four);
     memcpy(narrow, &is_narrow, sizeof narrow);
-    if (narrow[0] | narrow[1]) return false;
-    Four pairs = ((four >> 10) + 0xD7C0) | ((four & 0x3FF) | 0xDC00) << 16;
-    memcpy(to, &pairs, sizeof pairs);
-    return true;
+    if (!(narrow[0] | narrow[1])) memcpy(to, &pairs, sizeof pairs);
+    return !(narrow[0] | narrow[1]);
 }
 
-/* Writes characters as 16-bit units. Surrogates stay as they are. */
-static size_t widen(const Py_UCS4 *from, size_t length, uint16_t *units) {
-    uint16_t *to = units;
-    const Py_UCS4 *end = from + length;
+/* Puts Latin-1 or UTF-32 into UTF-16. Surrogates stay as they are. */
+static bool is_widened(Text *text) {
+    size_t length = text->length;
+    uint16_t *units = length <= SHORT ? text->own : (text->made = PyMem_RawMalloc(4 * length)), *to = units;
+    const Py_UCS1 *latin = text->units, *latin_end = latin + (text->width == 1 ? length : 0);
+    const Py_UCS4 *from = text->units, *end = from + (text->width == 4 ? length : 0);
+    if (!units) return PyErr_NoMemory(), false;
+    while (latin < latin_end) *to++ = *latin++;
     for (; end - from >= 4 && widen_four(from, to); from += 4) to += 8;
-    /* If fewer than four are left after others beyond U+FFFF, the last four are widened, some of them again. */
-    bool is_last = to > units && from < end && end - from < 4;
-    if (is_last && widen_four(end - 4, units + 2 * length - 8)) return 2 * length;
     for (; from < end; from++) {
-        /* Both units are stored at once, as they may be read. */
-        uint32_t pair = Py_UNICODE_HIGH_SURROGATE(*from) | (uint32_t)Py_UNICODE_LOW_SURROGATE(*from) << 16;
-        if (*from > 0xFFFF) {
-            memcpy(to, &pair, sizeof pair);
-            to += 2;
-        } else {
-            *to++ = (uint16_t)*from;
-        }
+        bool is_pair = *from > 0xFFFF;
+        uint32_t it = is_pair ? PAIR_OF(*from) : *from;
+        memcpy(to, &it, sizeof it); /* both units are stored at once, as they may be read */
+        to += 1 + is_pair;
     }
-    return (size_t)(to - units);
-}
-
-/* Room for the 16-bit units of a str that hasn't them itself. */
-static inline uint16_t *room_of(Text *text) {
-    if (text->length <= SHORT) return text->own;
-    text->made = PyMem_RawMalloc(4 * text->length);
-    if (!text->made) PyErr_NoMemory();
-    return text->made;
-}
-
-/* Puts a str of Latin-1 into UTF-16. */
-static inline bool widened_latin(Text *text) {
-    const Py_UCS1 *from = text->units;
-    uint16_t *units = room_of(text);
-    if (!units) return false;
-    for (size_t place = 0; place < text->length; place++) units[place] = from[place];
     text->units = units;
+    text->length = (size_t)(to - units);
     text->width = sizeof *units;
     return true;
 }
 
-/* Puts a text in UTF-32 into UTF-16. */
-static bool made_wide(Text *text) {
-    uint16_t *units = room_of(text);
-    if (!units) return false;
-    text->length = widen(text->units, text->length, units);
-    text->units = units;
-    text->width = sizeof *units;
-    return true;
-}
-
-/* Most calls need a text in UTF-8 or UTF-16. */
-static inline bool widened(Text *text) {
-    return text->width != sizeof(Py_UCS4) || made_wide(text);
-}
-
-/* Whether a text in UTF-32 has surrogates: in UTF-16 two of them may be a pair. */
-static bool has_surrogates(const Text *text) {
-    const Py_UCS4 *characters = text->units;
-    for (size_t place = 0; text->width == sizeof *characters && place < text->length; place++)
-        if (Py_UNICODE_IS_SURROGATE(characters[place])) return true;
-    return false;
-}
-
-static inline bool text_of(PyObject *object, Text *text) {
+INLINE bool is_text(PyObject *object, Text *text) {
+    bool is_str = PyUnicode_Check(object);
+    if (is_str ? PyUnicode_READY(object) : !PyBytes_Check(object)) return false;
+    bool is_utf8 = !is_str || PyUnicode_IS_ASCII(object);
     text->object = object;
+    text->units = is_str ? PyUnicode_DATA(object) : PyBytes_AS_STRING(object);
+    text->length = (size_t)(is_str ? PyUnicode_GET_LENGTH(object) : PyBytes_GET_SIZE(object));
+    text->width = is_utf8 ? 1 : PyUnicode_KIND(object);
     text->made = NULL;
-    text->width = 1;
-    if (!PyUnicode_Check(object)) {
-        if (!PyBytes_Check(object)) return PyErr_SetString(PyExc_TypeError, "a text is a str or bytes"), false;
-        text->units = PyBytes_AS_STRING(object);
-        text->length = (size_t)PyBytes_GET_SIZE(object);
-        return true;
+    return is_utf8 || text->width != 1 || is_widened(text);
+}
+
+/* Whether what the library reads is the text: a str without surrogates, or bytes, of which those that are written are
+   well-formed, or there is an exception. */
+static bool is_read(Way way, const Text *text) {
+    PyObject *it = text->object;
+    if (PyUnicode_Check(it)) {
+        size_t length = (size_t)PyUnicode_GET_LENGTH(it), width = PyUnicode_KIND(it);
+        const uint16_t *narrow = PyUnicode_DATA(it);
+        const Py_UCS4 *wide = PyUnicode_DATA(it);
+        uint16_t in_narrow = 0;
+        Py_UCS4 in_wide = 0;
+        for (size_t place = 0; width == 2 && place < length; place++) in_narrow |= narrow[place] >> 11 == 0xD800 >> 11;
+        for (size_t place = 0; width == 4 && place < length; place++) in_wide |= wide[place] >> 11 == 0xD800 >> 11;
+        return !in_narrow && !in_wide;
     }
-    if (!is_ready(object)) return false;
-    text->units = PyUnicode_DATA(object);
-    text->length = (size_t)PyUnicode_GET_LENGTH(object);
-    if (PyUnicode_IS_ASCII(object)) return true;
-    text->width = PyUnicode_KIND(object);
-    return text->width != 1 || widened_latin(text);
+    PyObject *made = way == ASK ? Py_NewRef(it) : PyUnicode_DecodeUTF8(text->units, (Py_ssize_t)text->length, NULL);
+    Py_XDECREF(made);
+    return made;
 }
 
-static inline void release_text(Text *text) {
-    if (text->made) PyMem_RawFree(text->made);
-}
-
-/* How many pairs of surrogates are in well-formed UTF-16. It is counted in parts, so that 16 bits are enough for each. */
 static size_t count_pairs(const uint16_t *units, size_t length) {
     size_t pairs = 0;
-    for (const uint16_t *end = units + length; units < end;) {
-        size_t part = Py_MIN((size_t)(end - units), 0x8000);
-        uint16_t found = 0;
-        for (size_t place = 0; place < part; place++) found += Py_UNICODE_IS_LOW_SURROGATE(units[place]);
-        pairs += found;
-        units += part;
-    }
+    for (size_t place = 0; place < length; place++) pairs += Py_UNICODE_IS_LOW_SURROGATE(units[place]);
     return pairs;
 }
 
-static void join_pairs(const uint16_t *units, size_t length, Py_UCS4 *to) {
-    for (const uint16_t *end = units + length; units < end; units++)
-        if (Py_UNICODE_IS_HIGH_SURROGATE(*units)) {
-            *to++ = Py_UNICODE_JOIN_SURROGATES(units[0], units[1]);
-            units++;
-        } else {
-            *to++ = *units;
-        }
-}
-
-/* The str of well-formed UTF-16. */
-static PyObject *str_of(const uint16_t *units, size_t length) {
-    unsigned bits = 0;
-    for (size_t place = 0; place < length; place++) bits |= units[place];
-    size_t pairs = bits < 0xD800 ? 0 : count_pairs(units, length);
-    PyObject *made = PyUnicode_New((Py_ssize_t)(length - pairs), pairs ? 0x10FFFF : bits);
-    if (!made || !length) return made;
-    if (pairs) {
-        join_pairs(units, length, PyUnicode_4BYTE_DATA(made));
-    } else if (bits < 0x100) {
-        Py_UCS1 *to = PyUnicode_1BYTE_DATA(made);
-        for (size_t place = 0; place < length; place++) to[place] = (Py_UCS1)units[place];
-    } else {
-        memcpy(PyUnicode_2BYTE_DATA(made), units, length * sizeof(uint16_t));
-    }
-    return made;
-}
-
-/* The str of characters. */
-static PyObject *str_of_characters(const Py_UCS4 *characters, size_t length) {
+/* The str of well-formed UTF-16 or UTF-32. */
+INLINE PyObject *str_of(int width, const void *units, size_t length) {
+    const uint16_t *from = units, *end = from + length;
     Py_UCS4 bits = 0;
-    for (size_t place = 0; place < length; place++) bits |= characters[place];
-    PyObject *made = PyUnicode_New((Py_ssize_t)length, bits > 0xFFFF ? 0x10FFFF : bits);
-    if (!made || !length) return made;
-    if (bits > 0xFFFF) {
-        memcpy(PyUnicode_4BYTE_DATA(made), characters, length * sizeof *characters);
-    } else if (bits >= 0x100) {
-        Py_UCS2 *to = PyUnicode_2BYTE_DATA(made);
-        for (size_t place = 0; place < length; place++) to[place] = (Py_UCS2)characters[place];
-    } else {
-        Py_UCS1 *to = PyUnicode_1BYTE_DATA(made);
-        for (size_t place = 0; place < length; place++) to[place] = (Py_UCS1)characters[place];
+    for (size_t place = 0; place < length; place++) bits |= PyUnicode_READ(width, units, place);
+    size_t pairs = width == 2 && bits >= 0xD800 ? count_pairs(units, length) : 0;
+    PyObject *made = PyUnicode_New((Py_ssize_t)(length - pairs), pairs || bits > 0xFFFF ? 0x10FFFF : bits);
+    if (!made) return NULL;
+    int kind = PyUnicode_KIND(made);
+    Py_UCS1 *latin = PyUnicode_DATA(made);
+    Py_UCS2 *narrow = PyUnicode_DATA(made);
+    Py_UCS4 *wide = PyUnicode_DATA(made);
+    if (kind == width) return memcpy(wide, units, length * (size_t)width), made;
+    for (size_t at = 0; kind == 1 && at < length; at++) latin[at] = (Py_UCS1)PyUnicode_READ(width, units, at);
+    for (size_t at = 0; kind == 2 && at < length; at++) narrow[at] = (Py_UCS2)PyUnicode_READ(width, units, at);
+    for (bool is_pair; kind == 4 && from < end; from += 1 + is_pair) {
+        is_pair = Py_UNICODE_IS_HIGH_SURROGATE(*from);
+        *wide++ = is_pair ? Py_UNICODE_JOIN_SURROGATES(from[0], from[1]) : *from;
     }
     return made;
 }
 
-static PyObject *object_of(const Text *text, const void *units, size_t length) {
+static PyObject *made_of(Way way, const Text *text, const void *units, size_t length) {
+    bool is_same = length == text->length && !memcmp(units, text->units, length * text->width);
+    if (!(is_same && way == NORMALIZE) && !is_read(way, text)) return NULL;
+    if (is_same) return Py_NewRef(text->object);
     if (PyBytes_Check(text->object)) return PyBytes_FromStringAndSize(units, (Py_ssize_t)length);
-    switch (text->width) {
-        case 1: return PyUnicode_DecodeUTF8(units, (Py_ssize_t)length, NULL);
-        case 2: return str_of(units, length);
-        default: return str_of_characters(units, length);
-    }
+    if (text->width == 1) return PyUnicode_DecodeUTF8(units, (Py_ssize_t)length, NULL);
+    return text->width == 2 ? str_of(2, units, length) : str_of(4, units, length);
 }
 
-/* The text itself, but for a subclass of str or bytes a copy. */
-static inline PyObject *same(const Text *text) {
-    if (PyUnicode_CheckExact(text->object) || PyBytes_CheckExact(text->object)) return Py_NewRef(text->object);
-    if (PyUnicode_Check(text->object)) return PyUnicode_FromObject(text->object);
-    return PyBytes_FromStringAndSize(text->units, (Py_ssize_t)text->length);
-}
-
-static inline icu_normalizer_status call_of(icu_normalizer *handle, Call call, icu_normalizer_form form,
-    const Text *text, size_t from, void *output, size_t room, size_t *needed) {
-    size_t length = text->length - from;
-    if (text->width == sizeof(Py_UCS4))
-        return icu_normalizer_normalize_utf32(handle, form, text->units, length, output, room, needed);
-    if (text->width != 1) {
-        const uint16_t *units = (const uint16_t *)text->units + from;
-        switch (call) {
-            case MAP: return icu_normalizer_map_utf16(handle, units, length, output, room, needed);
-            case VALIDATE: return icu_normalizer_validate_utf16(handle, units, length, output, room, needed);
-            default: return icu_normalizer_normalize_utf16(handle, form, units, length, output, room, needed);
-        }
-    }
-    const uint8_t *bytes = (const uint8_t *)text->units + from;
-    switch (call) {
-        case MAP: return icu_normalizer_map_utf8(handle, bytes, length, output, room, needed);
-        case VALIDATE: return icu_normalizer_validate_utf8(handle, bytes, length, output, room, needed);
-        default: return icu_normalizer_normalize_utf8(handle, form, bytes, length, output, room, needed);
-    }
-}
-
-static icu_normalizer_status cut_of(icu_normalizer *handle, icu_normalizer_form form, const Text *text, size_t *cut) {
-    if (text->width == 1) return icu_normalizer_split_utf8(handle, form, text->units, text->length, cut);
-    return icu_normalizer_split_utf16(handle, form, text->units, text->length, cut);
-}
-
-static icu_normalizer_status check_of(icu_normalizer *handle, icu_normalizer_form form, const Text *text, bool *is) {
-    switch (text->width) {
-        case 1: return icu_normalizer_is_normalized_utf8(handle, form, text->units, text->length, is);
-        case 2: return icu_normalizer_is_normalized_utf16(handle, form, text->units, text->length, is);
-        default: return icu_normalizer_is_normalized_utf32(handle, form, text->units, text->length, is);
-    }
-}
-
-static PyObject *short_result(Normalizer *self, Call call, icu_normalizer_form form, const Text *text) {
-    Py_UCS4 output[18 * SHORT];
-    size_t needed, size = text->width;
-    icu_normalizer_status status = call_of(&self->handle, call, form, text, 0, output, sizeof output / size, &needed);
-    if (status == ICU_NORMALIZER_BUFFER_TOO_SMALL) return NULL;
-    if (status) return failed(status);
-    if (needed == text->length && !memcmp(output, text->units, needed * size)) return same(text);
-    return object_of(text, output, needed);
-}
-
-/* The result in memory of its own, or null if the text is already normalized. */
-static icu_normalizer_status long_result(icu_normalizer *handle, Call call, icu_normalizer_form form, const Text *text,
-    char **output, size_t *length) {
-    size_t cut = 0, needed = 0, size = text->width;
-    *output = NULL;
-    if (call == NORMALIZE) {
-        icu_normalizer_status status = cut_of(handle, form, text, &cut);
+/* Writes to memory of its own, unless the text is already normalized. */
+static Status write_long(icu_normalizer *handle, Way way, Form form, const Text *text, char **units, size_t *length) {
+    size_t cut = 0, needed, width = text->width;
+    if (way == NORMALIZE) {
+        Status status = BY_WIDTH(width, split, handle, form, text->units, text->length, &cut);
         if (status || cut == text->length) return status;
     }
     /* The form is what comes before the cut, followed by the form of the rest. */
-    size_t room = (text->length - cut) * (size == 1 ? 3 : 4) + 64;
-    for (;;) {
-        char *larger = PyMem_RawRealloc(*output, (cut + room) * size);
+    const void *rest = (const char *)text->units + cut * width;
+    size_t rest_length = text->length - cut;
+    for (size_t room = 4 * rest_length + 64;; room = needed) {
+        char *larger = PyMem_RawRealloc(*units, (cut + room) * width);
         if (!larger) return ICU_NORMALIZER_OUT_OF_MEMORY;
-        *output = larger;
-        icu_normalizer_status status = call_of(handle, call, form, text, cut, larger + cut * size, room, &needed);
+        *units = larger;
+        void *to = larger + cut * width;
+        Status status = way == MAP ? BY_WIDTH(width, map, handle, rest, rest_length, to, room, &needed)
+            : way == VALIDATE ? BY_WIDTH(width, validate, handle, rest, rest_length, to, room, &needed)
+            : BY_WIDTH(width, normalize, handle, form, rest, rest_length, to, room, &needed);
         *length = cut + needed;
-        if (!status) memcpy(larger, text->units, cut * size);
+        if (!status) memcpy(larger, text->units, cut * width);
         if (status != ICU_NORMALIZER_BUFFER_TOO_SMALL) return status;
-        room = needed;
     }
 }
 
-/* Whether the text stays in UTF-32, if it is. A short text is decomposed there in less time than UTF-16 takes. */
-static inline bool is_made_in_utf32(Call call, icu_normalizer_form form, const Text *text) {
-    bool decomposes = form == ICU_NORMALIZER_NFD || form == ICU_NORMALIZER_NFKD;
-    return call == NORMALIZE && decomposes && text->length <= SHORT && !has_surrogates(text);
-}
-
-static PyObject *result(Normalizer *self, Call call, icu_normalizer_form form, Text *text) {
-    if (!is_made_in_utf32(call, form, text) && !widened(text)) return NULL;
-    if (text->length <= SHORT) {
-        PyObject *made = short_result(self, call, form, text);
-        if (made || PyErr_Occurred()) return made;
-        if (!widened(text)) return NULL;
+static PyObject *written(Normalizer *self, Way way, Form form, Text *text) {
+    bool is_short = way == NORMALIZE && text->length <= SHORT;
+    /* A short text is decomposed in UTF-32 in less time than UTF-16 takes. */
+    bool stays = is_short && (form == ICU_NORMALIZER_NFD || form == ICU_NORMALIZER_NFKD);
+    if (text->width == 4 && !stays && !is_widened(text)) return NULL;
+    Status status;
+    size_t length;
+    if (is_short && text->length <= SHORT) {
+        Py_UCS4 own[18 * SHORT];
+        status = BY_ANY_WIDTH(text->width, normalize, &self->handle, form, text->units, text->length, (void *)own,
+            18 * SHORT, &length);
+        if (status != ICU_NORMALIZER_BUFFER_TOO_SMALL) return status ? failed(status) : made_of(way, text, own, length);
+        if (text->width == 4 && !is_widened(text)) return NULL;
     }
-    char *output;
-    size_t length = 0;
-    icu_normalizer_status status;
+    char *units = NULL;
     icu_normalizer own = ICU_NORMALIZER_CLOSED;
-    if (text->length >= LONG && icu_normalizer_share(&self->handle, &own) == ICU_NORMALIZER_OK) {
-        Py_BEGIN_ALLOW_THREADS
-        status = long_result(&own, call, form, text, &output, &length);
-        icu_normalizer_close(&own);
-        Py_END_ALLOW_THREADS
-    } else {
-        status = long_result(&self->handle, call, form, text, &output, &length);
-    }
-    PyObject *made = status ? failed(status) : output ? object_of(text, output, length) : same(text);
-    PyMem_RawFree(output);
+    bool is_shared = text->length >= LONG && icu_normalizer_share(&self->handle, &own) == ICU_NORMALIZER_OK;
+    PyThreadState *state = is_shared ? PyEval_SaveThread() : NULL;
+    status = write_long(is_shared ? &own : &self->handle, way, form, text, &units, &length);
+    icu_normalizer_close(&own);
+    if (is_shared) PyEval_RestoreThread(state);
+    PyObject *made = status ? failed(status) : units ? made_of(way, text, units, length) : Py_NewRef(text->object);
+    PyMem_RawFree(units);
     return made;
 }
 
-static PyObject *mapped(PyObject *it, Call call, PyObject *object) {
-    Normalizer *self = (Normalizer *)it;
-    Text text;
-    if (!is_open(self) || !text_of(object, &text)) return NULL;
-    PyObject *made = result(self, call, 0, &text);
-    release_text(&text);
-    return made;
-}
-
-/* The form and the text that are passed to a call of this name. */
-static inline bool is_passed(const char *name, Normalizer *self, PyObject *const *passed, Py_ssize_t count,
-    icu_normalizer_form *form, Text *text) {
-    if (count != 2) {
-        PyErr_Format(PyExc_TypeError, "%s() takes a form and a text", name);
-        return false;
-    }
-    return form_of(self, passed[0], form) && is_open(self) && text_of(passed[1], text);
-}
-
-/* Whether a short text is in the form, if that is likely. Seeing it takes less time than writing the form. */
-static inline bool is_seen_in_form(Normalizer *self, icu_normalizer_form form, const Text *text) {
+static PyObject *normalized(Normalizer *self, Way way, Form form, Text *text) {
+    /* To see that a short text is in the form takes less time than to write the form. */
     bool is = false;
-    if (!self->changes[form] && text->length <= SHORT) check_of(&self->handle, form, text, &is);
-    return is;
-}
-
-static PyObject *normalize(PyObject *it, PyObject *const *passed, Py_ssize_t count) {
-    Normalizer *self = (Normalizer *)it;
-    icu_normalizer_form form;
-    Text text;
-    if (!is_passed("normalize", self, passed, count, &form, &text)) return NULL;
-    PyObject *made = is_seen_in_form(self, form, &text) ? same(&text) : result(self, NORMALIZE, form, &text);
-    self->changes[form] = made != passed[1];
-    release_text(&text);
+    if (!self->changes[form] && text->length <= SHORT)
+        BY_ANY_WIDTH(text->width, is_normalized, &self->handle, form, text->units, text->length, &is);
+    PyObject *made = is ? Py_NewRef(text->object) : written(self, way, form, text);
+    self->changes[form] = made != text->object;
     return made;
 }
 
-static PyObject *map(PyObject *self, PyObject *text) {
-    return mapped(self, MAP, text);
-}
-
-static PyObject *validate(PyObject *self, PyObject *text) {
-    return mapped(self, VALIDATE, text);
-}
-
-static PyObject *is_normalized(PyObject *it, PyObject *const *passed, Py_ssize_t count) {
-    Normalizer *self = (Normalizer *)it;
-    icu_normalizer_form form;
-    Text text;
+static PyObject *checked(Normalizer *self, Way way, Form form, Text *text) {
     bool is = false;
-    if (!is_passed("is_normalized", self, passed, count, &form, &text)) return NULL;
-    icu_normalizer_status status = check_of(&self->handle, form, &text, &is);
-    if (!status && !is && has_surrogates(&text)) {
-        if (!widened(&text)) return NULL;
-        status = check_of(&self->handle, form, &text, &is);
-    }
-    release_text(&text);
-    return status ? failed(status) : PyBool_FromLong(is);
-}
-
-/* How many characters or bytes of the text come before so many units. */
-static Py_ssize_t index_of(const Text *text, size_t units) {
-    if (text->width == 1 || PyUnicode_KIND(text->object) != PyUnicode_4BYTE_KIND) return (Py_ssize_t)units;
-    const Py_UCS4 *from = PyUnicode_4BYTE_DATA(text->object);
-    Py_ssize_t index = 0;
-    for (size_t before = 0; before < units; index++) before += from[index] > 0xFFFF ? 2 : 1;
-    return index;
-}
-
-static PyObject *first_mismatch(PyObject *it, PyObject *const *passed, Py_ssize_t count) {
-    Normalizer *self = (Normalizer *)it;
-    icu_normalizer_form form;
-    Text text;
-    icu_normalizer_mismatch mismatch = {0, 0, 0, false};
-    if (!is_passed("first_mismatch", self, passed, count, &form, &text) || !widened(&text)) return NULL;
-    icu_normalizer_status status = text.width == 1
-        ? icu_normalizer_first_mismatch_utf8(&self->handle, form, text.units, text.length, &mismatch)
-        : icu_normalizer_first_mismatch_utf16(&self->handle, form, text.units, text.length, &mismatch);
-    Py_ssize_t offset = index_of(&text, mismatch.offset);
-    release_text(&text);
+    Status status = BY_ANY_WIDTH(text->width, is_normalized, &self->handle, form, text->units, text->length, &is);
     if (status) return failed(status);
-    if (!mismatch.exists) Py_RETURN_NONE;
-    PyObject *found = PyUnicode_FromOrdinal((int)mismatch.found);
-    PyObject *expected = PyUnicode_FromOrdinal((int)mismatch.expected);
-    PyObject *made = found && expected ? PyObject_CallFunction(self->mismatch, "nOO", offset, found, expected) : NULL;
-    Py_XDECREF(found);
-    Py_XDECREF(expected);
-    return made;
+    return is || is_read(way, text) ? PyBool_FromLong(is) : NULL;
 }
 
-static PyObject *split(PyObject *it, PyObject *const *passed, Py_ssize_t count) {
-    Normalizer *self = (Normalizer *)it;
-    icu_normalizer_form form;
-    Text text;
+/* Where in a str or bytes so many units of its text end, or its end. */
+static Py_ssize_t place_of(const Text *text, size_t units) {
+    if (units == text->length) return PyObject_Length(text->object);
+    bool has_pairs = text->width == 2 && PyUnicode_KIND(text->object) == PyUnicode_4BYTE_KIND;
+    return (Py_ssize_t)(units - (has_pairs ? count_pairs(text->units, units) : 0));
+}
+
+static PyObject *mismatched(Normalizer *self, Way way, Form form, Text *text) {
+    icu_normalizer_mismatch it = {0, 0, 0, false};
+    if (text->width == 4 && !is_widened(text)) return NULL;
+    Status status = BY_WIDTH(text->width, first_mismatch, &self->handle, form, text->units, text->length, &it);
+    if (status) return failed(status);
+    if (!it.exists) Py_RETURN_NONE;
+    if (!is_read(way, text)) return NULL;
+    return PyObject_CallFunction(self->mismatch, "nCC", place_of(text, it.offset), it.found, it.expected);
+}
+
+static PyObject *divided(Normalizer *self, Way way, Form form, Text *text) {
     size_t cut = 0;
-    if (!is_passed("split", self, passed, count, &form, &text) || !widened(&text)) return NULL;
-    icu_normalizer_status status = cut_of(&self->handle, form, &text, &cut);
-    Py_ssize_t index = index_of(&text, cut);
-    release_text(&text);
+    if (text->width == 4 && !is_widened(text)) return NULL;
+    Status status = BY_WIDTH(text->width, split, &self->handle, form, text->units, text->length, &cut);
     if (status) return failed(status);
-    PyObject *prefix = PySequence_GetSlice(passed[1], 0, index);
-    PyObject *rest = PySequence_GetSlice(passed[1], index, PY_SSIZE_T_MAX);
-    PyObject *made = prefix && rest ? PyTuple_Pack(2, prefix, rest) : NULL;
-    Py_XDECREF(prefix);
-    Py_XDECREF(rest);
+    if (cut < text->length && !is_read(way, text)) return NULL;
+    Py_ssize_t place = place_of(text, cut);
+    PyObject *prefix = PySequence_GetSlice(text->object, 0, place);
+    return Py_BuildValue("NN", prefix, PySequence_GetSlice(text->object, place, PY_SSIZE_T_MAX));
+}
+
+/* The answer of a call. If it is null without an exception, as of a str with surrogates, for which the library reads
+   U+FFFD, or if other things are passed, the method of this name after an underscore in `__init__.py` answers. */
+INLINE PyObject *called(Way way, PyObject *(*answer)(Normalizer *, Way, Form, Text *), const char *otherwise,
+    PyObject *it, PyObject *const *passed, Py_ssize_t count, PyObject *names) {
+    Normalizer *self = (Normalizer *)it;
+    bool has_form = way != MAP && way != VALIDATE;
+    Form form = 0;
+    Text text;
+    if (count != 1 + has_form)
+        return PyErr_Format(PyExc_TypeError, "%s() takes exactly %s (%zd given)", otherwise + 1,
+            has_form ? "2 positional arguments" : "1 positional argument", count);
+    if (!names && (!has_form || is_form(self, passed[0], &form)) && is_text(passed[count - 1], &text)) {
+        PyObject *made = answer(self, way, form, &text);
+        if (text.made) PyMem_RawFree(text.made);
+        if (made) return made;
+    }
+    PyObject *method = PyErr_Occurred() ? NULL : PyObject_GetAttrString(it, otherwise);
+    PyObject *made = method ? PyObject_Vectorcall(method, passed, (size_t)count, names) : NULL;
+    Py_XDECREF(method);
     return made;
 }
 
-static PyObject *made_of(PyTypeObject *type, PyObject *read, PyObject *mismatch) {
-    allocfunc allocate = (allocfunc)PyType_GetSlot(type, Py_tp_alloc);
-    Normalizer *self = (Normalizer *)allocate(type, 0);
+#define CALLS(CALL) \
+    CALL(NORMALIZE, normalize, normalized, "form, text, /, *, errors='strict'", "Returns the form of a text.") \
+    CALL(ASK, is_normalized, checked, "form, text, /", "Returns whether a text is already in the form.") \
+    CALL(ASK, first_mismatch, mismatched, "form, text, /", "Returns the first mismatch with the form, or None.") \
+    CALL(ASK, split, divided, "form, text, /", "Returns the beginning that stays in the form, and the rest.") \
+    CALL(MAP, map, written, "text, /, *, errors='strict'", "Returns a text mapped by UTS #46 and in NFC.") \
+    CALL(VALIDATE, validate, written, "text, /, *, errors='strict'", "As map(), but ignored characters become U+FFFD.")
+
+#define FUNCTION(way, name, answer, signature, text) \
+    static PyObject *name(PyObject *it, PyObject *const *passed, Py_ssize_t count, PyObject *names) { \
+        return called(way, answer, "_" #name, it, passed, count, names); \
+    }
+CALLS(FUNCTION)
+#define METHOD(way, name, answer, signature, text) {#name, (PyCFunction)(void (*)(void))name, \
+    METH_FASTCALL | METH_KEYWORDS, #name "($self, " signature ")\n--\n\n" text},
+static PyMethodDef methods[] = {CALLS(METHOD) {NULL, NULL, 0, NULL}};
+
+static PyObject *wrong_data(const icu_normalizer_defect *defect) {
+    static const char *const files[] = {"UnicodeData.txt", "CompositionExclusions.txt", "IdnaMappingTable.txt"};
+    char before[48] = "", after[48] = "";
+    if (defect->source < 3) PyOS_snprintf(before, sizeof before, "%s:%zu: ", files[defect->source], defect->place);
+    if (defect->source == ICU_NORMALIZER_PREPARED) PyOS_snprintf(after, sizeof after, " at byte %zu", defect->place);
+    if (defect->condition) PyOS_snprintf(after, sizeof after, ": condition %u", (unsigned)defect->condition);
+    return PyErr_Format(PyExc_ValueError, "%s%s%s", before, icu_normalizer_reason_text(defect->reason), after);
+}
+
+/* Opens a normalizer by the bytes of prepared data, or of three files and the limit of disallowed ranges. */
+static PyObject *create(PyTypeObject *type, PyObject *passed, PyObject *Py_UNUSED(names)) {
+    PyObject *mismatch;
+    const uint8_t *data, *exclusions = NULL, *table;
+    Py_ssize_t data_length, exclusions_length, table_length;
+    unsigned int limit;
+    bool is = PyArg_ParseTuple(passed, "Oy#|y#y#I", &mismatch, &data, &data_length, &exclusions, &exclusions_length,
+        &table, &table_length, &limit);
+    Normalizer *self = is ? (Normalizer *)type->tp_alloc(type, 0) : NULL;
     if (!self) return NULL;
     self->handle = (icu_normalizer)ICU_NORMALIZER_CLOSED;
-    Py_INCREF(read);
-    Py_INCREF(mismatch);
-    self->read = read;
-    self->mismatch = mismatch;
-    return (PyObject *)self;
-}
-
-static PyObject *share(PyObject *it, PyObject *Py_UNUSED(nothing)) {
-    Normalizer *self = (Normalizer *)it;
-    if (!is_open(self)) return NULL;
-    PyObject *made = made_of(Py_TYPE(it), self->read, self->mismatch);
-    icu_normalizer_status status =
-        made ? icu_normalizer_share(&self->handle, &((Normalizer *)made)->handle) : ICU_NORMALIZER_OUT_OF_MEMORY;
-    if (!status) return made;
-    Py_XDECREF(made);
-    return failed(status);
-}
-
-static PyObject *create(PyTypeObject *type, PyObject *passed, PyObject *Py_UNUSED(named)) {
-    PyObject *read, *mismatch;
-    return PyArg_ParseTuple(passed, "OO", &read, &mismatch) ? made_of(type, read, mismatch) : NULL;
+    self->mismatch = Py_NewRef(mismatch);
+    icu_normalizer_defect defect = {.source = ICU_NORMALIZER_ALL_RECORDS};
+    Status status = !exclusions
+        ? icu_normalizer_open_prepared(&self->handle, data, (size_t)data_length, &defect)
+        : icu_normalizer_open_files(&self->handle, data, (size_t)data_length, exclusions, (size_t)exclusions_length,
+            table, (size_t)table_length, limit, &defect);
+    if (!status) return (PyObject *)self;
+    Py_DECREF(self);
+    return status == ICU_NORMALIZER_OUT_OF_MEMORY ? failed(status) : wrong_data(&defect);
 }
 
 static void release(PyObject *it) {
     Normalizer *self = (Normalizer *)it;
     PyTypeObject *type = Py_TYPE(it);
     icu_normalizer_close(&self->handle);
-    Py_XDECREF(self->read);
     Py_XDECREF(self->mismatch);
     for (size_t form = 0; form < 4; form++) Py_XDECREF(self->words[form]);
-    ((freefunc)PyType_GetSlot(type, Py_tp_free))(it);
+    type->tp_free(it);
     Py_DECREF(type);
 }
 
-#define FAST(function) ((PyCFunction)(void (*)(void))function)
-
-static PyMethodDef methods[] = {
-    {"normalize", FAST(normalize), METH_FASTCALL,
-        "normalize(form, text, /)\n--\n\nReturns the form of a text: NFC, NFD, NFKC or NFKD. A text that is already in "
-        "the form is returned itself."},
-    {"is_normalized", FAST(is_normalized), METH_FASTCALL,
-        "is_normalized(form, text, /)\n--\n\nReturns whether a text is well-formed and already in the form."},
-    {"first_mismatch", FAST(first_mismatch), METH_FASTCALL,
-        "first_mismatch(form, text, /)\n--\n\nReturns the first place where a text is ill-formed or differs from its "
-        "form, or None."},
-    {"split", FAST(split), METH_FASTCALL,
-        "split(form, text, /)\n--\n\nReturns the longest beginning that is well-formed and that the form begins with, "
-        "followed by the form of the rest, and the rest."},
-    {"_map", map, METH_O, NULL},
-    {"validate", validate, METH_O,
-        "validate(text, /)\n--\n\nReturns the same as map(), with U+FFFD for ignored characters too. Mapped text is "
-        "valid only if this leaves it unchanged."},
-    {"share", share, METH_NOARGS, "share()\n--\n\nReturns another normalizer over the same data."},
-    {NULL, NULL, 0, NULL},
-};
-
-static PyType_Slot slots[] = {
-    {Py_tp_methods, methods},
-    {Py_tp_new, create},
-    {Py_tp_dealloc, release},
-    {0, NULL},
-};
-
+static PyType_Slot slots[] = {{Py_tp_methods, methods}, {Py_tp_new, create}, {Py_tp_dealloc, release}, {0, NULL}};
 static PyType_Spec spec = {
     "icu_normalizer._native.Normalizer", sizeof(Normalizer), 0, Py_TPFLAGS_DEFAULT | Py_TPFLAGS_BASETYPE, slots};
 
-static PyObject *version(PyObject *Py_UNUSED(self), PyObject *Py_UNUSED(nothing)) {
-    uint32_t number = icu_normalizer_version();
-    return PyUnicode_FromFormat("%u.%u.%u", number >> 16, number >> 8 & 255, number & 255);
-}
-
-static PyMethodDef functions[] = {
-    {"version", version, METH_NOARGS, "version()\n--\n\nReturns the version of the library."},
-    {NULL, NULL, 0, NULL},
-};
-
-static int add_types(PyObject *module) {
+static int add_content(PyObject *module) {
     PyObject *type = PyType_FromSpec(&spec);
-    if (!type) return -1;
-    int status = PyModule_AddObjectRef(module, "Normalizer", type);
-    Py_DECREF(type);
-    return status;
+    int status = type ? PyModule_AddType(module, (PyTypeObject *)type) : -1;
+    Py_XDECREF(type);
+    return status ? status : PyModule_AddIntConstant(module, "version", (long)icu_normalizer_version());
 }
 
-static PyModuleDef_Slot module_slots[] = {{Py_mod_exec, add_types}, {0, NULL}};
-static PyModuleDef module = {.m_base = PyModuleDef_HEAD_INIT,
-    .m_name = "icu_normalizer._native",
-    .m_methods = functions,
-    .m_slots = module_slots};
+static PyModuleDef_Slot module_slots[] = {{Py_mod_exec, add_content}, {0, NULL}};
+static PyModuleDef module = {
+    .m_base = PyModuleDef_HEAD_INIT, .m_name = "icu_normalizer._native", .m_slots = module_slots};
 
 PyMODINIT_FUNC PyInit__native(void) {
     return PyModuleDef_Init(&module);

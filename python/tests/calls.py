@@ -1,6 +1,11 @@
 """Tests the package: each result beside that of `unicodedata`, or known from outside."""
+import ast
 import doctest
+import inspect
+import os
 import pathlib
+import random
+import re
 import sys
 import tempfile
 import threading
@@ -9,6 +14,9 @@ import unicodedata
 import icu_normalizer
 
 FORMS = ("NFC", "NFD", "NFKC", "NFKD")
+ROOT = pathlib.Path(__file__).parents[2]
+SMALL = ROOT / "crates/uninorm/data"
+PREPARED = ROOT / "crates/icu_normalizer_c/examples/tests/small.prepared"
 TEXTS = [
     "",
     "a",
@@ -37,26 +45,37 @@ TEXTS = [
 LONG = "a" + 40 * "\u0308" + "\u0323"
 
 
-def refused(error, call, *words):
+def refused(error, wanted, call, /, *words, **named):
+    """The exception of a call, which has the wanted words."""
     try:
-        call(*words)
+        call(*words, **named)
     except error as it:
+        assert wanted in str(it), f"{it}: no {wanted}"
         return it
-    sys.exit(f"{call} {words}: no {error}")
+    sys.exit(f"{call} {words} {named}: no {error}")
+
+
+def is_right(form, text):
+    """Whether each call returns what follows from the form: the text stays up to where the two begin to differ."""
+    wanted = unicodedata.normalize(form, text)
+    place = len(text) if text == wanted else len(os.path.commonprefix([text, wanted]))
+    mismatch = None if text == wanted else (place, text[place], wanted[place])
+    found = (
+        icu_normalizer.normalize(form, text),
+        icu_normalizer.is_normalized(form, text),
+        icu_normalizer.split(form, text),
+        icu_normalizer.first_mismatch(form, text),
+    )
+    return found == (wanted, text == wanted, (text[:place], text[place:]), mismatch)
 
 
 def forms():
     for form in FORMS:
         for text in [*TEXTS, LONG]:
             wanted = unicodedata.normalize(form, text)
-            is_same = wanted == text
-            assert icu_normalizer.normalize(form, text) == wanted, (form, text[:40])
+            assert is_right(form, text), (form, text[:40])
             assert icu_normalizer.normalize(form, text.encode()) == wanted.encode()
-            assert not is_same or icu_normalizer.normalize(form, text) is text
-            assert icu_normalizer.is_normalized(form, text) == is_same
-            assert (icu_normalizer.first_mismatch(form, text) is None) == is_same
-            prefix, rest = icu_normalizer.split(form, text)
-            assert prefix + rest == text and prefix + unicodedata.normalize(form, rest) == wanted
+            assert wanted != text or icu_normalizer.normalize(form, text) is text
     assert icu_normalizer.first_mismatch("NFC", "\u00E4\u00E4a\u0308") == (2, "a", "\u00E4")
     assert icu_normalizer.first_mismatch("NFC", "\u00E4a\u0308".encode()).offset == 2
     assert icu_normalizer.first_mismatch("NFC", "\U0001F600xa\u0308") == (2, "a", "\u00E4")
@@ -64,8 +83,6 @@ def forms():
     for form in ("NFC", "".join(["NF", "C"])):  # the second is another object
         for text in ["a\u0308", "\xE4", "\xE4", "a\u0308", "a\u0308", "\U0001F600", "\U0001F600\u0308a"]:
             assert icu_normalizer.normalize(form, text) == unicodedata.normalize("NFC", text), text
-    assert icu_normalizer.normalize("NFC", b"a\xFFb") == "a\uFFFDb".encode()
-    assert icu_normalizer.split("NFC", b"ab\xFF") == (b"ab", b"\xFF")
 
 
 def rows():
@@ -81,44 +98,142 @@ def rows():
 
 
 def surrogates():
-    """Each reads as U+FFFD, after a text that stays and after one that changes."""
-    for text in ["\uD800", "a\uDC00", "\U0001F600\uD800", "\uDC00\U0001F600a\u0308", 129 * "\U0001F600" + "\uDFFF"]:
-        characters = ["\uFFFD" if "\uD800" <= it <= "\uDFFF" else it for it in text]
-        place = characters.index("\uFFFD")
+    """Each stays, as with `unicodedata`: alone, in two that are one character in UTF-16, and in random texts."""
+    alone = ["\uD800", "a\uDC00", "\U0001F600\uD800", "\uDC00\U0001F600a\u0308", 129 * "\U0001F600" + "\uDFFF"]
+    pairs = ["\uD835\uDD58", "\U0001F600\uD83D\uDE00", "\uD834\uDD5Ea\u0308", 200 * "\uD834\uDD5E" + "a\u0308"]
+    chance = random.Random(1)
+    units = "\uD800\uDCE9\uDC00\uD834\uDD5E\uFFFDax\u0308\u0323\xE4\u212B\uAC00\u11A8\uFB01\U0001F600\U0001D15E"
+    mixed = ["".join(chance.choices(units, k=chance.choice((3, 8, 20, 300)))) for _ in range(3000)]
+    for text in [*alone, *pairs, *mixed, 40000 * "\uDCE9a\u0308"]:
         for form in FORMS:
-            for before in ("\U0001F600", "\U0001D15E"):
+            for before in ("\U0001F600", "\U0001D15E"):  # a text that stays, and one that changes
                 icu_normalizer.normalize(form, before)
-                assert icu_normalizer.normalize(form, text) == unicodedata.normalize(form, "".join(characters)), text
+                assert icu_normalizer.normalize(form, text) == unicodedata.normalize(form, text), (form, text[:40])
+            assert icu_normalizer.is_normalized(form, text) == unicodedata.is_normalized(form, text)
+            assert len(text) > 300 or is_right(form, text), (form, text)
+    name = b"caf\xE9 e\xCC\x81".decode(errors="surrogateescape")
+    assert icu_normalizer.normalize("NFC", name).encode(errors="surrogateescape") == b"caf\xE9 \xC3\xA9"
+
+
+def ill_formed():
+    """Bytes that aren't UTF-8."""
+    for text in [b"a\xFFb", b"\xFF" + 300 * b"a\xCC\x88", b"e\xCC\x81\xE2\x98z", b"\xED\xA0\x80", b"\xF0\x9F\x98"]:
+        replaced = text.decode(errors="replace")
+        for form in FORMS:
+            wanted = unicodedata.normalize(form, replaced).encode()
+            assert icu_normalizer.normalize(form, text, errors="replace") == wanted
+            refused(UnicodeDecodeError, "'utf-8' codec can't decode", icu_normalizer.normalize, form, text)
+            refused(UnicodeDecodeError, "utf-8", icu_normalizer.normalize, form, text, errors="strict")
             assert not icu_normalizer.is_normalized(form, text)
-            assert icu_normalizer.first_mismatch(form, text) == (place, "\uFFFD", "\uFFFD")
-            assert icu_normalizer.split(form, text) == (text[:place], text[place:])
-    pair = "\U0001F600\uD83D\uDE00"  # two that are one character in UTF-16
-    for form in FORMS:
-        assert icu_normalizer.is_normalized(form, pair) and icu_normalizer.normalize(form, pair) == pair
-        assert icu_normalizer.first_mismatch(form, pair) is None
+    assert refused(UnicodeDecodeError, "position 1", icu_normalizer.normalize, "NFC", b"a\xFFb").start == 1
+    assert icu_normalizer.first_mismatch("NFC", b"a\xFFb") == (1, "\uFFFD", "\uFFFD")
+    assert icu_normalizer.split("NFC", b"ab\xFF") == (b"ab", b"\xFF")
+    for errors in ("strict", "replace"):
+        for text in ("a\u0308\uFFFD", b"a\xCC\x88\xEF\xBF\xBD"):
+            assert icu_normalizer.normalize("NFC", text, errors=errors) == icu_normalizer.normalize("NFC", text)
 
 
-def errors():
-    for form in ["", "N", "NF", "NFX", "NFK", "NFKX", "NFXC", "NXKC", "nfc", "NFCC", "NFC\0", "NF\xC7", b"NFC", 1]:
-        refused(ValueError, icu_normalizer.normalize, form, "a")
-    refused(TypeError, icu_normalizer.normalize, "NFC", 1)
-    refused(TypeError, icu_normalizer.normalize, "NFC")
-    assert icu_normalizer.normalize("NFC", "\uD800") == "\uFFFD" and not icu_normalizer.is_normalized("NFC", "\uD800")
-    refused(LookupError, icu_normalizer.Normalizer().map, "a")
-    refused(FileNotFoundError, icu_normalizer.Normalizer("/nowhere").normalize, "NFC", "a")
+def wrong_arguments():
+    """Each wrong argument is an exception in words, as those of `unicodedata` are."""
+    for form in ["", "N", "NF", "NFX", "NFK", "NFKX", "NFXC", "NXKC", "nfc", "NFCC", "NFC\0", "NF\xC7", "\uD800"]:
+        wanted = f"normalize() argument 1 must be one of 'NFC', 'NFD', 'NFKC', 'NFKD', not {form!r}"
+        refused(ValueError, wanted, icu_normalizer.normalize, form, "a")
+    for name in ("normalize", "is_normalized", "first_mismatch", "split"):
+        for call in (getattr(icu_normalizer, name), getattr(icu_normalizer.Normalizer(SMALL), name)):
+            for form, kind in ((b"NFC", "bytes"), (1, "int"), (None, "None"), (["NFC"], "list")):
+                refused(TypeError, f"{name}() argument 1 must be str, not {kind}", call, form, "a")
+            for text, kind in ((None, "None"), (1, "int"), (bytearray(), "bytearray"), (memoryview(b""), "memoryview")):
+                refused(TypeError, f"{name}() argument 2 must be str or bytes, not {kind}", call, "NFC", text)
+            refused(ValueError, f"{name}() argument 1", call, "nfc", "a")
+            refused(TypeError, f"{name}() takes exactly 2 positional arguments (1 given)", call, "NFC")
+            refused(TypeError, f"{name}() takes exactly 2 positional arguments (3 given)", call, "NFC", "a", "b")
+            refused(TypeError, f"{name}() got an unexpected keyword argument 'error'", call, "NFC", "a", error="strict")
+    for name in ("is_normalized", "first_mismatch", "split"):
+        wanted = f"{name}() got an unexpected keyword argument 'errors'"
+        refused(TypeError, wanted, getattr(icu_normalizer, name), "NFC", "a", errors="strict")
+    for name, words in (("normalize", ["NFC"]), ("map", []), ("validate", [])):
+        call = getattr(icu_normalizer.Normalizer(SMALL), name)
+        for text in ("a", b"a", "\uD800"):
+            wanted = f"{name}() argument 'errors' must be one of 'strict', 'replace', not 'ignore'"
+            refused(ValueError, wanted, call, *words, text, errors="ignore")
+            refused(TypeError, f"{name}() argument 'errors' must be str, not None", call, *words, text, errors=None)
+    for name in ("map", "validate"):
+        call = getattr(icu_normalizer.Normalizer(SMALL), name)
+        refused(TypeError, f"{name}() argument 1 must be str or bytes, not int", call, 1)
+        refused(TypeError, f"{name}() takes exactly 1 positional argument (2 given)", call, "NFC", "a")
+        refused(TypeError, f"{name}() got an unexpected keyword argument 'error'", call, "a", error="strict")
+
+
+def wrong_data():
+    """What is wrong with a folder or a file of data is an exception of the constructor, which names it."""
+    create = icu_normalizer.Normalizer
+    for limit in (-1, 2**32, 2**64):
+        refused(ValueError, str(limit), create, SMALL, limit)
+    refused(TypeError, "'str' object cannot be interpreted as an integer", create, SMALL, "1")
+    refused(TypeError, "a directory or prepared data, not both", create, SMALL, prepared=PREPARED)
+    refused(TypeError, "expected str, bytes or os.PathLike object, not int", create, 1)
+    refused(TypeError, "expected str, bytes or os.PathLike object, not int", create, prepared=1)
+    refused(FileNotFoundError, "/nowhere/UnicodeData.txt", create, "/nowhere")
+    refused(FileNotFoundError, "/nowhere/prepared", create, prepared="/nowhere/prepared")
+    refused(IsADirectoryError, str(SMALL), create, prepared=SMALL)
     with tempfile.TemporaryDirectory() as folder:
-        for name, content in (("UnicodeData.txt", "0041;A\n# EOF\n"), ("CompositionExclusions.txt", "# EOF\n")):
-            with open(f"{folder}/{name}", "w") as file:
-                file.write(content)
-        wrong = icu_normalizer.Normalizer(folder)
-        assert "UnicodeData.txt:1: " in str(refused(ValueError, wrong.normalize, "NFC", "a"))
+        exclusions, prepared = f"{folder}/CompositionExclusions.txt", f"{folder}/prepared"
+        pathlib.Path(folder, "UnicodeData.txt").write_text("0041;A\n# EOF\n")
+        refused(FileNotFoundError, exclusions, create, folder)
+        pathlib.Path(exclusions).write_text("# EOF\n")
+        refused(ValueError, f"{folder}: UnicodeData.txt:1: the line has too few fields", create, folder)
+        pathlib.Path(prepared).write_bytes(PREPARED.read_bytes()[:-1])
+        refused(ValueError, f"{prepared}: the file has another length at byte 8", create, prepared=prepared)
+        pathlib.Path(prepared).write_bytes(b"")
+        refused(ValueError, f"{prepared}: ", create, prepared=prepared)
+
+
+def subclasses():
+    """A text of a subclass is returned itself too, as by `unicodedata`."""
 
     class Text(str):
         pass
 
+    class Bytes(bytes):
+        pass
+
     for text in ("", "a", "\xE4", "\u4E00", "a\U0001F600", 129 * "\U0001F600"):
-        made = icu_normalizer.normalize("NFC", Text(text))
-        assert type(made) is str and made == text
+        for it in (Text(text), Bytes(text.encode())):
+            assert icu_normalizer.normalize("NFC", it) is it
+    assert type(icu_normalizer.normalize("NFC", Text("a\u0308"))) is str
+
+
+def versions():
+    stated = re.search(r"-([\d.]+)\.txt", (ROOT / "data/unicode/CompositionExclusions.txt").read_text())[1]
+    assert icu_normalizer.unidata_version == stated
+    for place in (ROOT / "data/unicode", os.fsencode(ROOT / "data/unicode")):
+        assert icu_normalizer.Normalizer(place).unidata_version == stated
+    assert icu_normalizer.Normalizer(SMALL).unidata_version == stated
+    assert icu_normalizer.Normalizer(prepared=PREPARED).unidata_version is None
+    project = (ROOT / "python/pyproject.toml").read_text()
+    assert f'version = "{icu_normalizer.__version__}"' in project
+
+
+def stubs():
+    """Each public name has a stub, and what is called has the arguments that the stub states."""
+    stub = ast.parse(pathlib.Path(icu_normalizer.__file__).with_suffix(".pyi").read_text())
+    stated = {it.name: it for it in stub.body if isinstance(it, (ast.ClassDef, ast.FunctionDef))}
+    values = {it.target.id for it in stub.body if isinstance(it, ast.AnnAssign)}
+    public = {it for it in vars(icu_normalizer) if it[0] != "_"} - {"namedtuple", "operator", "os"} | {"__version__"}
+    assert {it for it in {*stated, *values} if it[0] != "_" or it == "__version__"} == public
+    assert {*icu_normalizer.__all__} == public - {"__version__"}
+    methods = {f"Normalizer.{it.name}": it for it in stated["Normalizer"].body if isinstance(it, ast.FunctionDef)}
+    functions = {name: it for name, it in stated.items() if isinstance(it, ast.FunctionDef)}
+    for name, it in {**methods, **functions}.items():
+        call = icu_normalizer
+        for part in name.split("."):
+            call = getattr(call, part)
+        own = inspect.signature(call).parameters.values()
+        names = [[it.arg for it in part] for part in (it.args.posonlyargs, it.args.args, it.args.kwonlyargs)]
+        # 0, 1 and 3: passed by place alone, by both, by name alone
+        assert [[it.name for it in own if it.kind == kind] for kind in (0, 1, 3)] == names, name
+        defaults = [ast.literal_eval(it) for it in [*it.args.defaults, *it.args.kw_defaults] if it]
+        assert [it.default for it in own if it.default is not it.empty] == defaults, name
 
 
 def other_data():
@@ -135,36 +250,33 @@ def other_data():
 
 
 def mapping():
-    folder = pathlib.Path(__file__).parents[2] / "crates/uninorm/data"
-    small = icu_normalizer.Normalizer(folder)
-    assert small.map("A\u0308\u00AD\u0323") == "\u1EA1\u0308"
-    assert small.map("A\u0308\u00AD\u0323".encode()) == "\u1EA1\u0308".encode()
-    prepared = pathlib.Path(__file__).parents[2] / "crates/icu_normalizer_c/examples/tests/small.prepared"
-    assert icu_normalizer.Normalizer(prepared=prepared).map("A\u0308\u00AD\u0323") == "\u1EA1\u0308"
-    with tempfile.NamedTemporaryFile() as file:
-        file.write(prepared.read_bytes()[:-1])
-        file.flush()
-        wrong = icu_normalizer.Normalizer(prepared=file.name)
-        assert "at byte 8" in str(refused(ValueError, wrong.normalize, "NFC", "a"))
-    assert small.share().validate("\u1EA1") == "\u1EA1" and small.validate("\u00AD") == "\uFFFD"
-    for limit in (-1, 2**32, 2**64):
-        assert str(limit) in str(refused(ValueError, icu_normalizer.Normalizer, folder, limit))
+    for small in (icu_normalizer.Normalizer(SMALL), icu_normalizer.Normalizer(prepared=PREPARED)):
+        assert small.map("A\u0308\u00AD\u0323") == "\u1EA1\u0308"
+        assert small.map("A\u0308\u00AD\u0323".encode()) == "\u1EA1\u0308".encode()
+        assert small.validate("\u1EA1") == "\u1EA1" and small.validate("\u00AD") == "\uFFFD"
+        assert small.map(300 * "A\u0308") == 300 * "\xE4" and small.map(70000 * "a\U0001F600") == 70000 * "a\U0001F600"
+        for call in (small.map, small.validate):
+            for text in ("a", "A\u0308", 9000 * "A\u0308"):
+                assert call(text + "\uD83D\uDE00") == call(text) + "\uFFFD\uFFFD"
+            assert call(b"A\xFF", errors="replace") == call("A\uFFFD").encode()
+            refused(UnicodeDecodeError, "position 1", call, b"A\xFF")
+    for call in (icu_normalizer.map, icu_normalizer.validate):
+        refused(LookupError, "the data have no mapper", call, "a")
     for limit, form in ((0, "\x80"), (1, "\uFFFD"), (2**32 - 1, "\uFFFD")):
-        assert icu_normalizer.Normalizer(folder, limit).map("\x80") == form
+        assert icu_normalizer.Normalizer(SMALL, limit).map("\x80") == form
 
 
 def threads():
-    """Long texts, during which other threads run, by one normalizer and by shared ones."""
+    """Long texts, during which other threads run, by one normalizer."""
     text, wanted = 60000 * "a\u0308", 60000 * "\u00E4"
-    first = icu_normalizer.Normalizer()
     wrong = []
 
-    def run(own):
+    def run():
         for _ in range(10):
-            if own.normalize("NFC", text) != wanted or icu_normalizer.normalize("NFC", text) != wanted:
-                wrong.append(own)
+            if icu_normalizer.normalize("NFC", text) != wanted or icu_normalizer.normalize("NFC", "a\u0308") != "\xE4":
+                wrong.append(text)
 
-    every = [threading.Thread(target=run, args=(first.share() if place % 2 else first,)) for place in range(16)]
+    every = [threading.Thread(target=run) for _ in range(16)]
     for thread in every:
         thread.start()
     for thread in every:
@@ -172,12 +284,20 @@ def threads():
     assert not wrong
 
 
-forms()
-rows()
-surrogates()
-errors()
-other_data()
-mapping()
-threads()
+for test in (
+    forms,
+    rows,
+    surrogates,
+    ill_formed,
+    wrong_arguments,
+    wrong_data,
+    subclasses,
+    versions,
+    stubs,
+    other_data,
+    mapping,
+    threads,
+):
+    test()
 failures, tried = doctest.testmod(icu_normalizer)
 sys.exit(bool(failures or not tried))
