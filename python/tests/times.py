@@ -1,7 +1,8 @@
-"""Times `normalize` beside that of `unicodedata`, on strings of 10 characters: a ratio for each text and form.
+"""Times `normalize` beside that of `unicodedata`, on strings of 10 and of 10^6 characters: a ratio for each text and
+form.
 
-times.py [--most RATIO]: the status is 1 if a ratio is greater than that in each of three timings: what else runs on the
-machine slows the shorter call down by more."""
+times.py [--most RATIO]: the status is 1 if a ratio of 10 characters is greater than that in each of three timings: what
+else runs on the machine slows the shorter call down by more."""
 import argparse
 import statistics
 import sys
@@ -39,6 +40,7 @@ TEXTS = {
     "Gothic": "".join(map(chr, range(0x10330, 0x1033A))),
     "words and emoji": "\U0001F600\U0001F44D ok \U0001F680\U0001F44D!!",
     "emoji": "".join(map(chr, range(0x1F600, 0x1F60A))),
+    "emoji, joined and varied": "\U0001F468\u200D\U0001F469\u200D\U0001F467 \u2764\uFE0F\U0001F44D\U0001F3FD",
     "marks out of order": "a\u0301\u0323b\u0302\u0323c\u0304\u0323d",
     "ligatures": 2 * "".join(map(chr, range(0xFB00, 0xFB05))),
     "circled": "".join(map(chr, range(0x2460, 0x246A))),
@@ -74,6 +76,27 @@ TEXTS = {
 }
 
 
+# Those that are repeated up to 10^6 characters.
+LONG = (
+    "ASCII",
+    "Latin",
+    "Latin, decomposed",
+    "Vietnamese",
+    "Cyrillic",
+    "Arabic",
+    "Arabic, vocalized",
+    "Devanagari",
+    "Korean",
+    "Korean, decomposed",
+    "Chinese",
+    "Japanese",
+    "words and emoji",
+    "emoji",
+    "emoji, joined and varied",
+    "mathematical",
+)
+
+
 def ratio(form, text, samples=51, number=5000):
     """The processor time of a call beside that of `unicodedata`: the median of samples that are taken in pairs."""
     own, other = (
@@ -89,16 +112,23 @@ def least_ratio(form, text, most):
     return min(found, ratio(form, text), ratio(form, text)) if most and found > most else found
 
 
+def row(name, ratios):
+    print(f"{name:25}" + "".join(f"{it:7.2f}" for it in ratios), flush=True)
+
+
 def main():
     parser = argparse.ArgumentParser(description=__doc__)
     parser.add_argument("--most", type=float)
     most = parser.parse_args().most
-    print(f"{'':22}" + "".join(f"{form:>7}" for form in FORMS))
     greatest = 0
+    print(f"{'10 characters':25}" + "".join(f"{form:>7}" for form in FORMS))
     for name, text in TEXTS.items():
         ratios = [least_ratio(form, text, most) for form in FORMS]
         greatest = max(greatest, *ratios)
-        print(f"{name:22}" + "".join(f"{it:7.2f}" for it in ratios), flush=True)
+        row(name, ratios)
+    print(f"{'10^6 characters':25}" + "".join(f"{form:>7}" for form in FORMS))
+    for name in LONG:
+        row(name, [ratio(form, 10**5 * TEXTS[name], samples=5, number=1) for form in FORMS])
     verdict = f"`normalize` takes at most {greatest:.2f} times as long as `unicodedata` on 10 characters"
     if most and greatest > most:
         sys.exit(verdict)
