@@ -1,11 +1,12 @@
 -- The first record at fault, by the error.
-use Rattle.std.proofs.Common.{◌≡◌, ℕ, IfOk, List, Ok, Err, Option, refl, Result, Some}
+use Rattle.std.proofs.Common.{◌≡◌, ◌≢◌, ℕ, IfOk, List, Ok, Err, Option, Result, None, Some, inl, inr, refl, subst, sym}
+use Rattle.normalizer_records.specs.declared.at_fault.Refusal.{Refusal}
 use Rattle.normalizer_records.specs.declared.at_fault.RecordAtFault.{RecordAtFault}
 use Rattle.normalizer_records.specs.declared.records.BuildError.{BuildError}
 use Rattle.normalizer_records.specs.declared.records.BuildError.TheVariants as error
 use Rattle.normalizer_records.specs.RecordValue.{RecordValue, Uts46RecordValue}
-use Rattle.normalizer_records.specs.AtFault.{IsFirstAtFault as IsFirstRecordAtFault}
-use Rattle.normalizer_records.specs.Faults.{IsFirstRefusal}
+use Rattle.normalizer_records.specs.AtFault.{IsFirstAtFault as IsFirstRecordAtFault, IsRefusal}
+use Rattle.normalizer_records.specs.Faults.{HasFault, IsFirstRefusal}
 use Rattle.normalizer_tables.specs.declared.condition.Condition.{Condition}
 use Rattle.normalizer_tables.specs.declared.condition.Condition.TheVariants.{Pairs}
 use Rattle.normalizer_tables.specs.declared.entry.Kind.{Kind}
@@ -15,43 +16,38 @@ use Rattle.normalizer_packing.specs.declared.Packed.{Packed}
 use Rattle.normalizer_builder.specs.AtFault.{IsFirstAtFault, IsFirstOfKind}
 use Rattle.normalizer_builder.specs.Building.{IsSmallest}
 use Rattle.normalizer_builder.specs.Demands.{loaded_of}
-
--- an error that the records show by themselves
-abbrev pub IsOfRecords : BuildError → Type 0
-IsOfRecords (error.Unfit marker condition) = ⊥
-IsOfRecords error.TableFull = ⊥
-IsOfRecords error.Memory = ⊥
-IsOfRecords _ = Unit {0}
-
-pub of_records_unless : (e : BuildError) → ((marker : DataMarkerInfo) (condition : ℕ) → e ≡ error.Unfit marker condition → ⊥) →
-    (e ≡ error.TableFull → ⊥) → (e ≡ error.Memory → ⊥) → IsOfRecords e
-of_records_unless (error.Unfit marker condition) unfit full memory = absurd (unfit marker condition refl)
-of_records_unless error.TableFull unfit full memory = absurd (full refl)
-of_records_unless error.Memory unfit full memory = absurd (memory refl)
-of_records_unless _ unfit full memory = tt
+use Rattle.normalizer_builder.proofs.OneAnswer.{IsSmallest-refusal, one_refusal, one_smallest}
 
 module _ (records : List RecordValue) (uts46 : List Uts46RecordValue) where
-  as_records_show : (e : BuildError) → IsOfRecords e → IsSmallest records uts46 e → IsFirstRefusal records uts46 (Some e)
+  same_record : (e : BuildError) → IsFirstRefusal records uts46 (Some e) → (o : Option RecordAtFault) →
+      IsFirstRecordAtFault records uts46 e o → IsFirstAtFault records uts46 e o
+  unfolding IsFirstAtFault IsFirstRefusal HasFault
+  same_record (error.Unfit marker condition) first o h = absurd first.4
+  same_record error.TableFull first o h = absurd first.4
+  same_record error.Memory first o h = absurd first.4
+  same_record _ first o h = h
+
+  -- the first refusal is the smallest error, and the record at fault is that of the error
+  of_refusal : (e : BuildError) → e ≢ error.Memory → IsSmallest records uts46 e → (r : Refusal) → r.error ≢ error.Memory →
+      IsRefusal records uts46 r → IsFirstAtFault records uts46 e r.at_fault
+  of_refusal e some h r also (inl memory) = absurd (also memory)
+  of_refusal e some h r also (inr refused) =
+      let same = one_smallest records uts46 e r.error h (IsSmallest-refusal records uts46 r (inr refused)) some also in
+      subst (λ (f : BuildError). IsFirstAtFault records uts46 f r.at_fault) (sym same) (same_record r.error refused.0 r.at_fault refused.1)
+
+  pub at_fault : {E : Type 0} (e : BuildError) → e ≢ error.Memory → IsSmallest records uts46 e → (r : Refusal) → IsRefusal records uts46 r →
+      (o : Result (Option RecordAtFault) E) → IfOk o (λ o. (r.error ≢ error.Memory) × (o ≡ r.at_fault)) → IfOk o (IsFirstAtFault records uts46 e)
+  at_fault e some h r refused (Err f) is = tt
+  at_fault e some h r refused (Ok o) is = subst (IsFirstAtFault records uts46 e) (sym is.1) (of_refusal e some h r is.0 refused)
+
+  -- an error of records that aren't refused is one of their data
+  pub of_data : (e : BuildError) → e ≢ error.Memory → e ≢ error.TableFull → IsSmallest records uts46 e → IsFirstRefusal records uts46 None →
+      (marker : DataMarkerInfo) × (condition : ℕ) × (e ≡ error.Unfit marker condition)
   unfolding IsSmallest
-  as_records_show (error.Unfit marker condition) of h = absurd of
-  as_records_show error.TableFull of h = absurd of
-  as_records_show error.Memory of h = absurd of
-  as_records_show _ of h = h
-
-  same_record : (e : BuildError) → IsOfRecords e → (o : Option RecordAtFault) → IsFirstRecordAtFault records uts46 e o →
-      IsFirstAtFault records uts46 e o
-  unfolding IsFirstAtFault
-  same_record (error.Unfit marker condition) of o h = absurd of
-  same_record error.TableFull of o h = absurd of
-  same_record error.Memory of o h = absurd of
-  same_record _ of o h = h
-
-  pub of_records : {E : Type 0} (e : BuildError) → IsOfRecords e → IsSmallest records uts46 e →
-      (r : Result (Option RecordAtFault) E) →
-      (IsFirstRefusal records uts46 (Some e) → IfOk r (IsFirstRecordAtFault records uts46 e)) →
-      IfOk r (IsFirstAtFault records uts46 e)
-  of_records e of h (Err f) given = tt
-  of_records e of h (Ok o) given = same_record e of o (given (as_records_show e of h))
+  of_data (error.Unfit marker condition) some room h none = (marker, condition, refl)
+  of_data error.TableFull some room h none = absurd (room refl)
+  of_data error.Memory some room h none = absurd (some refl)
+  of_data e some room h none = absurd (let never = one_refusal records uts46 (Some e) None h none in cc)
 
 pub of_each_character : (p : Packed) (kind : Kind) (c : Condition) (n : Option ℕ) → (c ≡ Pairs → ⊥) →
     IsFirstBreaking (loaded_of p kind) c n → IsFirstOfKind p kind c n

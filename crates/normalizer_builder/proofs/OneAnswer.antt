@@ -7,7 +7,9 @@ use Rattle.normalizer_packing.specs.Stored.{needed_items}
 use Rattle.normalizer_records.specs.declared.records.BuildError.{BuildError}
 use Rattle.normalizer_records.specs.declared.records.BuildError.TheVariants as error
 use Rattle.normalizer_records.specs.RecordValue.{RecordValue, Uts46RecordValue}
-use Rattle.normalizer_records.specs.Faults.{faults, HasFault, IsFirstRefusal, IsRefusal}
+use Rattle.normalizer_records.specs.Faults.{faults, HasFault, IsFirstRefusal}
+use Rattle.normalizer_records.specs.AtFault.{IsRefusal}
+use Rattle.normalizer_records.specs.declared.at_fault.Refusal.{Refusal}
 use Rattle.normalizer_builder.specs.declared.demand.Demand.{Demand}
 use Rattle.normalizer_builder.specs.Building.{Builds, HasTooManyItems, IsSmallest, PacksRecords}
 use Rattle.normalizer_builder.specs.Demands.{demands, error_of, IsFirstUnmet, Meets}
@@ -20,17 +22,21 @@ module _ (records : List RecordValue) (uts46 : List Uts46RecordValue) where
   failing None h = h
   failing (Some e) h = (h.0, h.1, h.2, h.3, λ never. never h.4)
 
-  one_refusal : (o p : Option BuildError) → IsFirstRefusal records uts46 o → IsFirstRefusal records uts46 p → o ≡ p
+  pub one_refusal : (o p : Option BuildError) → IsFirstRefusal records uts46 o → IsFirstRefusal records uts46 p → o ≡ p
   one_refusal o p h k = one_first (λ e. ¬ HasFault records uts46 e) faults o p (failing o h) (failing p k)
 
-  -- a refusal of the records themselves is the smallest fault
-  pub IsSmallest-refusal : (e : BuildError) → IsRefusal records uts46 e → IsSmallest records uts46 e
+  refused_first : (e : BuildError) → IsFirstRefusal records uts46 (Some e) → IsSmallest records uts46 e
   unfolding IsSmallest IsFirstRefusal HasFault
-  IsSmallest-refusal e (inl memory) = subst (IsSmallest records uts46) (sym memory) tt
-  IsSmallest-refusal error.Memory (inr h) = tt
-  IsSmallest-refusal error.TableFull (inr h) = absurd h.4
-  IsSmallest-refusal (error.Unfit marker condition) (inr h) = absurd h.4
-  IsSmallest-refusal e (inr h) = h
+  refused_first error.Memory h = tt
+  refused_first error.TableFull h = absurd h.4
+  refused_first (error.Unfit marker condition) h = absurd h.4
+  refused_first e h = h
+
+  -- a refusal of the records themselves is the smallest fault
+  pub IsSmallest-refusal : (r : Refusal) → IsRefusal records uts46 r → IsSmallest records uts46 r.error
+  unfolding IsSmallest
+  IsSmallest-refusal r (inl memory) = subst (IsSmallest records uts46) (sym memory) tt
+  IsSmallest-refusal r (inr h) = refused_first r.error h.0
 
   -- what becomes of records that aren't refused: too many items, or data, and the first requirement that they don't meet
   abbrev pub Becomes : Option (Option Demand) → Type 0

@@ -5,6 +5,7 @@ ghost use Rattle.normalizer_records.specs.declared.at_fault.RecordAtFault.TheVar
 ghost use Rattle.normalizer_records.specs.declared.records.BuildError.TheVariants.{Unfit};
 ghost use Rattle.normalizer_records.specs.AtFault.{IsCharacterOfFirst};
 ghost use Rattle.normalizer_records.specs.Faults.{AreRising};
+ghost use Rattle.normalizer_records.specs.Recorded.{AreExpanded};
 ghost use Rattle.normalizer_builder.specs.AtFault.{
   IsFirstAgainst,
   IsFirstAtFault,
@@ -21,7 +22,7 @@ use crate::unmet::{characters_of, first_unmet, keeps_mapping, loaded_of};
 use normalizer_check::check::breaking::{first_breaking, first_uncomposable};
 use normalizer_packing::Packed;
 use normalizer_records::{
-    BuildError, Record, RecordAtFault, Uts46Record, expanded, first_at_fault,
+    BuildError, ExpandedRecords, Record, RecordAtFault, Uts46Record, expanded, first_with,
 };
 use normalizer_tables::condition::Condition;
 use normalizer_tables::entry::Kind;
@@ -42,10 +43,12 @@ impl Records {
         ensures { IsSmallest records.now uts46.now error →
             IfOk result (IsFirstAtFault records.now uts46.now error) }
     {
-        match error {
-            BuildError::Unfit { .. } => first_unfit(alloc, records, uts46),
-            BuildError::TableFull | BuildError::Memory => Ok(None),
-            _ => first_at_fault(alloc, records, uts46, error),
+        if let BuildError::TableFull | BuildError::Memory = error {
+            return Ok(None);
+        }
+        match expanded(alloc, records, uts46) {
+            Ok(expanded) => first_unfit(alloc, records, uts46, expanded),
+            Err(refusal) => refusal.record(),
         }
     }
 }
@@ -55,14 +58,13 @@ fn first_unfit(
     alloc: Global,
     records: &[Record],
     uts46: &[Uts46Record],
+    expanded: ExpandedRecords,
 ) -> Result<Option<RecordAtFault>, AllocError>
+    requires { AreExpanded records.now uts46.now expanded.entries.items expanded.pairs.items }
     ensures { (marker : DataMarkerInfo) (condition : ℕ) → IsSmallest records.now uts46.now (Unfit marker condition) →
         IfOk result (IsFirstUnfit records.now uts46.now) }
 {
-    // (These records are not refused, and their lists fit: an error is one of memory.)
-    let Ok(expanded) = expanded(alloc, records, uts46) else {
-        return Err(AllocError);
-    };
+    // (The lists fit: an error is one of memory.)
     let Ok(packed) = packed_of(alloc, records, uts46, expanded) else {
         return Err(AllocError);
     };
@@ -118,10 +120,5 @@ fn first_unkept(records: &[Record], packed: &Packed) -> Option<char>
     requires { AreRising records.now }
     ensures { IsCharacterOfFirst (λ r. r.c) (λ r. ¬ KeepsMapping records.now packed.now r.c) records.now result }
 {
-    for recorded in records {
-        if !keeps_mapping(packed, recorded) {
-            return Some(recorded.c);
-        }
-    }
-    None
+    first_with(records, |record| !keeps_mapping(packed, record))
 }

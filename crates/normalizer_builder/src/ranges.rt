@@ -26,7 +26,7 @@ use crate::built::Built;
 use crate::unmet::first_unmet;
 use normalizer_packing::{PackError, Packed, pack};
 use normalizer_records::{
-    BuildError, ExpandedRecords, Record, Uts46Range, Uts46Record, expanded, is_disallowed,
+    BuildError, ExpandedRecords, Record, Refusal, Uts46Range, Uts46Record, expanded, is_disallowed,
     push_records, records_of_ranges,
 };
 use std::alloc::{AllocError, Global};
@@ -91,7 +91,12 @@ fn built_of_parts(
 {
     match expanded(alloc, records, &parts.others) {
         Ok(expanded) => built_beside(alloc, records, expanded, &parts.disallowed),
-        Err(BuildError::Memory) => Err(AllocError),
+        Err(
+            Refusal {
+                error: BuildError::Memory,
+                ..
+            },
+        ) => Err(AllocError),
         Err(_) => Ok(None),
     }
 }

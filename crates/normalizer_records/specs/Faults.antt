@@ -8,7 +8,7 @@ use Rattle.normalizer_tables.specs.Hangul.{is_hangul_syllable}
 use Rattle.normalizer_tables.specs.SpecialLists.{fixed_list_of, fdfa_list}
 use Rattle.normalizer_records.specs.declared.records.BuildError.{BuildError}
 use Rattle.normalizer_records.specs.declared.records.BuildError.TheVariants.{Order, Fixed, Class, Mapping, Chain}
-use Rattle.normalizer_records.specs.declared.records.BuildError.TheVariants.{Length, Pair, Memory}
+use Rattle.normalizer_records.specs.declared.records.BuildError.TheVariants.{Length, Pair}
 use Rattle.normalizer_records.specs.RecordValue.{RecordValue, Status, MapsTo, IsIgnored, IsDisallowed, Uts46RecordValue}
 use Rattle.normalizer_records.specs.Meaning.{canonical_list, chain_limit, class_of, compatibility_list, entry_of}
 use Rattle.normalizer_records.specs.Meaning.{mapper_list, mapping_of, pairs_of, status_of}
@@ -213,7 +213,3 @@ IsFirstWith {X} P xs (Some x) =
 -- the first fault of the records; none if nothing is wrong
 unfoldable pub IsFirstRefusal : List RecordValue → List Uts46RecordValue → Option BuildError → Type 0
 IsFirstRefusal records uts46 r = IsFirstWith (HasFault records uts46) faults r
-
--- the first refusal, unless memory ran out
-abbrev pub IsRefusal : List RecordValue → List Uts46RecordValue → BuildError → Type 0
-IsRefusal records uts46 e = (e ≡ Memory) ⊎ IsFirstRefusal records uts46 (Some e)

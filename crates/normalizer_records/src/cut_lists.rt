@@ -1,20 +1,40 @@
-//! The lists of characters, as records mean them.
-ghost use Rattle.std.specs.Prelude.{ℕ, List, IfOk, IfSome};
+//! The entries of characters, as records mean them. Lists that are too long are cut.
+ghost use Rattle.std.specs.Prelude.{◌≡◌, ℕ, List, IfOk, IfSome};
 ghost use Rattle.normal_forms.specs.Reading.{IsText};
 ghost use Rattle.normalizer_tables.specs.MapperLists.{mapped_in};
-ghost use Rattle.normalizer_records.specs.inner.CutLists.{MayStandFor, StandsFor};
+ghost use Rattle.normalizer_records.specs.inner.CutLists.{IsCutEntry, MayStandFor, StandsFor};
 ghost use Rattle.normalizer_records.specs.Faults.{AreMapperRising};
 ghost use Rattle.normalizer_records.specs.Meaning.{canonical_list, full_list, list_of_status, mapper_list};
 ghost use Rattle.normalizer_records.specs.Statuses.{status_of as status_value};
 
 use crate::expansion::cut_text;
-use crate::lookup::{SortedRecords, uts46_record_of};
+use crate::lookup::{SortedRecords, class_of, step_of, uts46_record_of};
 use crate::records::{Mappings, Uts46Record, Uts46Status};
-use normalizer_tables::entry::MapperList;
+use normalizer_tables::entry::{Entry, MapperList};
+use normalizer_tables::step::Step;
 use std::alloc::{AllocError, Global};
 
+/// What records say of a character.
+pub(crate) fn cut_entry(
+    alloc: Global,
+    records: &SortedRecords<'_>,
+    uts46: &[Uts46Record],
+    c: char,
+) -> Result<Entry, AllocError>
+    requires { AreMapperRising uts46.now }
+    ensures character { IfOk result (λ e. e.character ≡ c) }
+    ensures entry { IfOk result (IsCutEntry records.now uts46.now) }
+{
+    let canonical = cut_list(alloc, records, Mappings::Canonical, c)?;
+    let compatibility = cut_list(alloc, records, Mappings::All, c)?;
+    let mapper = cut_mapper_list(alloc, records, uts46, c)?;
+    let class = class_of(records, c);
+    let mapping = step_of(records, c).unwrap_or(Step::Default);
+    Entry::new(c, class, mapping, canonical, &compatibility, mapper)
+}
+
 /// The full decomposition of a character, or a cut of it if it is too long.
-pub(crate) fn cut_list(
+fn cut_list(
     alloc: Global,
     records: &SortedRecords<'_>,
     mappings: Mappings,
@@ -27,7 +47,7 @@ pub(crate) fn cut_list(
 }
 
 /// What the mapper maps a character to, its list or a cut of it: the canonical one if nothing is recorded.
-pub(crate) fn cut_mapper_list(
+fn cut_mapper_list(
     alloc: Global,
     records: &SortedRecords<'_>,
     uts46: &[Uts46Record],

@@ -1,14 +1,11 @@
 //! The faults that each record shows by itself, and the order of the records.
-#![tactic(auto, unfolding(crate::specs::Faults::has_fixed_fault, crate::specs::Faults::is_fixed, crate::specs::Faults::is_fixed_for_mapper, crate::specs::Faults::has_mapping_fault, crate::specs::Faults::is_bad_mapping, crate::specs::Faults::is_bad_canonical, crate::specs::Faults::is_never_second))]
+#![tactic(auto, unfolding(crate::specs::Faults::is_fixed, crate::specs::Faults::is_fixed_for_mapper, crate::specs::Faults::is_bad_mapping, crate::specs::Faults::is_bad_canonical, crate::specs::Faults::is_never_second))]
 
-ghost use Rattle.std.specs.Prelude.{◌≡◌, ◌↔◌, IsTrue};
-ghost use Rattle.std.specs.List.{list_any};
+ghost use Rattle.std.specs.Prelude.{◌≡◌, map};
 ghost use Rattle.std.specs.Int.{is_in_range};
+ghost use Rattle.normalizer_records.specs.declared.records.BuildError.TheVariants.{Fixed, Mapping};
+ghost use Rattle.normalizer_records.specs.AtFault.{first_not_rising, first_out_of_order, IsFirstShowing};
 ghost use Rattle.normalizer_records.specs.Faults.{
-  AreMapperRising,
-  AreRising,
-  has_fixed_fault,
-  has_mapping_fault,
   has_zero,
   is_bad_canonical,
   is_bad_mapping,
@@ -21,43 +18,41 @@ ghost use Rattle.normalizer_records.specs.Faults.{
 ghost use Rattle.normalizer_records.specs.Statuses.{status_of};
 ghost use Rattle.normalizer_tables.specs.Hangul.{is_hangul_syllable};
 
+use crate::at_fault::{RecordAtFault, first_of, first_with};
 use crate::records::{Record, Uts46Record, Uts46Status};
 use normalizer_tables::hangul::is_hangul_syllable;
+use normalizer_tables::places::HasCharacter;
 
-/// Whether records are sorted, without duplicates, by character.
-pub(crate) fn are_rising(records: &[Record]) -> bool
-    ensures { IsTrue result ↔ AreRising records.now }
+/// The first character that isn't greater than the one before it.
+fn first_not_rising<T: HasCharacter>(items: &[T]) -> Option<char>
+    ensures { result ≡ first_not_rising (map T.character items.now) }
 {
-    records.is_sorted_by(|record, next| record.c < next.c)
+    for place in 1..items.len() {
+        let c = items[place].character();
+        if c <= items[place - 1].character() {
+            return Some(c);
+        }
+    }
+    None
 }
 
-/// Whether records of the mapper do.
-pub(crate) fn are_mapper_rising(uts46: &[Uts46Record]) -> bool
-    ensures { IsTrue result ↔ AreMapperRising uts46.now }
+/// The first record that doesn't rise.
+pub(crate) fn first_out_of_order(records: &[Record], uts46: &[Uts46Record]) -> Option<RecordAtFault>
+    ensures { result ≡ first_out_of_order records.now uts46.now }
 {
-    uts46.is_sorted_by(|record, next| record.c < next.c)
+    first_of(first_not_rising(records), first_not_rising(uts46))
 }
 
-/// Whether a record is of a character whose data are fixed.
-pub(crate) fn has_fixed_fault(records: &[Record], uts46: &[Uts46Record]) -> bool
-    ensures { result ≡ has_fixed_fault records.now uts46.now }
+/// The first record of a character whose data are fixed.
+pub(crate) fn first_fixed(records: &[Record], uts46: &[Uts46Record]) -> Option<RecordAtFault>
+    ensures { IsFirstShowing records.now uts46.now Fixed result }
 {
-    has_fixed_record(records) || has_fixed_mapper_record(uts46)
+    let character = first_with(records, |record| is_fixed(record.c));
+    let mapped = first_with(uts46, |record| is_fixed_for_mapper(record));
+    first_of(character, mapped)
 }
 
-fn has_fixed_record(records: &[Record]) -> bool
-    ensures { result ≡ list_any (λ r. is_fixed r.c) records.now }
-{
-    records.iter().any(|record| is_fixed(record.c))
-}
-
-fn has_fixed_mapper_record(uts46: &[Uts46Record]) -> bool
-    ensures { result ≡ list_any is_fixed_for_mapper uts46.now }
-{
-    uts46.iter().any(|record| is_fixed_for_mapper(record))
-}
-
-pub(crate) fn is_fixed(c: char) -> bool
+fn is_fixed(c: char) -> bool
     ensures { result ≡ is_fixed c }
 {
     c == '\u{FFFD}' || is_in_hangul_jamo(c) || is_hangul_syllable(c as u32)
@@ -70,7 +65,7 @@ fn is_in_hangul_jamo(c: char) -> bool
     '\u{1100}' <= c && c <= '\u{11FF}'
 }
 
-pub(crate) fn is_fixed_for_mapper(record: &Uts46Record) -> bool
+fn is_fixed_for_mapper(record: &Uts46Record) -> bool
     ensures { result ≡ is_fixed_for_mapper record.now }
 {
     let is_filler = '\u{115F}' <= record.c && record.c <= '\u{1160}';
@@ -87,26 +82,16 @@ pub fn is_disallowed(status: &Uts46Status) -> bool
     }
 }
 
-/// Whether a mapping has a wrong length, or a character that it must not have.
-pub(crate) fn has_mapping_fault(records: &[Record], uts46: &[Uts46Record]) -> bool
-    ensures { result ≡ has_mapping_fault records.now uts46.now }
+/// The first record whose mapping has a wrong length, or a character that it must not have.
+pub(crate) fn first_bad_mapping(records: &[Record], uts46: &[Uts46Record]) -> Option<RecordAtFault>
+    ensures { IsFirstShowing records.now uts46.now Mapping result }
 {
-    has_bad_mapping(records) || has_bad_status(uts46)
+    let character = first_with(records, |record| is_bad_mapping(record));
+    let mapped = first_with(uts46, |record| is_bad_status(&record.status));
+    first_of(character, mapped)
 }
 
-fn has_bad_mapping(records: &[Record]) -> bool
-    ensures { result ≡ list_any is_bad_mapping records.now }
-{
-    records.iter().any(|record| is_bad_mapping(record))
-}
-
-fn has_bad_status(uts46: &[Uts46Record]) -> bool
-    ensures { result ≡ list_any (λ r. is_bad_status r.status) uts46.now }
-{
-    uts46.iter().any(|record| is_bad_status(&record.status))
-}
-
-pub(crate) fn is_bad_mapping(record: &Record) -> bool
+fn is_bad_mapping(record: &Record) -> bool
     ensures { result ≡ is_bad_mapping record.now }
 {
     let is_bad = if record.compatibility {
@@ -139,7 +124,7 @@ fn has_zero(mapping: &[char]) -> bool
     mapping.iter().any(|&member| member == '\0')
 }
 
-pub(crate) fn is_bad_status(status: &Uts46Status) -> bool
+fn is_bad_status(status: &Uts46Status) -> bool
     ensures { result ≡ is_bad_status (status_of status.now) }
 {
     match status {

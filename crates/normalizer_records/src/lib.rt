@@ -15,7 +15,7 @@ mod recorded;
 mod records;
 mod refusals;
 
-pub use at_fault::{RecordAtFault, first_at_fault};
+pub use at_fault::{RecordAtFault, Refusal, first_with};
 pub use faults::is_disallowed;
 pub use lookup::recorded_step;
 pub use pair_list::pairs;

@@ -1,39 +1,28 @@
-//! The faults that the lists of characters show.
-ghost use Rattle.std.specs.Prelude.{◌≡◌, ◌<◌, ◌↔◌, ◌∷◌, ◌⊎◌, [], Some, map, true, false, nat_lt};
-ghost use Rattle.std.specs.Prelude.{IfOk, IsSomeAnd, IsTrue, option_copied};
+//! The faults that the lists of entries show.
+ghost use Rattle.std.specs.Prelude.{◌≡◌, ◌<◌, ◌↔◌, ◌∷◌, [], Some, map, true, false, nat_lt};
+ghost use Rattle.std.specs.Prelude.{IsSomeAnd, IsTrue, option_copied};
 ghost use Rattle.std.specs.List.{list_any};
 ghost use Rattle.normalizer_tables.specs.SpecialLists.{fixed_list_of};
-ghost use Rattle.normalizer_records.specs.inner.CutLists.{HasRoom};
-ghost use Rattle.normalizer_records.specs.Faults.{
-  AreMapperRising,
-  begins_with_mark,
+ghost use Rattle.normalizer_records.specs.inner.EntryFaults.{
+  HasLongMapperList,
   HasLongOwnList,
+  HasWrongMapperList,
   HasWrongOwnClass,
+};
+ghost use Rattle.normalizer_records.specs.Faults.{
+  begins_with_mark,
   IsFixedForm,
   IsFreeForm,
   IsTooLong,
   IsWrong,
   is_long,
-  is_mark,
 };
-ghost use Rattle.normalizer_records.specs.Meaning.{class_of, mapper_list};
-ghost use Rattle.normalizer_records.specs.Recorded.{IsOfCharacters, entry_for};
+ghost use Rattle.normalizer_records.specs.Meaning.{class_of};
 
-use crate::cut_lists::{cut_list, cut_mapper_list};
-use crate::lookup::{SortedRecords, class_of, step_of};
-use crate::records::{Mappings, Uts46Record};
+use crate::lookup::{SortedRecords, class_of};
 use normalizer_tables::entry::Entry;
 use normalizer_tables::members::Members;
 use normalizer_tables::special::fixed_list_of;
-use normalizer_tables::step::Step;
-use std::alloc::{AllocError, Global};
-
-/// Whether there is a fault of classes, and one of lengths.
-#[derive(Clone, Copy)]
-pub(crate) struct ListFaults {
-    pub(crate) class: bool,
-    pub(crate) length: bool,
-}
 
 /// Whether a list begins with a mark.
 fn begins_with_mark(records: &SortedRecords<'_>, list: &[char]) -> bool
@@ -133,86 +122,39 @@ fn is_too_long(list: &[char]) -> bool
     is_long(list) && !has_members(list, &Members::of_fdfa())
 }
 
-/// The faults that one list of a character shows.
-fn list_faults(records: &SortedRecords<'_>, c: char, is_mark: bool, list: &[char]) -> ListFaults
-    ensures class { IsTrue result.class ↔ IsWrong records.now c is_mark list.now }
-    ensures length { IsTrue result.length ↔ IsTooLong list.now }
+/// Whether a class is 255, or such a list is canonical or compatible.
+pub(crate) fn has_wrong_own_class(records: &SortedRecords<'_>, entry: &Entry) -> bool
+    ensures { IsTrue result ↔ HasWrongOwnClass records.now entry.now }
 {
-    ListFaults {
-        class: is_wrong(records, c, is_mark, list),
-        length: is_too_long(list),
+    let is_mark = 0 < entry.class;
+    entry.class == 255
+        || is_wrong(records, entry.character, is_mark, entry.canonical())
+        || is_wrong(records, entry.character, is_mark, entry.compatibility())
+}
+
+/// Whether such a list is the mapper's.
+pub(crate) fn has_wrong_mapper_list(records: &SortedRecords<'_>, entry: &Entry) -> bool
+    ensures { IsTrue result ↔ HasWrongMapperList records.now entry.now }
+{
+    match entry.mapped() {
+        Some(list) => is_wrong(records, entry.character, false, list),
+        None => false,
     }
 }
 
-/// The same of the mapper's list, if it doesn't ignore the character.
-fn mapped_faults(records: &SortedRecords<'_>, c: char, mapped: Option<&[char]>) -> ListFaults
-    ensures class { IsTrue result.class ↔ IsSomeAnd (option_copied mapped.entry) (IsWrong records.now c false) }
-    ensures length { IsTrue result.length ↔ IsSomeAnd (option_copied mapped.entry) IsTooLong }
+/// Whether the canonical or the compatibility list is too long.
+pub(crate) fn has_long_own_list(entry: &Entry) -> bool
+    ensures { IsTrue result ↔ HasLongOwnList entry.now }
 {
-    match mapped {
-        Some(list) => list_faults(records, c, false, list),
-        None => ListFaults {
-            class: false,
-            length: false,
-        },
+    is_too_long(entry.canonical()) || is_too_long(entry.compatibility())
+}
+
+/// Whether the mapper's list is too long.
+pub(crate) fn has_long_mapper_list(entry: &Entry) -> bool
+    ensures { IsTrue result ↔ HasLongMapperList entry.now }
+{
+    match entry.mapped() {
+        Some(list) => is_too_long(list),
+        None => false,
     }
-}
-
-/// The faults that the class of a character and its canonical and compatibility lists show.
-fn own_faults(
-    records: &SortedRecords<'_>,
-    c: char,
-    canonical: &[char],
-    compatibility: &[char],
-) -> ListFaults
-    ensures class { IsTrue result.class ↔ ((class_of records.now c ≡ 255) ⊎
-        (IsWrong records.now c (is_mark records.now c) canonical.now
-        ⊎ IsWrong records.now c (is_mark records.now c) compatibility.now)) }
-    ensures length { IsTrue result.length ↔ (IsTooLong canonical.now ⊎ IsTooLong compatibility.now) }
-{
-    let class = class_of(records, c);
-    let own = list_faults(records, c, 0 < class, canonical);
-    let other = list_faults(records, c, 0 < class, compatibility);
-    // (`|`, since each is known)
-    ListFaults {
-        class: (class == 255) | (own.class | other.class),
-        length: own.length | other.length,
-    }
-}
-
-/// What records say of a character, and what is wrong with it. A list that is too long is cut.
-#[derive(Drop)]
-pub(crate) struct CheckedEntry {
-    pub(crate) entry: Entry,
-    /// The faults of its class, and of its canonical and its compatibility list.
-    pub(crate) own: ListFaults,
-    /// Those of the mapper's list.
-    pub(crate) mapped: ListFaults,
-}
-
-pub(crate) fn checked_entry(
-    alloc: Global,
-    records: &SortedRecords<'_>,
-    uts46: &[Uts46Record],
-    c: char,
-) -> Result<CheckedEntry, AllocError>
-    requires { AreMapperRising uts46.now }
-    ensures own_class { IfOk result (λ e. IsTrue e.own.class ↔ HasWrongOwnClass records.now c) }
-    ensures own_length { IfOk result (λ e. IsTrue e.own.length ↔ HasLongOwnList records.now c) }
-    ensures class { IfOk result (λ e. IsTrue e.mapped.class
-        ↔ IsSomeAnd (mapper_list records.now uts46.now c) (IsWrong records.now c false)) }
-    ensures length { IfOk result (λ e. IsTrue e.mapped.length
-        ↔ IsSomeAnd (mapper_list records.now uts46.now c) IsTooLong) }
-    ensures entry { IfOk result (λ e. HasRoom records.now uts46.now c → e.entry ≡ entry_for records.now uts46.now c) }
-    ensures characters { IfOk result (λ e. IsOfCharacters e.entry) }
-{
-    let canonical = cut_list(alloc, records, Mappings::Canonical, c)?;
-    let compatibility = cut_list(alloc, records, Mappings::All, c)?;
-    let mapper = cut_mapper_list(alloc, records, uts46, c)?;
-    let class = class_of(records, c);
-    let mapping = step_of(records, c).unwrap_or(Step::Default);
-    let entry = Entry::new(c, class, mapping, canonical, &compatibility, mapper)?;
-    let own = own_faults(records, c, entry.canonical(), entry.compatibility());
-    let mapped = mapped_faults(records, c, entry.mapped());
-    Ok(CheckedEntry { entry, own, mapped })
 }

@@ -1,20 +1,24 @@
 //! The pairs of records.
 #![tactic(auto, unfolding(crate::specs::Meaning::pair_of_record, crate::specs::Meaning::pairs_of, normalizer_tables::specs::Pairs::is_before))]
 
-ghost use Rattle.std.specs.Prelude.{◌≡◌, IfOk};
+ghost use Rattle.std.specs.Prelude.{◌≡◌, ◌↔◌, List, IfOk, IsSomeAnd, IsTrue};
 ghost use Rattle.std.specs.List.{IsAllAdjacentAnswer};
 ghost use Rattle.std.specs.List.Sorted.{IsPermutation, IsSorted};
 ghost use Rattle.normalizer_tables.specs.Pairs.{is_before, AreRising as ArePairsRising};
+ghost use Rattle.normalizer_records.specs.declared.records.BuildError.TheVariants.{Pair};
+ghost use Rattle.normalizer_records.specs.AtFault.{IsFirstShowing, IsTwice};
 ghost use Rattle.normalizer_records.specs.Faults.{HasPairFault};
+ghost use Rattle.normalizer_records.specs.RecordValue.{Uts46RecordValue};
 ghost use Rattle.normalizer_records.specs.Meaning.{pair_of_mapping, pair_of_record, pairs_of};
 ghost use Rattle.normalizer_records.specs.inner.SortedPairs.{by_second_and_first};
 
+use crate::at_fault::{RecordAtFault, first_of, first_with};
 use crate::records::Record;
 use normalizer_tables::special::fixed_list_of;
 use std::alloc::{AllocError, Global};
 
 /// The pair of a record: second, first, and what they compose to.
-pub(crate) fn pair_of_record(record: &Record) -> Option<(char, char, char)>
+fn pair_of_record(record: &Record) -> Option<(char, char, char)>
     ensures { result ≡ pair_of_record record.now }
 {
     if !record.compatibility && !record.excluded && fixed_list_of(record.c).is_none() {
@@ -33,10 +37,7 @@ fn pair_of_mapping(c: char, mapping: &[char]) -> Option<(char, char, char)>
     }
 }
 
-pub(crate) fn unsorted_pairs(
-    alloc: Global,
-    records: &[Record],
-) -> Result<Vec<(char, char, char)>, AllocError>
+fn unsorted_pairs(alloc: Global, records: &[Record]) -> Result<Vec<(char, char, char)>, AllocError>
     ensures { IfOk result (λ v. v.items ≡ pairs_of records.now) }
 {
     let mut pairs = Vec::new(alloc);
@@ -70,8 +71,45 @@ fn is_before(pair: &(char, char, char), next: &(char, char, char)) -> bool
 }
 
 /// Whether pairs are sorted, without duplicates, by second, then by first.
-pub(crate) fn are_rising(pairs: &[(char, char, char)]) -> bool
+fn are_rising(pairs: &[(char, char, char)]) -> bool
     ensures { IsAllAdjacentAnswer (λ p q b. b ≡ is_before p q.0 q.1) pairs.now result }
 {
     pairs.is_sorted_by(|pair, next| is_before(pair, next))
+}
+
+/// The first record that has the pair of another one, by the sorted pairs.
+pub(crate) fn first_of_same_pair(
+    records: &[Record],
+    pairs: &[(char, char, char)],
+) -> Option<RecordAtFault>
+    requires same { IsPermutation (pairs_of records.now) pairs.now }
+    requires sorted { IsSorted by_second_and_first pairs.now }
+    ensures { (uts46 : List Uts46RecordValue) → IsFirstShowing records.now uts46 Pair result }
+{
+    if are_rising(pairs) {
+        return None;
+    }
+    first_of(
+        first_with(records, |record| has_pair_twice(pairs, record)),
+        None,
+    )
+}
+
+/// Whether two records have the pair of this one.
+fn has_pair_twice(pairs: &[(char, char, char)], record: &Record) -> bool
+    ensures { IsTrue result ↔ IsSomeAnd (pair_of_record «record».now) (IsTwice pairs.now) }
+{
+    match pair_of_record(record) {
+        Some(pair) => is_twice(pairs, pair),
+        None => false,
+    }
+}
+
+fn is_twice(pairs: &[(char, char, char)], pair: (char, char, char)) -> bool
+    ensures { IsTrue result ↔ IsTwice pairs.now pair }
+{
+    1 < pairs
+        .iter()
+        .filter(|p| p.0 == pair.0 && p.1 == pair.1)
+        .count()
 }

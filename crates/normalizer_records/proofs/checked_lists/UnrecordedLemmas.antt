@@ -1,21 +1,19 @@
 -- The lists of characters of which nothing is recorded show no fault.
-use Rattle.std.proofs.Common.{◌≡◌, ℕ, ◌<◌, ◌≤◌, ◌⊎◌, ◌↔◌, ◌==◌, true, false, List, [], ◌∷◌, ◌++◌, length, get_or, map, refl, None}
-use Rattle.std.proofs.Common.{inl, inr, sym, ap, subst, ◌∙◌, arith, All, Contains, find, nat_lt, flat_map}
-use Rattle.std.specs.Option.{option_map, option_map_or}
+use Rattle.std.proofs.Common.{◌≡◌, ℕ, ◌<◌, ◌≤◌, ◌⊎◌, ◌==◌, true, false, List, [], ◌∷◌, length, map, refl, None, Some}
+use Rattle.std.proofs.Common.{inl, inr, sym, ap, subst, ◌∙◌, arith, Contains, find, nat_lt, flat_map}
+use Rattle.std.specs.Option.{option_map_or}
 use Rattle.std.proofs.lemmas.Bool.{or_parts, true≢false}
 use Rattle.std.proofs.lemmas.Bool.Decides.{nat_tests}
-use Rattle.std.proofs.lemmas.List.{get_or-map, get_or_default, length-map}
-use Rattle.std.proofs.lemmas.List.Elements.{All-contains, Contains-append_left, Contains-append_right}
+use Rattle.std.proofs.lemmas.List.{get_or-map, length-map}
 use Rattle.std.proofs.lemmas.List.Folds.{list_any_at}
 use Rattle.normal_forms.proofs.ordering.OrderLemmas.{length-order}
 use Rattle.normalizer_tables.specs.Hangul.{is_hangul_syllable, hangul_decomposition}
 use Rattle.normalizer_records.specs.declared.records.Mappings.{Mappings}
 use Rattle.normalizer_records.specs.declared.records.Mappings.TheVariants.{Canonical, All as AllMappings}
 use Rattle.normalizer_records.specs.RecordValue.{RecordValue, IsIgnored, Uts46RecordValue}
-use Rattle.normalizer_records.specs.Meaning.{entry_of, class_of, replacement, expansion, full_list, recorded_classes, status_of, mapper_list, mapped_list, levels}
+use Rattle.normalizer_records.specs.Meaning.{canonical_list, entry_of, class_of, replacement, expansion, full_list, recorded_classes, status_of, mapper_list, mapped_list, levels}
 use Rattle.normalizer_records.specs.inner.Lookup.{no_entry}
-use Rattle.normalizer_records.specs.inner.CutLists.{IsOfSome}
-use Rattle.normalizer_records.specs.Faults.{is_fixed, has_fixed_fault, begins_with_mark, HasWrongClass, HasWrongOwnClass, HasLongList, HasLongOwnList, IsAsked, HasClassFault, HasLengthFault}
+use Rattle.normalizer_records.specs.Faults.{is_fixed, has_fixed_fault, begins_with_mark, HasWrongOwnClass, HasLongOwnList}
 use Rattle.normalizer_records.proofs.checked_lists.ChecksOfCuts.{begins-order}
 use Rattle.normalizer_records.proofs.replacing.ExpansionLemmas.{expansion-alone, expansion-replaced}
 use Rattle.normalizer_records.proofs.record_faults.LookupLemmas.{stands_or_none}
@@ -94,49 +92,25 @@ module _ (records : List RecordValue) (uts46 : List Uts46RecordValue) (fixed : h
         let few = bare.1 in
         (begins-order records (expansion records mappings levels c) ∙ bare.0, omega arith)
 
-  HasWrongClass-unrecorded : (c : ℕ) → entry_of records c ≡ None → status_of uts46 c ≡ None → HasWrongClass records uts46 c → ⊥
-  unfolding HasWrongClass HasWrongOwnClass mapper_list mapped_list
-  HasWrongClass-unrecorded c h k wrong =
-      absurd (grind (arith, nat_tests, class_of-unrecorded c h, (full_list-bare Canonical c h).0, (full_list-bare AllMappings c h).0))
-
-  HasLongList-unrecorded : (c : ℕ) → entry_of records c ≡ None → status_of uts46 c ≡ None → HasLongList records uts46 c → ⊥
-  unfolding HasLongList HasLongOwnList mapper_list mapped_list
-  HasLongList-unrecorded c h k long = absurd (grind (arith, nat_tests, (full_list-bare Canonical c h).1, (full_list-bare AllMappings c h).1))
-
-  -- every character is recorded in one way or the other, or in none
-  abbrev characters : List ℕ
-  characters = map (λ (r : RecordValue). r.c) records ++ map (λ (r : Uts46RecordValue). r.c) uts46
-
-  recorded_or_not : (c : ℕ) → Contains characters c ⊎ ((entry_of records c ≡ None) × (status_of uts46 c ≡ None))
-  unfolding entry_of status_of
-  recorded_or_not c = elim (contains_or_none (λ (r : RecordValue). r.c) no_entry records c) [
-    | inl there ↦ inl (Contains-append_left _ _ c there)
-    | inr none ↦
-        elim (contains_or_none (λ (r : Uts46RecordValue). r.c) (record { c = 0; status = IsIgnored }) uts46 c) [
-          | inl there ↦ inl (Contains-append_right _ _ c there)
-          | inr gone ↦ inr (none, ap (option_map (λ (r : Uts46RecordValue). r.status)) gone)
-        ]
+  -- what the character's own class and lists show is shown by a record
+  pub HasWrongOwnClass-recorded : (c : ℕ) → HasWrongOwnClass records c → Contains (map (λ (r : RecordValue). r.c) records) c
+  unfolding HasWrongOwnClass entry_of
+  HasWrongOwnClass-recorded c wrong = elim (contains_or_none (λ (r : RecordValue). r.c) no_entry records c) [
+    | inl there ↦ there
+    | inr none ↦ absurd (grind (arith, nat_tests, class_of-unrecorded c none, (full_list-bare Canonical c none).0, (full_list-bare AllMappings c none).0))
   ]
 
-  -- what no other character shows is shown by a recorded one, or by none
-  module _ (xs : List ℕ) (all : All (Contains xs) characters) where
-    recorded_alone : (P : ℕ → Type 0) → ((c : ℕ) → entry_of records c ≡ None → status_of uts46 c ≡ None → P c → ⊥) →
-        IsOfSome (λ c. IsAsked records uts46 c × P c) (length xs) xs ↔ ((c : ℕ) × IsAsked records uts46 c × P c)
-    recorded_alone P never = (
-      λ h. (get_or xs h.0 0, h.2.0, h.2.1),
-      λ h. elim (recorded_or_not h.0) [
-        | inl recorded ↦
-            let there = All-contains (Contains xs) characters h.0 all recorded in
-            let e = get_or_default xs there.0 0 h.0 there.1 ∙ there.2 in
-            (there.0, there.1, subst (λ c. IsAsked records uts46 c × P c) (sym e) (h.1, h.2))
-        | inr nowhere ↦ absurd (never h.0 nowhere.0 nowhere.1 h.2)
-      ],
-    )
+  pub HasLongOwnList-recorded : (c : ℕ) → HasLongOwnList records c → Contains (map (λ (r : RecordValue). r.c) records) c
+  unfolding HasLongOwnList entry_of
+  HasLongOwnList-recorded c long = elim (contains_or_none (λ (r : RecordValue). r.c) no_entry records c) [
+    | inl there ↦ there
+    | inr none ↦ absurd (grind (arith, nat_tests, (full_list-bare Canonical c none).1, (full_list-bare AllMappings c none).1))
+  ]
 
-    pub HasClassFault-recorded : IsOfSome (λ c. IsAsked records uts46 c × HasWrongClass records uts46 c) (length xs) xs ↔ HasClassFault records uts46
-    unfolding HasClassFault
-    HasClassFault-recorded = recorded_alone (HasWrongClass records uts46) HasWrongClass-unrecorded
-
-    pub HasLengthFault-recorded : IsOfSome (λ c. IsAsked records uts46 c × HasLongList records uts46 c) (length xs) xs ↔ HasLengthFault records uts46
-    unfolding HasLengthFault
-    HasLengthFault-recorded = recorded_alone (HasLongList records uts46) HasLongList-unrecorded
+  -- what the mapper's list shows is shown by a record of the mapper, or by the canonical list
+  pub mapper_recorded : (c : ℕ) → Contains (map (λ (r : Uts46RecordValue). r.c) uts46) c ⊎ (mapper_list records uts46 c ≡ Some (canonical_list records c))
+  unfolding mapper_list mapped_list status_of
+  mapper_recorded c = elim (contains_or_none (λ (r : Uts46RecordValue). r.c) (record { c = 0; status = IsIgnored }) uts46 c) [
+    | inl there ↦ inl there
+    | inr none ↦ inr (rw none refl)
+  ]

@@ -1,5 +1,5 @@
 -- Two records have the same pair exactly if the sorted pairs don't strictly rise.
-use Rattle.std.proofs.Common.{◌≡◌, ℕ, ◌+◌, ◌<◌, ◌↔◌, ◌==◌, ◌&&◌, not, Bool, true, false, List, length, get_or, refl, sym, ◌∙◌, inl, inr, cond}
+use Rattle.std.proofs.Common.{◌≡◌, ℕ, ◌+◌, ◌<◌, ◌↔◌, ◌==◌, ◌&&◌, not, Bool, true, false, List, length, get_or, refl, sym, ◌∙◌, inl, inr, cond, Option, Some, None, IsSomeAnd}
 use Rattle.std.proofs.Common.{is_lt, IsPermutation, IsSorted, IsTrue, count_by, filter, arith}
 use Rattle.std.proofs.lemmas.Bool.{cases_Bool, true≢false}
 use Rattle.std.proofs.lemmas.Bool.Decides.{nat_tests}
@@ -13,6 +13,7 @@ use Rattle.normalizer_tables.specs.Pairs.{Pair, is_before, AreRising}
 use Rattle.normalizer_tables.proofs.composites.PairLemmas.{AreRising-decides, AreRising_from_adjacent}
 use Rattle.normalizer_records.specs.RecordValue.{RecordValue}
 use Rattle.normalizer_records.specs.Meaning.{pairs_of}
+use Rattle.normalizer_records.specs.AtFault.{IsTwice}
 use Rattle.normalizer_records.specs.Faults.{HasPairFault}
 use Rattle.normalizer_records.specs.inner.SortedPairs.{by_second_and_first}
 
@@ -61,6 +62,13 @@ module _ (records : List RecordValue) (ps : List Pair) (moved : IsPermutation (p
       let before = AllPairs-filter (λ p q. is_before p q.0 q.1 ≡ true) test ps rising 0 1 any_pair (omega arith) both in
       let apart = other (get_or kept 0 any_pair) (get_or kept 1 any_pair) h.0 h.1 before (passes 0 any_pair (omega arith)) in
       true≢false (sym (passes 1 any_pair both) ∙ apart)
+
+  -- sorted pairs have each pair as often
+  pub twice_sorted : (o : Option Pair) → IsSomeAnd o (IsTwice ps) ↔ IsSomeAnd o (IsTwice (pairs_of records))
+  twice_sorted None = (λ h. h, λ h. h)
+  twice_sorted (Some p) =
+      let same = sum_by-IsPermutation (λ q. cond (same_as p.1 p.0 q) 1 0) (pairs_of records) ps moved in
+      (λ h. omega arith, λ h. omega arith)
 
   module _ (sorted : IsSorted by_second_and_first ps) where
     -- neighbours that don't rise are the same pair

@@ -1,5 +1,5 @@
 -- Chains of records through a character, by what leads on from it and what leads to it.
-use Rattle.std.proofs.Common.{◌≡◌, ◌||◌, ◌&&◌, not, ◌≢◌, Bool, ℕ, zero, suc, ◌+◌, ◌-◌, ◌≤◌, ◌<◌, ◌↔◌, List, [], ◌∷◌, ◌++◌, length, get_or, min, take, refl, Some, None, is_some}
+use Rattle.std.proofs.Common.{◌≡◌, ◌||◌, ◌&&◌, Bool, ℕ, zero, suc, ◌+◌, ◌-◌, ◌≤◌, ◌<◌, ◌↔◌, List, [], ◌∷◌, ◌++◌, length, get_or, min, take, refl, Some, None, is_some}
 use Rattle.std.proofs.Common.{inl, inr, sym, ap, subst, ◌∙◌, arith, append_assoc, length-append, drop, map, flat_map, find, true, false, ◌==◌, if◌then◌else◌, Contains, IsTrue}
 use Rattle.std.specs.BTreeSet.{BTreeSet, contains, IsFromIterResult}
 use Rattle.std.specs.Option.{option_map_or}
@@ -16,7 +16,7 @@ use Rattle.std.proofs.lemmas.Map.Lookups.{exact_unsigned}
 use Rattle.std.proofs.lemmas.Map.Views.{btree_set_contains_from_list, btree_set_contains_iff}
 use Rattle.normalizer_records.specs.RecordValue.{RecordValue}
 use Rattle.normalizer_records.specs.Meaning.{entry_of, mapping_of}
-use Rattle.normalizer_records.specs.Faults.{AreRising, IsRecorded, IsChain, IsOnLongChain, HasChainFault}
+use Rattle.normalizer_records.specs.Faults.{AreRising, IsRecorded, IsChain, IsOnLongChain}
 use Rattle.normalizer_records.specs.inner.Chains.{beginning, HasLed, IsBetween, IsLedTo, IsSetOf, leading, leads_on, LeadsOn}
 use Rattle.normalizer_records.specs.inner.Lookup.{no_entry}
 use Rattle.normalizer_records.proofs.record_faults.LookupLemmas.{find-found, stands_or_none}
@@ -154,29 +154,8 @@ module _ (records : List RecordValue) where
       let within = ((btree_set_contains_iff nat_cmp_total exact_unsigned led d).0 (is d reached on)).1 in
       absurd (omega arith)
 
-  -- some character is on a long chain exactly if there is one
-  pub HasChainFault-some : (s : BTreeSet ℕ) → IsSetOf (IsOnLongChain records) s → (b : Bool) → IsTrue b ↔ (length s.keys ≡ 0) → IsTrue (not b) ↔ HasChainFault records
-  unfolding HasChainFault IsOnLongChain
-  HasChainFault-some s is b none = (there, back)
-    where
-      have : (c : ℕ) → IsTrue (contains nat_cmp s c) ↔ Contains s.keys c
-      have c = btree_set_contains_iff nat_cmp_total exact_unsigned s c
-
-      there : IsTrue (not b) → HasChainFault records
-      there e =
-          let some : length s.keys ≢ 0 = λ empty. let yes = none.1 empty in absurd cc in
-          let on = (is (get_or s.keys 0 0)).0 ((have (get_or s.keys 0 0)).1 (Contains-get_or s.keys 0 0 (omega arith))) in
-          (on.0 ++ get_or s.keys 0 0 ∷ on.1, on.2, on.3)
-
-      back : HasChainFault records → IsTrue (not b)
-      back ([], chain, long) = absurd (omega arith)
-      back (c ∷ rest, chain, long) = let within = ((have c).0 ((is c).1 ([], rest, chain, long))).1 in elim b as (λ x. IsTrue x ↔ (length s.keys ≡ 0) → IsTrue (not x)) [
-        | true ↦ λ h. let e = h.0 refl in absurd (omega arith)
-        | false ↦ λ _. refl
-      ] none
-
   -- a recorded character is that of a record
-  record_of : (c : ℕ) → IsRecorded records c → (r : RecordValue) × Contains records r × (r.c ≡ c)
+  pub record_of : (c : ℕ) → IsRecorded records c → (r : RecordValue) × Contains records r × (r.c ≡ c)
   unfolding entry_of
   record_of c h = elim (stands_or_none (λ (r : RecordValue). r.c) records c) [
     | inl at ↦ (get_or records at.0 no_entry, Contains-get_or records at.0 no_entry at.1.within, at.1.there no_entry)

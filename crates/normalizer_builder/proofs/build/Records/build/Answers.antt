@@ -6,7 +6,7 @@ use Rattle.normalizer_builder.proofs.build.Records.build.Goals as goal
 
 pub returns-in_err-expanded : goal.returns-in_err-expanded
 returns-in_err-expanded c =
-    let is : c.from_residual.result ≡ Err c.in_err-expanded.field-0.0 = search rules in
+    let is : c.from_residual.result ≡ Err c.in_err-expanded.field-0.0.error = search rules in
     rw is (IsSmallest-refusal c.args.records.now c.args.uts46.now c.in_err-expanded.field-0.0 c.in_err-expanded.ensures)
 
 pub first_unmet-requires : goal.first_unmet-requires
