@@ -2,7 +2,6 @@
 #![tactic(auto, unfolding(crate::specs::Meaning::pair_of_record, crate::specs::Meaning::pairs_of, normalizer_tables::specs::Pairs::is_before))]
 
 ghost use Rattle.std.specs.Prelude.{◌≡◌, ◌↔◌, List, IfOk, IsSomeAnd, IsTrue};
-ghost use Rattle.std.specs.List.{IsAllAdjacentAnswer};
 ghost use Rattle.std.specs.List.Sorted.{IsPermutation, IsSorted};
 ghost use Rattle.normalizer_tables.specs.Pairs.{is_before, AreRising as ArePairsRising};
 ghost use Rattle.normalizer_records.specs.declared.records.BuildError.TheVariants.{Pair};
@@ -70,13 +69,6 @@ fn is_before(pair: &(char, char, char), next: &(char, char, char)) -> bool
     pair.0 < next.0 || (pair.0 == next.0 && pair.1 < next.1)
 }
 
-/// Whether pairs are sorted, without duplicates, by second, then by first.
-fn are_rising(pairs: &[(char, char, char)]) -> bool
-    ensures { IsAllAdjacentAnswer (λ p q b. b ≡ is_before p q.0 q.1) pairs.now result }
-{
-    pairs.is_sorted_by(|pair, next| is_before(pair, next))
-}
-
 /// The first record that has the pair of another one, by the sorted pairs.
 pub(crate) fn first_of_same_pair(
     records: &[Record],
@@ -86,30 +78,28 @@ pub(crate) fn first_of_same_pair(
     requires sorted { IsSorted by_second_and_first pairs.now }
     ensures { (uts46 : List Uts46RecordValue) → IsFirstShowing records.now uts46 Pair result }
 {
-    if are_rising(pairs) {
-        return None;
-    }
     first_of(
         first_with(records, |record| has_pair_twice(pairs, record)),
         None,
     )
 }
 
-/// Whether two records have the pair of this one.
+/// Whether two records have the pair of this one, by the sorted pairs.
 fn has_pair_twice(pairs: &[(char, char, char)], record: &Record) -> bool
+    requires { IsSorted by_second_and_first pairs.now }
     ensures { IsTrue result ↔ IsSomeAnd (pair_of_record «record».now) (IsTwice pairs.now) }
 {
     match pair_of_record(record) {
-        Some(pair) => is_twice(pairs, pair),
+        Some(pair) => is_twice(pairs, &pair),
         None => false,
     }
 }
 
-fn is_twice(pairs: &[(char, char, char)], pair: (char, char, char)) -> bool
-    ensures { IsTrue result ↔ IsTwice pairs.now pair }
+/// Whether two of the sorted pairs are of these characters: the first that isn't before it, and the next one.
+fn is_twice(pairs: &[(char, char, char)], pair: &(char, char, char)) -> bool
+    requires { IsSorted by_second_and_first pairs.now }
+    ensures { IsTrue result ↔ IsTwice pairs.now pair.now }
 {
-    1 < pairs
-        .iter()
-        .filter(|p| p.0 == pair.0 && p.1 == pair.1)
-        .count()
+    let next = pairs.partition_point(|earlier| is_before(earlier, pair)) + 1;
+    next < pairs.len() && !is_before(pair, &pairs[next])
 }

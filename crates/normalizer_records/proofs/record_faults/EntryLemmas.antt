@@ -129,115 +129,110 @@ long_canonical : (records : List RecordValue) (uts46 : List Uts46RecordValue) (c
 unfolding HasLongOwnList
 long_canonical records uts46 c is h = inl (rw is at h)
 
-module _ (records : List RecordValue) (uts46 : List Uts46RecordValue) (fixed : has_fixed_fault records uts46 ≡ false) where
-  module _ (e : BuildError) (Own Mapped : ℕ → Type 0)
-      (own_is : (r : RecordValue) → ShowsFault records uts46 e r ↔ (IsAsked records uts46 r.c × Own r.c))
-      (mapped_is : (r : Uts46RecordValue) → MapperShowsFault records uts46 e r ↔ (IsAsked records uts46 r.c × Mapped r.c))
-      (recorded : (c : ℕ) → Own c → Contains (map (λ (r : RecordValue). r.c) records) c)
-      (canonical : (c : ℕ) → mapper_list records uts46 c ≡ Some (canonical_list records c) → Mapped c → Own c) where
-    abbrev Found : Type 0
-    Found = (c : ℕ) × IsAsked records uts46 c × (Own c ⊎ Mapped c)
+-- what records show of the one kind of their own characters, and of the other of characters that the mapper maps
+record IsListFault (records : List RecordValue) (uts46 : List Uts46RecordValue) (e : BuildError) (Own Mapped : ℕ → Type 0) : Type 0 where
+  own_is : (r : RecordValue) → ShowsFault records uts46 e r ↔ (IsAsked records uts46 r.c × Own r.c)
+  mapped_is : (r : Uts46RecordValue) → MapperShowsFault records uts46 e r ↔ (IsAsked records uts46 r.c × Mapped r.c)
+  recorded : (c : ℕ) → Own c → Contains (map (λ (r : RecordValue). r.c) records) c
+  canonical : (c : ℕ) → mapper_list records uts46 c ≡ Some (canonical_list records c) → Mapped c → Own c
 
+module _ (records : List RecordValue) (uts46 : List Uts46RecordValue) (fixed : has_fixed_fault records uts46 ≡ false) where
+  class_fault : IsListFault records uts46 error.Class (HasWrongOwnClass records) (λ c. IsSomeAnd (mapper_list records uts46 c) (IsWrong records c false))
+  unfolding ShowsFault MapperShowsFault
+  class_fault = record {
+    own_is = λ r. (λ h. h, λ h. h);
+    mapped_is = λ r. (λ h. h, λ h. h);
+    recorded = HasWrongOwnClass-recorded records uts46 fixed;
+    canonical = wrong_canonical records uts46;
+  }
+
+  length_fault : IsListFault records uts46 error.Length (HasLongOwnList records) (λ c. IsSomeAnd (mapper_list records uts46 c) IsTooLong)
+  unfolding ShowsFault MapperShowsFault
+  length_fault = record {
+    own_is = λ r. (λ h. h, λ h. h);
+    mapped_is = λ r. (λ h. h, λ h. h);
+    recorded = HasLongOwnList-recorded records uts46 fixed;
+    canonical = long_canonical records uts46;
+  }
+
+  module _ (e : BuildError) (Own Mapped : ℕ → Type 0) (fault : IsListFault records uts46 e Own Mapped) where
     by_own : (c : ℕ) → IsAsked records uts46 c → Own c → IsShown records uts46 e
     by_own c asked own =
-        let r = from_map (λ (r : RecordValue). r.c) records c (recorded c own) in
-        inl (r.0, r.1, (own_is r.0).1 (rw r.2 (asked, own)))
+        let r = from_map (λ (r : RecordValue). r.c) records c (fault.recorded c own) in
+        inl (r.0, r.1, (fault.own_is r.0).1 (rw r.2 (asked, own)))
 
-    pub shown_of : Found ↔ IsShown records uts46 e
+    shown_of : ((c : ℕ) × IsAsked records uts46 c × (Own c ⊎ Mapped c)) ↔ IsShown records uts46 e
     shown_of = (there, back)
       where
-        there : Found → IsShown records uts46 e
+        there : ((c : ℕ) × IsAsked records uts46 c × (Own c ⊎ Mapped c)) → IsShown records uts46 e
         there (c, asked, inl own) = by_own c asked own
         there (c, asked, inr mapped) = elim (mapper_recorded records uts46 fixed c) [
-          | inl listed ↦ let r = from_map (λ (r : Uts46RecordValue). r.c) uts46 c listed in inr (r.0, r.1, (mapped_is r.0).1 (rw r.2 (asked, mapped)))
-          | inr same ↦ by_own c asked (canonical c same mapped)
+          | inl listed ↦ let r = from_map (λ (r : Uts46RecordValue). r.c) uts46 c listed in inr (r.0, r.1, (fault.mapped_is r.0).1 (rw r.2 (asked, mapped)))
+          | inr same ↦ by_own c asked (fault.canonical c same mapped)
         ]
 
-        back : IsShown records uts46 e → Found
-        back (inl (r, inside, shows)) = let h = (own_is r).0 shows in (r.c, h.0, inl h.1)
-        back (inr (r, inside, shows)) = let h = (mapped_is r).0 shows in (r.c, h.0, inr h.1)
+        back : IsShown records uts46 e → (c : ℕ) × IsAsked records uts46 c × (Own c ⊎ Mapped c)
+        back (inl (r, inside, shows)) = let h = (fault.own_is r).0 shows in (r.c, h.0, inl h.1)
+        back (inr (r, inside, shows)) = let h = (fault.mapped_is r).0 shows in (r.c, h.0, inr h.1)
 
-    -- the first record that shows it, by the entries
-    module _ (entries : List EntryValue) (rising : AllPairs (λ x y. x.character < y.character) entries)
-        (records_rise : AllPairs (λ x y. x.c < y.c) records) (uts46_rise : AllPairs (λ x y. x.c < y.c) uts46)
-        (has_records : All (Contains (map (λ (e : EntryValue). e.character) entries)) (map (λ (r : RecordValue). r.c) records))
-        (has_uts46 : All (Contains (map (λ (e : EntryValue). e.character) entries)) (map (λ (r : Uts46RecordValue). r.c) uts46))
-        (cut : All (IsCutEntry records uts46) entries) (EntryOwn EntryMapped : EntryValue → Type 0)
-        (own_same : (x : EntryValue) → IsCutEntry records uts46 x → EntryOwn x ↔ Own x.character)
-        (mapped_same : (x : EntryValue) → IsCutEntry records uts46 x → EntryMapped x ↔ Mapped x.character) where
-      pub first_of_entries : (n m : Option ℕ) →
-          IsCharacterOfFirst (λ (x : EntryValue). x.character) (λ x. EntryOwn x × IsAsked records uts46 x.character) entries n →
-          IsCharacterOfFirst (λ (x : EntryValue). x.character) (λ x. EntryMapped x × IsAsked records uts46 x.character) entries m →
-          IsFirstShowing records uts46 e (first_of n m)
-      first_of_entries n m own mapped =
-          let of_record = λ (r : RecordValue). r.c in
-          let of_mapper = λ (r : Uts46RecordValue). r.c in
-          let first = first_among (λ (x : EntryValue). x.character) of_record (λ x. EntryOwn x × IsAsked records uts46 x.character)
-          (λ c. IsAsked records uts46 c × Own c) entries records rising records_rise has_records
-          (λ k d lt. swapped (own_same _ (cut k d lt))) (λ c h. recorded c h.1) n own in
-          let mapper = λ (only : (c : ℕ) → IsAsked records uts46 c × Mapped c → Contains (map of_mapper uts46) c).
-          first_among (λ (x : EntryValue). x.character) of_mapper (λ x. EntryMapped x × IsAsked records uts46 x.character)
-          (λ c. IsAsked records uts46 c × Mapped c) entries uts46 rising uts46_rise has_uts46
-          (λ k d lt. swapped (mapped_same _ (cut k d lt))) only m mapped in
-          showing records uts46 e n m (alike of_record _ _ records (λ k d lt. swap_iff (own_is _)) n first)
-          (λ none. alike of_mapper _ _ uts46 (λ k d lt. swap_iff (mapped_is _)) m (mapper (λ c h. elim (mapper_recorded records uts46 fixed c) [
-            | inl listed ↦ listed
-            | inr same ↦ absurd (unshown of_record (λ c. IsAsked records uts46 c × Own c) records n none first c
-                (recorded c (canonical c same h.1)) (h.0, canonical c same h.1))
-          ])))
-
--- the faults of classes and of lengths
-module _ (records : List RecordValue) (uts46 : List Uts46RecordValue) (fixed : has_fixed_fault records uts46 ≡ false) where
   pub IsShown-class : HasClassFault records uts46 ↔ IsShown records uts46 error.Class
-  unfolding HasClassFault HasWrongClass ShowsFault MapperShowsFault
-  IsShown-class = shown_of records uts46 fixed error.Class (HasWrongOwnClass records)
-      (λ c. IsSomeAnd (mapper_list records uts46 c) (IsWrong records c false)) (λ r. (λ h. h, λ h. h)) (λ r. (λ h. h, λ h. h))
-      (HasWrongOwnClass-recorded records uts46 fixed) (wrong_canonical records uts46)
+  unfolding HasClassFault HasWrongClass
+  IsShown-class = shown_of _ _ _ class_fault
 
   pub IsShown-length : HasLengthFault records uts46 ↔ IsShown records uts46 error.Length
-  unfolding HasLengthFault HasLongList ShowsFault MapperShowsFault
-  IsShown-length = shown_of records uts46 fixed error.Length (HasLongOwnList records)
-      (λ c. IsSomeAnd (mapper_list records uts46 c) IsTooLong) (λ r. (λ h. h, λ h. h)) (λ r. (λ h. h, λ h. h))
-      (HasLongOwnList-recorded records uts46 fixed) (long_canonical records uts46)
+  unfolding HasLengthFault HasLongList
+  IsShown-length = shown_of _ _ _ length_fault
 
+-- the first record that shows a fault of lists, by the entries
 module _ (f : Findings) (found : AreFound f) where
+  abbrev key : EntryValue → ℕ
+  key e = e.character
+
+  abbrev of_record : RecordValue → ℕ
+  of_record r = r.c
+
+  abbrev of_mapper : Uts46RecordValue → ℕ
+  of_mapper r = r.c
+
+  abbrev Asked : (ℕ → Type 0) → ℕ → Type 0
+  Asked Q c = IsAsked f.records f.uts46.now c × Q c
+
   abbrev IsFirstEntry : (EntryValue → Type 0) → Option ℕ → Type 0
   IsFirstEntry P n = IsCharacterOfFirst (λ (e : EntryValue). e.character) (λ e. P e × IsAsked f.records f.uts46.now e.character) f.entries.items n
 
   rising : AllPairs (λ x y. x.character < y.character) f.entries.items
   rising = λ i j d lt within.
-      let keys = map (λ (e : EntryValue). e.character) f.entries.items in
-      let same = length-map f.entries.items (λ (e : EntryValue). e.character) in
-      let less = AllPairs-from_increasing keys found.listed.rising i j 0 lt (omega arith) in
-      let here = get_or-map (λ (e : EntryValue). e.character) f.entries.items i d 0 (omega arith) in
-      let there = get_or-map (λ (e : EntryValue). e.character) f.entries.items j d 0 within in
+      let same = length-map f.entries.items key in
+      let less = AllPairs-from_increasing (map key f.entries.items) found.listed.rising i j 0 lt (omega arith) in
+      let here = get_or-map key f.entries.items i d 0 (omega arith) in
+      let there = get_or-map key f.entries.items j d 0 within in
       omega arith
 
-  abbrev characters : List ℕ
-  characters = map (λ (e : EntryValue). e.character) f.entries.items
+  listed : (c : ℕ) → Contains (recorded_characters f.records f.uts46.now) c → Contains (map key f.entries.items) c
+  listed c = All-contains (Contains (map key f.entries.items)) (recorded_characters f.records f.uts46.now) c found.listed.all
 
-  has_records : All (Contains characters) (map (λ (r : RecordValue). r.c) f.records)
-  has_records = λ k d lt. All-contains (Contains characters) (recorded_characters f.records f.uts46.now) _ found.listed.all
-      (Contains-append_left (map (λ (r : RecordValue). r.c) f.records) (map (λ (r : Uts46RecordValue). r.c) f.uts46.now) _ (Contains-get_or _ k d lt))
-
-  has_uts46 : All (Contains characters) (map (λ (r : Uts46RecordValue). r.c) f.uts46.now)
-  has_uts46 = λ k d lt. All-contains (Contains characters) (recorded_characters f.records f.uts46.now) _ found.listed.all
-      (Contains-append_right (map (λ (r : RecordValue). r.c) f.records) (map (λ (r : Uts46RecordValue). r.c) f.uts46.now) _ (Contains-get_or _ k d lt))
+  first_of_entries : (e : BuildError) (Own Mapped : ℕ → Type 0) → IsListFault f.records f.uts46.now e Own Mapped → (EntryOwn EntryMapped : EntryValue → Type 0) →
+      ((x : EntryValue) → IsCutEntry f.records f.uts46.now x → EntryOwn x ↔ Own x.character) →
+      ((x : EntryValue) → IsCutEntry f.records f.uts46.now x → EntryMapped x ↔ Mapped x.character) →
+      (n m : Option ℕ) → IsFirstEntry EntryOwn n → IsFirstEntry EntryMapped m → IsFirstShowing f.records f.uts46.now e (first_of n m)
+  first_of_entries e Own Mapped fault EntryOwn EntryMapped own_same mapped_same n m own mapped =
+      let first = first_among key of_record (λ x. EntryOwn x × IsAsked f.records f.uts46.now x.character) (Asked Own) f.entries.items f.records rising found.rising
+      (λ k d lt. listed _ (Contains-append_left _ (map of_mapper f.uts46.now) _ (Contains-get_or (map of_record f.records) k d lt)))
+      (λ k d lt. swapped (own_same _ (found.entries k d lt))) (λ c h. fault.recorded c h.1) n own in
+      let mapper = λ (only : (c : ℕ) → Asked Mapped c → Contains (map of_mapper f.uts46.now) c).
+      first_among key of_mapper (λ x. EntryMapped x × IsAsked f.records f.uts46.now x.character) (Asked Mapped) f.entries.items f.uts46.now rising found.mapper
+      (λ k d lt. listed _ (Contains-append_right (map of_record f.records) _ _ (Contains-get_or (map of_mapper f.uts46.now) k d lt)))
+      (λ k d lt. swapped (mapped_same _ (found.entries k d lt))) only m mapped in
+      showing f.records f.uts46.now e n m (alike of_record _ _ f.records (λ k d lt. swap_iff (fault.own_is _)) n first)
+      (λ none. alike of_mapper _ _ f.uts46.now (λ k d lt. swap_iff (fault.mapped_is _)) m (mapper (λ c h. elim (mapper_recorded f.records f.uts46.now found.fixed c) [
+        | inl there ↦ there
+        | inr same ↦ let shown = fault.canonical c same h.1 in absurd (unshown of_record (Asked Own) f.records n none first c (fault.recorded c shown) (h.0, shown))
+      ])))
 
   pub first_class : (n m : Option ℕ) → IsFirstEntry (entry.HasWrongOwnClass f.records) n → IsFirstEntry (entry.HasWrongMapperList f.records) m →
       IsFirstShowing f.records f.uts46.now error.Class (first_of n m)
-  unfolding ShowsFault MapperShowsFault
-  first_class = first_of_entries f.records f.uts46.now found.fixed error.Class (HasWrongOwnClass f.records)
-      (λ c. IsSomeAnd (mapper_list f.records f.uts46.now c) (IsWrong f.records c false)) (λ r. (λ h. h, λ h. h)) (λ r. (λ h. h, λ h. h))
-      (HasWrongOwnClass-recorded f.records f.uts46.now found.fixed) (wrong_canonical f.records f.uts46.now)
-      f.entries.items rising found.rising found.mapper has_records has_uts46 found.entries _ _
-      (own_class f.records f.uts46.now) (mapper_class f.records f.uts46.now)
+  first_class = first_of_entries _ _ _ (class_fault f.records f.uts46.now found.fixed) _ _ (own_class f.records f.uts46.now) (mapper_class f.records f.uts46.now)
 
   pub first_length : (n m : Option ℕ) → IsFirstEntry entry.HasLongOwnList n → IsFirstEntry entry.HasLongMapperList m →
       IsFirstShowing f.records f.uts46.now error.Length (first_of n m)
-  unfolding ShowsFault MapperShowsFault
-  first_length = first_of_entries f.records f.uts46.now found.fixed error.Length (HasLongOwnList f.records)
-      (λ c. IsSomeAnd (mapper_list f.records f.uts46.now c) IsTooLong) (λ r. (λ h. h, λ h. h)) (λ r. (λ h. h, λ h. h))
-      (HasLongOwnList-recorded f.records f.uts46.now found.fixed) (long_canonical f.records f.uts46.now)
-      f.entries.items rising found.rising found.mapper has_records has_uts46 found.entries _ _
-      (own_length f.records f.uts46.now) (mapper_length f.records f.uts46.now)
+  first_length = first_of_entries _ _ _ (length_fault f.records f.uts46.now found.fixed) _ _ (own_length f.records f.uts46.now) (mapper_length f.records f.uts46.now)

@@ -1,16 +1,15 @@
--- Two records have the same pair exactly if the sorted pairs don't strictly rise.
-use Rattle.std.proofs.Common.{◌≡◌, ℕ, ◌+◌, ◌<◌, ◌↔◌, ◌==◌, ◌&&◌, not, Bool, true, false, List, length, get_or, refl, sym, ◌∙◌, inl, inr, cond, Option, Some, None, IsSomeAnd}
-use Rattle.std.proofs.Common.{is_lt, IsPermutation, IsSorted, IsTrue, count_by, filter, arith}
-use Rattle.std.proofs.lemmas.Bool.{cases_Bool, true≢false}
+-- Two records have the same pair exactly if two of the sorted pairs, which are neighbours, are the same.
+use Rattle.std.proofs.Common.{◌≡◌, ℕ, zero, suc, ◌+◌, ◌-◌, ◌<◌, ◌↔◌, ◌==◌, ◌&&◌, Bool, true, false, List, length, get_or, take, refl, sym, ap, ◌∙◌, ◌≤◌, inl, inr, cond, Option, Some, None, IsSomeAnd}
+use Rattle.std.proofs.Common.{is_lt, IsPermutation, IsSorted, count_by, arith}
+use Rattle.std.proofs.lemmas.Bool.{cases_Bool, cases_lt}
 use Rattle.std.proofs.lemmas.Bool.Decides.{nat_tests}
-use Rattle.std.proofs.lemmas.List.Elements.{filter_passes}
-use Rattle.std.proofs.lemmas.List.Kept.{AllPairs-filter}
+use Rattle.std.proofs.lemmas.List.{take_all}
 use Rattle.std.proofs.lemmas.List.Sorted.{sum_by-IsPermutation}
-use Rattle.std.proofs.lemmas.List.Sums.{count_by_more_yes, length-filter, sum_by-take-le}
+use Rattle.std.proofs.lemmas.List.Sums.{count_by_more_no, count_by_more_yes, sum_by-take-le}
 use Rattle.std.proofs.lemmas.Grind.{common_steps}
-use Rattle.std.specs.List.{IsAllAdjacentAnswer}
+use Rattle.std.specs.List.Sorted.{IsPartitionedBy, IsPartitionPoint}
 use Rattle.normalizer_tables.specs.Pairs.{Pair, is_before, AreRising}
-use Rattle.normalizer_tables.proofs.composites.PairLemmas.{AreRising-decides, AreRising_from_adjacent}
+use Rattle.normalizer_tables.proofs.composites.PairLemmas.{AreRising_from_adjacent}
 use Rattle.normalizer_records.specs.RecordValue.{RecordValue}
 use Rattle.normalizer_records.specs.Meaning.{pairs_of}
 use Rattle.normalizer_records.specs.AtFault.{IsTwice}
@@ -35,12 +34,75 @@ counts_two test ps k d within first second = omega (
   sum_by-take-le (λ p. cond (test p) 1 0) ps (k + 1 + 1),
 )
 
-other : (p q : Pair) (first second : ℕ) → is_before p q.0 q.1 ≡ true → same_as first second p ≡ true → same_as first second q ≡ false
-unfolding is_before
-other p q first second before same = grind (arith, nat_tests)
+-- of sorted pairs, none comes before an earlier one
+module _ (ps : List Pair) (sorted : IsSorted by_second_and_first ps) where
+  not_before : (i n : ℕ) (d : Pair) → i + n < length ps → is_before (get_or ps (i + n) d) (get_or ps i d).0 (get_or ps i d).1 ≡ false
+  unfolding is_before
+  not_before i zero d within = grind (arith, nat_tests)
+  not_before i (suc n) d within =
+      let earlier = not_before i n d (omega arith) in
+      let step = sorted (i + n) d (omega arith) (omega arith) in
+      let same : i + suc n ≡ i + n + 1 = omega arith in
+      rw same (grind (arith, nat_tests, common_steps))
 
-any_pair : Pair
-any_pair = (0, 0, 0)
+  pub parted : (p : Pair) → IsPartitionedBy (λ q. is_before q p.0 p.1) ps
+  unfolding is_before
+  parted p i j d le within before =
+      let n = j - i in
+      let same : i + n ≡ j = omega arith in
+      let later = not_before i n d (omega arith) in
+      grind (arith, nat_tests, same)
+
+  -- the first pair that isn't before p is p, and so is the next one
+  module _ (p : Pair) (i : ℕ) (at : IsPartitionPoint (λ q. is_before q p.0 p.1 ≡ true) (λ q. is_before q p.0 p.1 ≡ false) ps i) where
+    abbrev is_p : Pair → Bool
+    is_p = same_as p.1 p.0
+
+    pub two : (d : Pair) → i + 1 < length ps → is_before p (get_or ps (i + 1) d).0 (get_or ps (i + 1) d).1 ≡ false → IsTwice ps p
+    unfolding is_before
+    two d within stays =
+        let here = at.1 i d (omega arith) (omega arith) in
+        let next = at.1 (i + 1) d (omega arith) within in
+        let step = sorted i d (omega arith) within in
+        let second : is_p (get_or ps (i + 1) d) ≡ true = grind (arith, nat_tests) in
+        let first : is_p (get_or ps i d) ≡ true = grind (arith, nat_tests, common_steps) in
+        counts_two is_p ps i d within first second
+
+    -- at most one pair is p, if the one behind isn't
+    few : ((d : Pair) → i + 1 < length ps → is_before p (get_or ps (i + 1) d).0 (get_or ps (i + 1) d).1 ≡ true) → (k : ℕ) → k ≤ length ps →
+        (k ≤ i → count_by is_p (take k ps) ≡ 0) × (count_by is_p (take k ps) ≤ 1)
+    unfolding is_before
+    few beyond zero within = (λ le. refl, omega arith)
+    few beyond (suc k) within =
+        let so_far = few beyond k (omega arith) in
+        let step : suc k ≡ k + 1 = omega arith in
+        let many = so_far.1 in
+        elim (cases_Bool (is_p (get_or ps k p))) [
+          | inr other ↦ let same = count_by_more_no is_p ps k p (omega arith) other in (λ le. rw step (same ∙ so_far.0 (omega arith)), rw step (omega arith))
+          | inl it ↦
+              let more = count_by_more_yes is_p ps k p (omega arith) it in
+              let low : i ≤ k = elim (cases_lt k i) [
+                | inl below ↦ let before = at.0 k p (omega arith) below in absurd (grind (arith, nat_tests))
+                | inr above ↦ above
+              ] in
+              let high : k ≤ i = elim (cases_lt i k) [
+                | inl past ↦
+                    let n = k - (i + 1) in
+                    let same : i + 1 + n ≡ k = omega arith in
+                    let later = not_before (i + 1) n p (omega arith) in
+                    let next = beyond p (omega arith) in
+                    absurd (grind (arith, nat_tests, same))
+                | inr within ↦ within
+              ] in
+              let none = so_far.0 high in
+              (λ le. absurd (omega arith), rw step (omega arith))
+        ]
+
+    pub not_two : ((d : Pair) → i + 1 < length ps → is_before p (get_or ps (i + 1) d).0 (get_or ps (i + 1) d).1 ≡ true) → ¬ IsTwice ps p
+    not_two beyond twice =
+        let most = (few beyond (length ps) (omega arith)).1 in
+        let all = ap (count_by is_p) (take_all (length ps) ps (omega arith)) in
+        absurd (omega arith)
 
 is_itself : (p : Pair) → same_as p.1 p.0 p ≡ true
 is_itself p = grind (arith, nat_tests)
@@ -49,20 +111,6 @@ is_the_other : (p q : Pair) → p.0 ≡ q.0 → p.1 ≡ q.1 → same_as p.1 p.0 
 is_the_other p q second first = grind (arith, nat_tests)
 
 module _ (records : List RecordValue) (ps : List Pair) (moved : IsPermutation (pairs_of records) ps) where
-  -- of two that are the same pair none comes before the other
-  pub HasPairFault-not_rising : HasPairFault records → AreRising ps → ⊥
-  unfolding HasPairFault
-  HasPairFault-not_rising h rising =
-      let test = same_as h.0 h.1 in
-      let kept = filter test ps in
-      let passes = filter_passes test ps in
-      let same = sum_by-IsPermutation (λ p. cond (test p) 1 0) (pairs_of records) ps moved in
-      let twice = h.2 in
-      let both : 1 < length kept = omega (arith, length-filter test ps) in
-      let before = AllPairs-filter (λ p q. is_before p q.0 q.1 ≡ true) test ps rising 0 1 any_pair (omega arith) both in
-      let apart = other (get_or kept 0 any_pair) (get_or kept 1 any_pair) h.0 h.1 before (passes 0 any_pair (omega arith)) in
-      true≢false (sym (passes 1 any_pair both) ∙ apart)
-
   -- sorted pairs have each pair as often
   pub twice_sorted : (o : Option Pair) → IsSomeAnd o (IsTwice ps) ↔ IsSomeAnd o (IsTwice (pairs_of records))
   twice_sorted None = (λ h. h, λ h. h)
@@ -90,7 +138,3 @@ module _ (records : List RecordValue) (ps : List Pair) (moved : IsPermutation (p
           | inl goes ↦ sym goes
           | inr stays ↦ absurd (none (neighbours k d within stays))
         ]
-
-    pub decides : (b : Bool) → IsAllAdjacentAnswer (λ p q b. b ≡ is_before p q.0 q.1) ps b → IsTrue (not b) ↔ HasPairFault records
-    decides true h = (λ passes. cc, λ fault. absurd (HasPairFault-not_rising fault ((AreRising-decides ps true h).0 refl)))
-    decides false h = (λ _. neighbours h.0 any_pair h.1 (sym (h.2 any_pair)), λ _. refl)

@@ -4,7 +4,7 @@ use Rattle.std.proofs.Common.{Contains, IsSomeAnd, IsTrue, Option, Some, None, i
 use Rattle.std.specs.List.{cons_option, list_any}
 use Rattle.std.proofs.lemmas.Bool.{cases_Bool, true≢false}
 use Rattle.std.proofs.lemmas.Bool.Decides.{Decides-or, nat_tests}
-use Rattle.std.proofs.lemmas.List.Elements.{All-contains, Contains-append_right}
+use Rattle.std.proofs.lemmas.List.Elements.{All-contains}
 use Rattle.std.proofs.lemmas.List.Folds.{Any-from_list_any, list_any-from_Any}
 use Rattle.normalizer_tables.specs.Pairs.{Pair}
 use Rattle.normalizer_records.specs.declared.at_fault.RecordAtFault.{RecordAtFault}

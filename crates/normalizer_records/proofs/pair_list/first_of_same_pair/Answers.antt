@@ -1,24 +1,12 @@
-use Rattle.std.proofs.Common.{rules, ap, inl, not, sym, subst, ◌∙◌, IsSomeAnd}
-use Rattle.std.proofs.lemmas.Bool.{true≢false}
-use Rattle.std.proofs.lemmas.List.Elements.{Contains-get_or}
+use Rattle.std.proofs.Common.{rules, sym, subst, IsSomeAnd}
 use Rattle.normalizer_records.specs.declared.records.BuildError.TheVariants.{Pair}
 use Rattle.normalizer_records.specs.RecordValue.{RecordValue}
 use Rattle.normalizer_records.specs.Meaning.{pair_of_record}
 use Rattle.normalizer_records.specs.AtFault.{IsCharacterOfFirst, IsFirstShowing, IsTwice, MapperShowsFault, ShowsFault}
 use Rattle.normalizer_records.proofs.record_faults.FirstLemmas.{alike, by_test}
-use Rattle.normalizer_records.proofs.record_faults.PairFaultLemmas.{decides, twice_sorted}
-use Rattle.normalizer_records.proofs.record_faults.ShownLemmas.{IsShown-pair, showing}
+use Rattle.normalizer_records.proofs.record_faults.PairFaultLemmas.{twice_sorted}
+use Rattle.normalizer_records.proofs.record_faults.ShownLemmas.{showing}
 use Rattle.normalizer_records.proofs.pair_list.first_of_same_pair.Goals as goal
-
-pub returns-then-are_rising : goal.returns-then-are_rising
-unfolding IsFirstShowing MapperShowsFault
-returns-then-are_rising c = λ uts46.
-    let records = c.args.records.now in
-    let rise = decides records c.args.pairs.now c.requires.same c.requires.sorted _ c.are_rising.ensures in (
-      λ k d lt shows. true≢false (sym (rise.1 ((IsShown-pair records uts46).1 (inl (_, Contains-get_or records k d lt, shows))))
-          ∙ ap not c.if-are_rising.true),
-      λ k d lt never. never,
-    )
 
 pub returns : goal.returns
 unfolding IsCharacterOfFirst ShowsFault MapperShowsFault
