@@ -1,16 +1,8 @@
 //! What the laws of the normal forms require, and users that require less, holds of data that a constructor accepts.
-ghost use Rattle.std.specs.Prelude.{◌≡◌, ℕ, List, false, All, [], None};
-ghost use Rattle.std.specs.Char.{IsScalar};
+ghost use Rattle.std.specs.Prelude.{◌≡◌, List, false, All, [], None};
 ghost use Rattle.normal_forms.specs.declared.Form.{Form};
 ghost use Rattle.normal_forms.specs.declared.Form.TheVariants.{Decomposing};
-ghost use Rattle.normal_forms.specs.Hypotheses.{HasScalarResults};
-ghost use Rattle.normalizer_check.specs.RequiredConditions.{
-  AreAcceptedPairs,
-  IsAccepted,
-  SuitsMapper,
-  SuitsTexts,
-  class_conditions,
-};
+ghost use Rattle.normalizer_check.specs.RequiredConditions.{AreAcceptedPairs, IsAccepted, SuitsMapper, SuitsTexts, class_conditions};
 ghost use Rattle.normalizer_tables.specs.Characters.{Characters, characters_from};
 ghost use Rattle.normalizer_tables.specs.conditions.Conditions.{IsMet};
 ghost use Rattle.normalizer_tables.specs.Data.{Decompositions, Lists};
@@ -19,10 +11,9 @@ ghost use Rattle.normalizer_tables.specs.declared.characters.IgnoredCharacters.T
 ghost use Rattle.normalizer_tables.specs.conditions.Loaded.{characters_loaded, classes_loaded, pairs_loaded};
 ghost use Rattle.normalizer_tables.specs.conditions.NfdData.{IsSoundNfdData, nfd_bounds};
 ghost use Rattle.normalizer_tables.specs.conditions.PairConditions.{AreSoundPairs};
-ghost use Rattle.normalizer_tables.specs.Pairs.{Pair, pair_of};
+ghost use Rattle.normalizer_tables.specs.Pairs.{Pair};
 ghost use Rattle.normalizer_tables.specs.declared.condition.Bounds.{Bounds};
-ghost use Rattle.normalizer_tables.specs.conditions.SoundData.{IsSoundData};
-ghost use Rattle.normalizer_tables.specs.Readings.{reading_by, reading_of};
+ghost use Rattle.normalizer_tables.specs.Readings.{reading_by};
 ghost use Rattle.normalizer_tables.specs.Passthrough.{IsPassthroughBelow};
 ghost use Rattle.normalizer_tables.specs.declared.condition.Condition.TheVariants as condition;
 
@@ -43,25 +34,11 @@ pub fn accepted_data_suit_mappers()
         (i : IgnoredCharacters) → SuitsMapper (reading_by s i pairs) }
 {}
 
-/// Accepted data are sound: the laws of lists apply to them.
-pub fn accepted_data_are_sound()
-    ensures accepted { (s : Characters) (b : Bounds) → IsAccepted s b → IsSoundData s b }
-    ensures handed_in { (decompositions : Decompositions) (tables : Lists) → IsSoundNfdData decompositions tables →
-        IsSoundData (characters_from decompositions tables None) nfd_bounds }
-{}
-
 /// A loop may pass on the characters of accepted data below the bound of decomposing unread: conditions 7 and 10.
 pub fn low_characters_are_passthrough()
     ensures accepted { (s : Characters) (b : Bounds) → IsAccepted s b → IsPassthroughBelow s b.decomposition }
     ensures handed_in { (decompositions : Decompositions) (tables : Lists) → IsSoundNfdData decompositions tables →
         IsPassthroughBelow (characters_from decompositions tables None) nfd_bounds.decomposition }
-{}
-
-/// What characters compose to are characters if the pairs hold characters alone; Hangul syllables are characters.
-#[tactic(auto, using(crate::proofs::conditions::AcceptedLaws::scalar_results))]
-pub fn results_are_characters()
-    ensures { (s : Characters) (ignored : List ℕ) (pairs : List Pair) → All (λ p. IsScalar p.2) pairs →
-        HasScalarResults (reading_of s ignored (pair_of pairs)) }
 {}
 
 /// What is required for classes alone is part of what is required of whole data: conditions 4, 5 and 7.
