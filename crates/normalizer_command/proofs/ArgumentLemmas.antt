@@ -135,8 +135,8 @@ mode_is f false mode none other value strict not_strict = subst (IsMode (one_of 
 -- where no command is requested
 pub without_command : (rows : List Row) (r : Request) → (flag_of rows ≢ Some (codes "true")) → HasKnownWords rows → ((command : Command) (names : List (List ℕ)) → Asks rows command names → ⊥)
     → PreparesTo (word_of rows) (first_of (codes "data") rows) (files_of rows) r → Requests rows r
-without_command rows (Prepare request) version known nothing p = (version, known, p.0, p.1)
-without_command rows (Unclear reason) version known nothing p = ((λ _. version), inr (nothing, λ name _ asks. p name asks))
+without_command rows (Prepare directory) version known nothing p = (version, known, p.0, p.1)
+without_command rows (Unclear reason) version known nothing p = ((λ _. version), inr (nothing, λ _ asks. p asks))
 without_command rows (Files request) version known nothing p = absurd p
 without_command rows (Version directory) version known nothing p = absurd p
 

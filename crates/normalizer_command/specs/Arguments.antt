@@ -146,15 +146,14 @@ or_input (name ∷ names) = name ∷ names
 abbrev pub flag_of : List Row → Option (List ℕ)
 flag_of rows = one_of (codes "version") rows
 
--- a word and the names after it request prepared data, in a file of this name
-abbrev pub Prepares : (word : List ℕ) (names : List (List ℕ)) (name : List ℕ) → Type 0
-Prepares word names name = IsTrue (is_prepare word) × (names ≡ name ∷ [])
+-- a word without names after it requests prepared data
+abbrev pub Prepares : (word : List ℕ) (names : List (List ℕ)) → Type 0
+Prepares word names = IsTrue (is_prepare word) × (names ≡ [])
 
 -- prepared data are requested, or nothing is
 abbrev pub PreparesTo : (word : List ℕ) (directory : Option (List ℕ)) (names : List (List ℕ)) → Request → Type 0
-PreparesTo word directory names (Prepare request) =
-    Prepares word names request.name.now × (option_copied request.directory ≡ directory)
-PreparesTo word directory names (Unclear reason) = (name : List ℕ) → Prepares word names name → ⊥
+PreparesTo word directory names (Prepare named) = Prepares word names × (option_copied named ≡ directory)
+PreparesTo word directory names (Unclear reason) = Prepares word names → ⊥
 PreparesTo word directory names other = ⊥
 
 abbrev pub NeedsData : Command → Type 0
@@ -171,9 +170,9 @@ Requests rows (Files request) = (flag_of rows ≢ Some (codes "true"))
     × (map (λ name. name.now) request.names.items ≡ or_input names))
     × ((flags : Flags) × AreFlags rows flags × (listing_of (word_of rows) flags ≡ Some request.listing))
     × (option_copied request.directory ≡ first_of (codes "data") rows)
-Requests rows (Prepare request) = (flag_of rows ≢ Some (codes "true")) × HasKnownWords rows
-    × Prepares (word_of rows) (files_of rows) request.name.now × (option_copied request.directory ≡ first_of (codes "data") rows)
+Requests rows (Prepare directory) = (flag_of rows ≢ Some (codes "true")) × HasKnownWords rows
+    × Prepares (word_of rows) (files_of rows) × (option_copied directory ≡ first_of (codes "data") rows)
 Requests rows (Unclear reason) = (HasKnownWords rows → flag_of rows ≢ Some (codes "true"))
     × (((flags : Flags) × AreFlags rows flags × (listing_of (word_of rows) flags ≡ None))
     ⊎ (((command : Command) (names : List (List ℕ)) → Asks rows command names → ⊥)
-    × ((name : List ℕ) → HasKnownWords rows → Prepares (word_of rows) (files_of rows) name → ⊥)))
+    × (HasKnownWords rows → Prepares (word_of rows) (files_of rows) → ⊥)))

@@ -159,8 +159,8 @@ or isn't well-formed; 2 if a file failed.\n\
 \n\
 Examples:\n  \
 uninorm nfc old.txt >new.txt\n  \
-git ls-files -z | xargs -0 uninorm check nfc\n  \
-find . -name '*.txt' -exec uninorm check -z NFC {} + | xargs -0 ls -l\n  \
+git ls-files -z | xargs -0r uninorm check nfc\n  \
+find . -name '*.txt' -exec uninorm check -z NFC {} + | xargs -0r ls -l\n  \
 uninorm where nfc --strict notes.txt";
 
 /// The message if the command is unknown.
@@ -178,8 +178,8 @@ const NO_FORM: &str = "a form is missing: nfc, nfd, nfkc or nfkd";
 const NO_LISTING: &str =
     "-q, -l and -z are for check, where, validate and well-formed; -z is for names, as check or -l lists";
 
-/// The message if prepared data are to be written to no file, or to several.
-const NOT_ONE_FILE: &str = "prepare writes one file: name it, or - for standard output";
+/// The message if prepared data are requested of files.
+const NO_FILE: &str = "prepare takes no file: it writes the prepared data to standard output";
 
 /// The message if the encoding is none of those that are known.
 const NO_ENCODING: &str = "the encoding is none of utf-8, utf-16le and utf-16be";
@@ -191,8 +191,8 @@ pub enum Request<'a> {
     Files(FileRequest<'a>),
     /// The versions of the program and of the data of the directory or file, if one is named.
     Version(Option<&'a str>),
-    /// Prepared data.
-    Prepare(PrepareRequest<'a>),
+    /// The prepared data of the directory, if one is named.
+    Prepare(Option<&'a str>),
     /// Nothing, for this reason.
     Unclear(&'static str),
 }
@@ -217,15 +217,6 @@ impl FileRequest<'_> {
     {
         !matches!(&self.command, FileCommand::WellFormed(_))
     }
-}
-
-/// Prepared data, to be written to a file.
-#[derive(Drop)]
-pub struct PrepareRequest<'a> {
-    /// The directory of Unicode's files, if one is named.
-    pub directory: Option<&'a str>,
-    /// The name of the file; `-` is standard output.
-    pub name: &'a str,
 }
 
 /// The flags of what is listed.
@@ -287,7 +278,7 @@ fn request_of<'a>(alloc: Global, matches: &ArgMatches<'a>) -> Result<Request<'a>
     }
 }
 
-/// Prepared data, to be written to the one file that is named, or else nothing.
+/// Prepared data, if no file is named, or else nothing.
 fn request_without_command<'a>(
     word: &str,
     directory: Option<&'a str>,
@@ -299,9 +290,10 @@ fn request_without_command<'a>(
     if !is_same(word, "prepare") {
         return Request::Unclear(reason);
     }
-    match names {
-        [name] => Request::Prepare(PrepareRequest { directory, name }),
-        _ => Request::Unclear(NOT_ONE_FILE),
+    if names.is_empty() {
+        Request::Prepare(directory)
+    } else {
+        Request::Unclear(NO_FILE)
     }
 }
 

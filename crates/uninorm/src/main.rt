@@ -7,7 +7,7 @@ mod standard;
 mod words;
 
 use data::directory;
-use normalizer_command::arguments::{FileRequest, PrepareRequest, Request, parsed};
+use normalizer_command::arguments::{FileRequest, Request, parsed};
 use normalizer_command::devices::Reports;
 use normalizer_command::fault::Fault;
 use normalizer_command::message::Message;
@@ -19,7 +19,6 @@ use standard::{ErrorStream, Named, Printed};
 use std::alloc::AllocError;
 use std::cell::Cell;
 use std::fmt::Display;
-use std::fs;
 use std::process::ExitCode;
 use words::arguments;
 
@@ -46,7 +45,7 @@ fn by_words(rt: &HostRuntime, words: &Vec<String>, unclear: &[String]) -> u8 {
     match parsed(rt.alloc(), words) {
         Ok(Request::Files(request)) => over_files(rt, &request, unclear),
         Ok(Request::Version(directory)) => version(rt, directory),
-        Ok(Request::Prepare(request)) => prepared(rt, &request),
+        Ok(Request::Prepare(directory)) => prepared(rt, directory),
         Ok(Request::Unclear(reason)) => failed(rt, reason),
         Err(error) => {
             let _ = error.print(rt);
@@ -104,45 +103,29 @@ fn version_of(rt: &HostRuntime, directory: &str) -> u8 {
     if closed.get() { CLOSED } else { status }
 }
 
-/// Writes the prepared data of a directory to a file.
-fn prepared(rt: &HostRuntime, request: &PrepareRequest<'_>) -> u8 {
-    match directory(rt, request.directory) {
-        Ok(directory) => prepared_to(rt, directory.as_str(), request.name),
+/// Writes the prepared data of a directory to standard output.
+fn prepared(rt: &HostRuntime, named: Option<&str>) -> u8 {
+    match directory(rt, named) {
+        Ok(directory) => prepared_of(rt, directory.as_str()),
         Err(reason) => failed(rt, reason),
     }
 }
 
-fn prepared_to(rt: &HostRuntime, directory: &str, name: &str) -> u8 {
+fn prepared_of(rt: &HostRuntime, directory: &str) -> u8 {
     let closed = Cell::new(false);
     let mut reports = ErrorStream::new(rt, &closed);
     let Some(file) = prepare(rt.alloc(), directory, &Named::new(rt, &[]), &mut reports) else {
         return FAILED;
     };
-    let Err(fault) = write_file(rt, name, &file, &closed) else {
+    if write_all(&mut Printed::new(rt, &closed), &file).is_ok() {
         return 0;
-    };
+    }
     reports.report(Message {
         directory: None,
-        name,
-        fault,
+        name: "",
+        fault: Fault::Write,
     });
     if closed.get() { CLOSED } else { FAILED }
-}
-
-/// Writes a file, or standard output if it is `-`.
-fn write_file(
-    rt: &HostRuntime,
-    name: &str,
-    bytes: &[u8],
-    closed: &Cell<bool>,
-) -> Result<(), Fault> {
-    if name == "-" {
-        return Ok(write_all(&mut Printed::new(rt, closed), bytes)?);
-    }
-    match fs::write(rt, name, bytes) {
-        Ok(()) => Ok(()),
-        Err(error) => Err(Fault::Open(error.kind())),
-    }
 }
 
 fn failed<R: Display + Drop>(rt: &HostRuntime, reason: R) -> u8 {

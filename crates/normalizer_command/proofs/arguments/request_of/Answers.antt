@@ -15,7 +15,7 @@ returns-in-Some c =
       (λ known. absurd (c.in-Some.ensures.unknown (known_by _ _ _ _ (sym word) (sym encoding) known))),
       inr (
         (λ command names asked. c.in-Some.ensures.unknown (known_by _ _ _ _ (sym word) (sym encoding) (asks_by_known_words _ _ _ asked.0 command names asked.2))),
-        (λ name known prepares. c.in-Some.ensures.unknown (known_by _ _ _ _ (sym word) (sym encoding) known)),
+        (λ known prepares. c.in-Some.ensures.unknown (known_by _ _ _ _ (sym word) (sym encoding) known)),
       ),
     )
 
