@@ -1,82 +1,152 @@
--- The reply of the mapper, by mappings that make the same, and the list of ill-formed sequences.
-use Rattle.std.proofs.Common.{◌≡◌, ℕ, Bool, true, false, List, [], ◌∷◌, Option, refl, ap, subst, ◌∙◌}
-use Rattle.std.specs.Io.KnownBytes.{Appends}
+-- The reply of the mapper, by mappings that make the same.
+use Rattle.std.proofs.Common.{◌≡◌, ◌≢◌, ℕ, Bool, true, false, List, [], ◌∷◌, Option, Some, None, length, arith, refl, sym, ap, ◌∙◌}
+use Rattle.std.proofs.Math.Seq.{take-nil}
+use Rattle.std.specs.Prelude.{is_some, if◌then◌else◌, take}
+use Rattle.std.specs.Option.{option_to_list}
 use Rattle.icu_normalizer.specs.Uts46.{MapperData}
 use Rattle.normalizer_io.specs.Transfer.{AppendsFront}
+use Rattle.normalizer_streams.specs.declared.ill_formed.Ending.{Ending}
 use Rattle.normalizer_streams.specs.declared.ill_formed.ErrorMode.{ErrorMode}
 use Rattle.normalizer_streams.specs.declared.lines.Replied.{Replied}
-use Rattle.normalizer_streams.specs.declared.scheme.EncodingScheme.{EncodingScheme}
-use Rattle.normalizer_streams.specs.Replies.{is_nothing, IsListCutOff, IsListed, IsReplyWritten}
-use Rattle.normalizer_streams.specs.Schemes.{decoded_by, encoded_by}
+use Rattle.normalizer_streams.specs.IllFormed.{decoded}
+use Rattle.normalizer_streams.specs.Replies.{is_nothing, IsReplyWritten}
 use Rattle.normalizer_streams.specs.Streams.{IsFormCutOff}
-use Rattle.normalizer_command.specs.declared.mapping.MapperTask.{MapperTask}
-use Rattle.normalizer_command.specs.declared.mapping.MapperTask.TheVariants.{Map, Validate}
+use Rattle.normalizer_command.specs.declared.command.Listing.{Listing}
+use Rattle.normalizer_command.specs.declared.command.Listing.TheVariants.{Places, Names, Nothing}
+use Rattle.normalizer_command.specs.declared.command.MapperTask.{MapperTask}
+use Rattle.normalizer_command.specs.declared.command.MapperTask.TheVariants.{Map, Validate}
 use Rattle.normalizer_command.specs.declared.reply.Answer.{Answer}
-use Rattle.normalizer_command.specs.declared.reply.Answer.TheVariants.{Done, No}
-use Rattle.normalizer_command.specs.Lines.{lines_of}
+use Rattle.normalizer_command.specs.declared.reply.Answer.TheVariants.{No}
+use Rattle.normalizer_command.specs.Lines.{invalid_lines, lines_of}
+use Rattle.normalizer_command.specs.Listings.{listed}
 use Rattle.normalizer_command.specs.Making.{Mapping, Maps, mapping_of}
-use Rattle.normalizer_command.specs.Replies.{answer_of, lines_written, yes_if_nothing}
-use Rattle.normalizer_command.specs.Works.{OfMapper, WellFormed}
-use Rattle.normalizer_command.specs.Written.{IsCutOff, IsWritten}
+use Rattle.normalizer_command.specs.Replies.{lines_answered, lines_written, validity}
+use Rattle.normalizer_command.specs.Works.{OfMapper}
+use Rattle.normalizer_command.specs.Written.{is_known_first, IsCutOff, IsWritten, Replies}
 use Rattle.normalizer_command.specs.inner.EachLine.{number_before, replies_to, reply_after}
+use Rattle.normalizer_command.specs.inner.Known.{lines_answered_by}
 use Rattle.normalizer_command.proofs.LineLemmas.{invalid_lines-by, mapped_lines-by, map-replies, validate-replies}
 
 -- what is written of the lines of a text after others
-pub replies-after : (task : MapperTask) (s : EncodingScheme) (h : MapperData) (name : List ℕ) (n : ℕ) (text : List ℕ)
-    → replies_to task s (mapping_of h) name (number_before task n) (lines_of text) ≡ reply_after task s h name n text
-replies-after Map s h name n text = map-replies s (mapping_of h) name (lines_of text)
-replies-after Validate s h name n text = validate-replies s (mapping_of h) name n (lines_of text)
+pub replies-after : (task : MapperTask) (h : MapperData) (name : List ℕ) (n : ℕ) (text : List ℕ)
+    → replies_to task (mapping_of h) name (number_before task n) (lines_of text) ≡ reply_after task h name n text
+replies-after Map h name n text = map-replies (mapping_of h) name (lines_of text)
+replies-after (Validate l) h name n text = validate-replies (mapping_of h) name l n (lines_of text)
 
--- what is written of each line is what is to be
-written-by : (task : MapperTask) (s : EncodingScheme) (h : MapperData) (m : Mapping) → Maps h m → (name text : List ℕ) → reply_after task s h name 0 text ≡ lines_written task s m name (lines_of text)
-written-by Map s h m maps name text = ap (encoded_by s) (mapped_lines-by h m maps (lines_of text))
-written-by Validate s h m maps name text = invalid_lines-by h m maps name 1 (lines_of text)
+-- something is never nothing
+nothing-or : (xs : List ℕ) → (if is_nothing xs then [] else xs) ≡ xs
+nothing-or [] = refl
+nothing-or (x ∷ xs) = refl
 
-pub yes-nothing : (output : List ℕ) → is_nothing output ≡ true → yes_if_nothing output ≡ Done
-yes-nothing [] is = refl
-yes-nothing (b ∷ output) is = absurd (nothing is)
-  where
-    nothing : false ≡ true → ⊥
-    nothing e = cc
+not-places : (l : Listing) → l ≢ Places → (invalid name : List ℕ) → listed l name invalid ≡ listed l name []
+not-places Places other invalid name = absurd (other refl)
+not-places (Names end) other invalid name = refl
+not-places Nothing other invalid name = refl
 
-pub no-something : (output : List ℕ) → is_nothing output ≡ false → yes_if_nothing output ≡ No
-no-something [] is = absurd (something is)
-  where
-    something : true ≡ false → ⊥
-    something e = cc
-no-something (b ∷ output) is = refl
+pub known-names : (l : Listing) → l ≢ Places → (mode : ErrorMode) (m : Mapping) → is_known_first (OfMapper (Validate l) mode m) ≡ true
+known-names Places other mode m = absurd (other refl)
+known-names (Names end) other mode m = refl
+known-names Nothing other mode m = refl
 
-module _ (task : MapperTask) (s : EncodingScheme) (mode : ErrorMode) (h : MapperData) (m : Mapping) (maps : Maps h m) (name : List ℕ) (left t u : Option (List ℕ)) where
-  pub IsWritten-mapper : (replied : Replied) (answer : Answer) → IsReplyWritten s mode (λ bytes. reply_after task s h name 0 (decoded_by s bytes)) left t u replied
-      → ((output : List ℕ) → replied.is_silent ≡ is_nothing output → answer ≡ answer_of task s replied.ending output) → IsWritten (OfMapper task s mode m) name left t u answer
-  IsWritten-mapper replied answer r answers =
-      let same = written-by task s h m maps name (decoded_by s r.text) in (
-        lines_written task s m name (lines_of (decoded_by s r.text)),
-        record {
-          input = r.input;
-          whole = r.whole;
-          reply = record { text = r.text; ending = replied.ending; ends = r.ends; written = refl; answered = answers _ (r.silent ∙ ap is_nothing same) };
-        },
-        subst (λ x. Appends t u x) same r.output,
-      )
+no-invalid : (l : Listing) → l ≢ Places → (end : Ending) → validity l false end ≡ No
+no-invalid Places other end = absurd (other refl)
+no-invalid (Names e) other end = refl
+no-invalid Nothing other end = refl
 
-  pub IsCutOff-mapper : IsFormCutOff s mode (λ bytes. reply_after task s h name 0 (decoded_by s bytes)) left t u → IsCutOff (OfMapper task s mode m) name left t u
-  IsCutOff-mapper r =
-      let same = written-by task s h m maps name (decoded_by s r.text) in
-      let output = lines_written task s m name (lines_of (decoded_by s r.text)) in (
-        answer_of task s r.ending output,
-        output,
-        record {
-          input = r.input;
-          whole = r.whole;
-          reply = record { text = r.text; ending = r.ending; ends = r.ends; written = refl; answered = refl };
-        },
-        subst (λ x. AppendsFront t u x) same r.output,
-      )
+module _ (task : MapperTask) (mode : ErrorMode) (h : MapperData) (m : Mapping) (maps : Maps h m) (name : List ℕ) (left : Option (List ℕ)) where
+  -- what is written of each line is what is to be, while a source is read
+  written-by : (known : is_known_first (OfMapper task mode m) ≡ false) (text : List ℕ) → reply_after task h name 0 text ≡ lines_written task m name (lines_of text)
+  written-by known text = by task known
+    where
+      by : (task : MapperTask) → is_known_first (OfMapper task mode m) ≡ false → reply_after task h name 0 text ≡ lines_written task m name (lines_of text)
+      by Map known = mapped_lines-by h m maps (lines_of text)
+      by (Validate Places) known = invalid_lines-by h m maps name 1 (lines_of text) ∙ sym (nothing-or (invalid_lines m name 1 (lines_of text)))
+      by (Validate (Names end)) known = cc
+      by (Validate Nothing) known = cc
 
-module _ (s : EncodingScheme) (name : List ℕ) (left t u : Option (List ℕ)) where
-  pub IsWritten-list : (b : Bool) (answer : Answer) → IsListed s name left t u b → ((output : List ℕ) → b ≡ is_nothing output → answer ≡ yes_if_nothing output) → IsWritten (WellFormed s) name left t u answer
-  IsWritten-list b answer r answers = (_, record { input = r.input; whole = r.whole; reply = (refl, answers _ r.silent) }, r.output)
+  answered-by : (text : List ℕ) (is_silent : Bool) (end : Ending) → is_silent ≡ is_nothing (reply_after task h name 0 text) → lines_answered_by task is_silent end ≡ lines_answered task m name (lines_of text) end
+  answered-by text is_silent end silent = by task silent
+    where
+      by : (task : MapperTask) → is_silent ≡ is_nothing (reply_after task h name 0 text) → lines_answered_by task is_silent end ≡ lines_answered task m name (lines_of text) end
+      by Map silent = refl
+      by (Validate l) silent = ap (λ b. validity l b end) (silent ∙ ap is_nothing (invalid_lines-by h m maps name 1 (lines_of text)))
 
-  pub IsCutOff-list : IsListCutOff s name left t u → IsCutOff (WellFormed s) name left t u
-  IsCutOff-list r = (_, _, record { input = r.input; whole = r.whole; reply = (refl, refl) }, r.output)
+  module _ (known : is_known_first (OfMapper task mode m) ≡ false) (t u : Option (List ℕ)) where
+    pub lines_are_written : (replied : Replied) (answer : Answer) → IsReplyWritten mode (λ bytes. reply_after task h name 0 (decoded bytes)) left t u replied
+        → answer ≡ lines_answered_by task replied.is_silent replied.ending → IsWritten (OfMapper task mode m) name left t u answer
+    lines_are_written replied answer r answers = (
+      reply_after task h name 0 (decoded r.text),
+      record {
+        input = r.input;
+        whole = r.whole;
+        reply = record {
+          text = r.text;
+          ending = replied.ending;
+          ends = r.ends;
+          written = written-by known (decoded r.text);
+          answered = answers ∙ answered-by (decoded r.text) replied.is_silent replied.ending r.silent;
+        };
+      },
+      r.output,
+    )
+
+    pub lines_are_cut : IsFormCutOff mode (λ bytes. reply_after task h name 0 (decoded bytes)) left t u → IsCutOff (OfMapper task mode m) name left t u
+    lines_are_cut r = (
+      lines_answered task m name (lines_of (decoded r.text)) r.ending,
+      reply_after task h name 0 (decoded r.text),
+      record {
+        input = r.input;
+        whole = r.whole;
+        reply = record { text = r.text; ending = r.ending; ends = r.ends; written = written-by known (decoded r.text); answered = refl };
+      },
+      r.output,
+    )
+
+-- ---- lines that are validated up to the first that isn't valid
+
+-- a byte is written of something
+some-byte : (byte : Option ℕ) → is_some byte ≡ true → (xs : List ℕ) → AppendsFront (Some []) (Some (option_to_list byte)) xs → is_nothing xs ≡ false
+some-byte None is xs front = cc
+some-byte (Some b) is [] front = let h : b ∷ [] ≡ take front.0 [] = front.1 in let e : length (b ∷ []) ≡ 0 = ap length h ∙ ap length (take-nil front.0) in absurd (omega (arith, e))
+some-byte (Some b) is (x ∷ xs) front = refl
+
+module _ (l : Listing) (other : l ≢ Places) (mode : ErrorMode) (h : MapperData) (m : Mapping) (maps : Maps h m) (name : List ℕ) (left : Option (List ℕ)) where
+  silent-by : (text : List ℕ) (b : Bool) → b ≡ is_nothing (reply_after (Validate l) h name 0 text) → b ≡ is_nothing (invalid_lines m name 1 (lines_of text))
+  silent-by text b silent = silent ∙ ap is_nothing (invalid_lines-by h m maps name 1 (lines_of text))
+
+  -- a text whose lines are all valid, or aren't
+  pub validated : (t u : Option (List ℕ)) (replied : Replied) → IsReplyWritten mode (λ bytes. reply_after (Validate l) h name 0 (decoded bytes)) left t u replied
+      → (answer : Answer) (output : List ℕ) → answer ≡ validity l replied.is_silent replied.ending → output ≡ (if replied.is_silent then [] else listed l name [])
+      → Replies (OfMapper (Validate l) mode m) name left answer output
+  validated t u replied r answer output answers outputs =
+      let silent = silent-by (decoded r.text) replied.is_silent r.silent in
+      let invalid = invalid_lines m name 1 (lines_of (decoded r.text)) in
+      record {
+        input = r.input;
+        whole = r.whole;
+        reply = record {
+          text = r.text;
+          ending = replied.ending;
+          ends = r.ends;
+          written = outputs ∙ ap (λ b. if b then [] else listed l name []) silent ∙ ap (λ x. if is_nothing invalid then [] else x) (sym (not-places l other invalid name));
+          answered = answers ∙ ap (λ b. validity l b replied.ending) silent;
+        };
+      }
+
+  -- a line isn't valid
+  pub invalidated : (byte : Option ℕ) → is_some byte ≡ true → IsFormCutOff mode (λ bytes. reply_after (Validate l) h name 0 (decoded bytes)) left (Some []) (Some (option_to_list byte))
+      → (output : List ℕ) → output ≡ listed l name [] → Replies (OfMapper (Validate l) mode m) name left No output
+  invalidated byte some r output outputs =
+      let silent = silent-by (decoded r.text) false (sym (some-byte byte some (reply_after (Validate l) h name 0 (decoded r.text)) r.output)) in
+      let invalid = invalid_lines m name 1 (lines_of (decoded r.text)) in
+      record {
+        input = r.input;
+        whole = r.whole;
+        reply = record {
+          text = r.text;
+          ending = r.ending;
+          ends = r.ends;
+          written = outputs ∙ sym (not-places l other invalid name) ∙ ap (λ b. if b then [] else listed l name invalid) silent;
+          answered = sym (no-invalid l other r.ending) ∙ ap (λ b. validity l b r.ending) silent;
+        };
+      }

@@ -10,9 +10,7 @@ use Rattle.icu_normalizer.specs.InputOffence.{IsInputOffence}
 use Rattle.normalizer_streams.specs.declared.ill_formed.ErrorMode.{ErrorMode}
 use Rattle.normalizer_streams.specs.declared.mismatch.Comparison.{Comparison}
 use Rattle.normalizer_streams.specs.declared.mismatch.Comparison.TheVariants.{Normalized, Differs, Stopped}
-use Rattle.normalizer_streams.specs.declared.scheme.EncodingScheme.{EncodingScheme}
 use Rattle.normalizer_streams.specs.Mismatches.{Compares}
-use Rattle.normalizer_streams.specs.Schemes.{encoding_of, units_of}
 
 module _ (d d' : Reading) (f f' : Form) where
   normalized-by : (e : Encoding) → ((x : List ℕ) → normal_form d f x ≡ normal_form d' f' x) → (units : List ℕ) → IsInputNormalized e d f units → IsInputNormalized e d' f' units
@@ -37,16 +35,17 @@ offence-by e d d' f f' same units place found wanted h = record {
   is_wanted = let P : List ℕ → Type 0 = λ z. IsFirst z wanted in subst P (same (decoded_in e (drop place units))) h.is_wanted;
 }
 
-pub compares-by : (s : EncodingScheme) (mode : ErrorMode) (d d' : Reading) (f f' : Form) → ((x : List ℕ) → normal_form d f x ≡ normal_form d' f' x) → (bytes : List ℕ) (c : Comparison)
-    → Compares s mode d f bytes c → Compares s mode d' f' bytes c
-compares-by s mode d d' f f' same bytes Normalized h = normalized-by d d' f f' (encoding_of s) same (units_of s bytes) h
-compares-by s mode d d' f f' same bytes (Differs x) h = (
+pub compares-by : (mode : ErrorMode) (d d' : Reading) (f f' : Form) → ((x : List ℕ) → normal_form d f x ≡ normal_form d' f' x) → (bytes : List ℕ) (c : Comparison)
+    → Compares mode d f bytes c → Compares mode d' f' bytes c
+compares-by mode d d' f f' same bytes Normalized h = normalized-by d d' f f' Encoding.Utf8 same bytes h
+compares-by mode d d' f f' same bytes (Differs x) h = (
   h.0,
   h.1,
   record {
     place = h.2.place;
-    first = offence-by (encoding_of s) d d' f f' same (units_of s h.0) h.2.place x.found x.wanted h.2.first;
+    first = offence-by Encoding.Utf8 d d' f f' same h.0 h.2.place x.found x.wanted h.2.first;
     position = h.2.position;
+    differ = h.2.differ;
   },
 )
-compares-by s mode d d' f f' same bytes (Stopped p) h = (h.0, h.1, normalized-by d d' f f' (encoding_of s) same (units_of s h.0) h.2)
+compares-by mode d d' f f' same bytes (Stopped p) h = (h.0, h.1, normalized-by d d' f f' Encoding.Utf8 same h.0 h.2)

@@ -3,7 +3,7 @@ use Rattle.std.proofs.Common.{◌≡◌, ℕ, ◌+◌, ◌<◌, ◌≤◌, true,
 use Rattle.std.specs.Prelude.{bytes_eq, if◌then◌else◌}
 use Rattle.std.proofs.Math.Seq.{drop-cons}
 use Rattle.std.proofs.Math.ListN.{drop_of_length-le}
-use Rattle.normalizer_command.specs.InMemory.{bytes_in, files_of}
+use Rattle.normalizer_command.specs.InMemory.{bytes_in}
 use Rattle.normalizer_command.specs.declared.memory.NamedFile.{NamedFile}
 
 module _ (files : List NamedFile) (i : ℕ) (name : List ℕ) where
@@ -11,15 +11,15 @@ module _ (files : List NamedFile) (i : ℕ) (name : List ℕ) where
   drop-file d lt = let e : i + 1 ≡ suc i = omega arith in rw e (drop-cons files i d lt)
 
   -- a file has the name, or another one may
-  pub found-file : (d : NamedFile) → i < length files → bytes_eq (get_or files i d).name.now name ≡ true → bytes_in (files_of (drop i files)) name ≡ Some (get_or files i d).bytes.now
+  pub found-file : (d : NamedFile) → i < length files → bytes_eq (get_or files i d).name.now name ≡ true → bytes_in (drop i files) name ≡ Some (get_or files i d).bytes.now
   found-file d lt same =
-      ap (λ fs. bytes_in (files_of fs) name) (drop-file d lt)
-      ∙ ap (λ b. if b then Some (get_or files i d).bytes.now else bytes_in (files_of (drop (i + 1) files)) name) same
+      ap (λ fs. bytes_in fs name) (drop-file d lt)
+      ∙ ap (λ b. if b then Some (get_or files i d).bytes.now else bytes_in (drop (i + 1) files) name) same
 
-  pub other-file : (d : NamedFile) → i < length files → bytes_eq (get_or files i d).name.now name ≡ false → bytes_in (files_of (drop i files)) name ≡ bytes_in (files_of (drop (i + 1) files)) name
+  pub other-file : (d : NamedFile) → i < length files → bytes_eq (get_or files i d).name.now name ≡ false → bytes_in (drop i files) name ≡ bytes_in (drop (i + 1) files) name
   other-file d lt differs =
-      ap (λ fs. bytes_in (files_of fs) name) (drop-file d lt)
-      ∙ ap (λ b. if b then Some (get_or files i d).bytes.now else bytes_in (files_of (drop (i + 1) files)) name) differs
+      ap (λ fs. bytes_in fs name) (drop-file d lt)
+      ∙ ap (λ b. if b then Some (get_or files i d).bytes.now else bytes_in (drop (i + 1) files) name) differs
 
-  pub no-file : length files ≤ i → bytes_in (files_of (drop i files)) name ≡ None
-  no-file le = ap (λ fs. bytes_in (files_of fs) name) (drop_of_length-le files le)
+  pub no-file : length files ≤ i → bytes_in (drop i files) name ≡ None
+  no-file le = ap (λ fs. bytes_in fs name) (drop_of_length-le files le)

@@ -1,12 +1,12 @@
--- What works by prepared data, and why nothing does.
-use Rattle.std.proofs.Common.{◌≡◌, inl, inr, ℕ, List, Result, Ok, Err, IfOk, refl, sym, ap, subst, ◌∙◌}
+-- What works by prepared data.
+use Rattle.std.proofs.Common.{◌≡◌, List, Result, Ok, Err, IfOk, sym, ap, subst}
 use Rattle.icu_normalizer.specs.AnyNormalizers.{made_by}
 use Rattle.icu_normalizer.specs.Building.{Builds}
 use Rattle.icu_normalizer.specs.ByRecords.{packed_form, IsRecordedForm, MapsByRecords}
 use Rattle.icu_normalizer.specs.DataError.{DataError}
 use Rattle.icu_normalizer.specs.ComposingAcceptance.{SuitsComposing}
 use Rattle.icu_normalizer.specs.Held.{AcceptsHeld}
-use Rattle.icu_normalizer.specs.HeldForms.{IsMadeOf, RefusesForm, RefusesMapper}
+use Rattle.icu_normalizer.specs.HeldForms.{IsMadeOf}
 use Rattle.icu_normalizer.specs.Mappers.{mapper_data_of}
 use Rattle.icu_normalizer.specs.declared.uts46.Uts46Mapper.{Uts46Mapper}
 use Rattle.icu_normalizer.specs.NormalForms.{normal_form}
@@ -17,18 +17,9 @@ use Rattle.icu_normalizer.specs.Uts46.{MapperData}
 use Rattle.icu_normalizer.specs.declared.any_normalizer.AnyNormalizer.{AnyNormalizer}
 use Rattle.icu_normalizer.specs.declared.any_normalizer.NormalForm.{NormalForm}
 use Rattle.icu_normalizer.proofs.PackedForms.{packed_form-made, packed_form-recorded, packed-maps}
-use Rattle.normalizer_prepared.specs.Files.{IsFirstFault}
-use Rattle.normalizer_prepared.specs.declared.fault.PreparedError.{PreparedError}
-use Rattle.normalizer_prepared.specs.declared.fault.PreparedError.TheVariants as prepared_error
-use Rattle.normalizer_prepared.proofs.SameFile.{same_data, unread}
 use Rattle.normalizer_command.specs.Making.{making_by, mapping_by, mapping_of, Makes, Maps}
-use Rattle.normalizer_command.specs.declared.worker.Command.{Command}
-use Rattle.normalizer_command.specs.declared.worker.Command.TheVariants as command
 use Rattle.normalizer_command.proofs.MakingLemmas.{makes-ok, maps-recorded}
-use Rattle.normalizer_prepared.specs.Prepared.{IsFileOf}
-use Rattle.normalizer_command.specs.PreparedFiles.{fault_of_data, fault_of_prepared, held_by, making_of, mapper_data_in, IsFaultOfData, IsFaultOfPrepared, LacksMapper, RefusesWork}
-use Rattle.normalizer_command.specs.declared.fault.Fault.{Fault}
-use Rattle.normalizer_command.specs.declared.fault.Fault.TheVariants.{Memory}
+use Rattle.normalizer_command.specs.PreparedFiles.{held_by, making_of, mapper_data_in}
 
 module _ (p : Packed) where
   -- a normalizer that makes the form by data
@@ -77,37 +68,3 @@ module _ (p : Packed) where
       → (records : List RecordValue) (uts46 : List Uts46RecordValue) → Builds records uts46 p → IfOk r (λ m. Maps (mapper_data_of m) (mapping_by records uts46))
   maps-built-ok (Ok m) held records uts46 builds = maps-built records uts46 builds (mapper_data_of m) held.0
   maps-built-ok (Err e) held records uts46 builds = tt
-
--- the file of data that no constructor refuses
-module _ (p : Packed) (bytes : List ℕ) (file : IsFileOf bytes p)
-    (forms_never : (form : NormalForm) (e : DataError) → ¬ RefusesForm form (held_by p) e)
-    (mapper_never : (e : DataError) → ¬ RefusesMapper (Ok (mapper_data_in p)) e) where
-  unrefused : (command : Command) (e : DataError) → ¬ RefusesWork command p e
-  unrefused (command.OfForm task scheme mode form) e h = forms_never form e h
-  unrefused (command.OfMapper task scheme mode) e h = mapper_never e h
-  unrefused (command.WellFormed scheme) e h = h
-
-  right : (e : PreparedError) → IsFirstFault bytes e → e ≡ prepared_error.Memory
-  right prepared_error.Memory h = refl
-  right (prepared_error.Wrong fault offset) h =
-      absurd (unread bytes p file fault h.0 h.1)
-
-  of_data : (command : Command) → ¬ LacksMapper command p → (fault : Fault) → IsFaultOfData command p fault → fault ≡ Memory
-  of_data command suits fault h = elim h [
-    | inl (e, why, is) ↦ elim why [
-      | inl memory ↦ is ∙ ap fault_of_data memory
-      | inr refuses ↦ absurd (unrefused command e refuses)
-    ]
-    | inr (lacks, is) ↦ absurd (suits lacks)
-  ]
-
-  -- a command fails by it only if memory ran out
-  pub memory-only : (command : Command) → ¬ LacksMapper command p → (fault : Fault) → IsFaultOfPrepared bytes command fault → fault ≡ Memory
-  memory-only command suits fault h = elim h [
-    | inl (e, first, is) ↦ is ∙ ap fault_of_prepared (right e first)
-    | inr (q, is_file, why) ↦
-        of_data command suits fault (subst (λ (q : Packed). IsFaultOfData command q fault) (same_data bytes q p is_file file) why)
-  ]
-
-  pub same-file : (q : Packed) → IsFileOf bytes q → q ≡ p
-  same-file q is_file = same_data bytes q p is_file file

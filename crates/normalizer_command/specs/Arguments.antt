@@ -1,178 +1,130 @@
 -- What the words request that the program is started with.
-use Rattle.std.specs.Prelude.{◌≡◌, ◌≢◌, ◌⊎◌, ◌||◌, ℕ, List, [], ◌∷◌, codes, map, Option, Some, None, option_copied, unwrap_or, IfSome}
-use Rattle.std.specs.Prelude.{⊤, IsTrue, Bool, true, false, bytes_eq, if◌then◌else◌}
-use Rattle.std.specs.Str.{str_to_ascii_lowercase}
+use Rattle.std.specs.Prelude.{◌≡◌, ◌≢◌, ◌||◌, not, ℕ, List, [], ◌∷◌, codes, map, Option, Some, None, option_copied, option_map, unwrap_or}
+use Rattle.std.specs.Prelude.{Bool, true, false, bytes_eq, if◌then◌else◌}
+use Rattle.std.specs.Str.{str_eq_ignore_ascii_case}
 use Rattle.clap.specs.Walk.{Row, all_of, first_of, one_of}
 use Rattle.icu_normalizer.specs.declared.any_normalizer.NormalForm.{NormalForm}
 use Rattle.icu_normalizer.specs.declared.any_normalizer.NormalForm.TheVariants.{Nfd, Nfc, Nfkd, Nfkc}
 use Rattle.normalizer_streams.specs.declared.ill_formed.ErrorMode.{ErrorMode}
 use Rattle.normalizer_streams.specs.declared.ill_formed.ErrorMode.TheVariants.{Fatal, Replacement}
-use Rattle.normalizer_streams.specs.declared.scheme.ByteOrder.TheVariants.{Big, Little}
-use Rattle.normalizer_streams.specs.declared.scheme.EncodingScheme.{EncodingScheme}
-use Rattle.normalizer_streams.specs.declared.scheme.EncodingScheme.TheVariants.{Utf8, Utf16}
-use Rattle.normalizer_command.specs.declared.mapping.MapperTask.{MapperTask}
-use Rattle.normalizer_command.specs.declared.mapping.MapperTask.TheVariants.{Map, Validate}
-use Rattle.normalizer_command.specs.declared.reply.Task.{Task}
-use Rattle.normalizer_command.specs.declared.reply.Task.TheVariants.{Write, Check, Locate}
-use Rattle.normalizer_command.specs.declared.worker.Command.{Command}
-use Rattle.normalizer_command.specs.declared.worker.Command.TheVariants.{OfForm, OfMapper, WellFormed}
+use Rattle.normalizer_command.specs.declared.command.Task.TheVariants.{Write, Compare}
+use Rattle.normalizer_command.specs.declared.command.MapperTask.TheVariants.{Map, Validate}
+use Rattle.normalizer_command.specs.declared.command.Command.{Command}
+use Rattle.normalizer_command.specs.declared.command.Command.TheVariants.{OfForm, OfMapper}
+use Rattle.normalizer_command.specs.declared.command.LineEnd.TheVariants.{LineFeed, Nul}
+use Rattle.normalizer_command.specs.declared.command.Listing.{Listing}
+use Rattle.normalizer_command.specs.declared.command.Listing.TheVariants.{Places, Names, Nothing}
 use Rattle.normalizer_command.specs.declared.arguments.Flags.{Flags}
-use Rattle.normalizer_command.specs.declared.listing.LineEnd.TheVariants.{LineFeed, Nul}
-use Rattle.normalizer_command.specs.declared.listing.Listing.{Listing}
-use Rattle.normalizer_command.specs.declared.listing.Listing.TheVariants.{All, Names, Nothing}
 use Rattle.normalizer_command.specs.declared.arguments.Request.{Request}
-use Rattle.normalizer_command.specs.declared.arguments.Request.TheVariants.{Files, Prepare, Version, Unclear}
+use Rattle.normalizer_command.specs.declared.arguments.Request.TheVariants as request
 
--- the word of a form, in any case
-abbrev pub NamesForm : NormalForm → List ℕ → Type 0
-NamesForm Nfc word = str_to_ascii_lowercase word ≡ codes "nfc"
-NamesForm Nfd word = str_to_ascii_lowercase word ≡ codes "nfd"
-NamesForm Nfkc word = str_to_ascii_lowercase word ≡ codes "nfkc"
-NamesForm Nfkd word = str_to_ascii_lowercase word ≡ codes "nfkd"
+-- the form that a word names, in any case
+abbrev pub form_of : (word : List ℕ) → Option NormalForm
+form_of word = if str_eq_ignore_ascii_case word (codes "nfc") then Some Nfc
+    else (if str_eq_ignore_ascii_case word (codes "nfd") then Some Nfd
+    else (if str_eq_ignore_ascii_case word (codes "nfkc") then Some Nfkc
+    else (if str_eq_ignore_ascii_case word (codes "nfkd") then Some Nfkd else None)))
 
--- the word of a task that is followed by that of a form
-abbrev pub NamesTask : Task → List ℕ → Type 0
-NamesTask Write word = ⊥
-NamesTask Check word = word ≡ codes "check"
-NamesTask Locate word = word ≡ codes "where"
+-- ill-formed input is fatal by --strict
+abbrev pub mode_of : Flags → ErrorMode
+mode_of f = if f.strict then Fatal else Replacement
 
--- the word of an encoding scheme (The Unicode Standard, D95 to D97), in any case
-abbrev pub NamesScheme : EncodingScheme → List ℕ → Type 0
-NamesScheme Utf8 word = str_to_ascii_lowercase word ≡ codes "utf-8"
-NamesScheme (Utf16 Little) word = str_to_ascii_lowercase word ≡ codes "utf-16le"
-NamesScheme (Utf16 Big) word = str_to_ascii_lowercase word ≡ codes "utf-16be"
+-- names are listed, with NUL after each by -0; or nothing by -q
+abbrev pub names_by : Flags → Listing
+names_by f = if f.quiet then Nothing else (if f.null then Names Nul else Names LineFeed)
 
--- the word of a task of the mapper
-abbrev pub NamesMapperTask : MapperTask → List ℕ → Type 0
-NamesMapperTask Map word = word ≡ codes "map"
-NamesMapperTask Validate word = word ≡ codes "validate"
+-- places are, or names by -l; -0 is of names alone
+abbrev pub places_by : Flags → Option Listing
+places_by f = if f.quiet || f.names then Some (names_by f) else (if f.null then None else Some Places)
 
--- the encoding scheme is named, or none is and it is UTF-8
-abbrev pub IsScheme : (encoding : Option (List ℕ)) → EncodingScheme → Type 0
-IsScheme None scheme = scheme ≡ Utf8
-IsScheme (Some word) scheme = NamesScheme scheme word
+-- there is no flag of what is listed
+abbrev pub is_plain : Flags → Bool
+is_plain f = not (f.quiet || (f.names || f.null))
 
-abbrev pub is_well_formed : List ℕ → Bool
-is_well_formed word = bytes_eq word (codes "well-formed")
+-- a command over files of these names
+abbrev pub Asked : Type 0
+Asked = Command × List (List ℕ)
 
-abbrev pub is_prepare : List ℕ → Bool
-is_prepare word = bytes_eq word (codes "prepare")
+-- FORM NAMES
+abbrev pub with_form : Listing → ErrorMode → (words : List (List ℕ)) → Option Asked
+with_form l mode [] = None
+with_form l mode (first ∷ names) = option_map (λ form. (OfForm (Compare l) mode form, names)) (form_of first)
 
--- a command that has no form and no mapper
-abbrev pub is_of_text : List ℕ → Bool
-is_of_text word = is_prepare word || is_well_formed word
+-- the same, if something may be listed so
+abbrev pub compared : Option Listing → ErrorMode → (words : List (List ℕ)) → Option Asked
+compared None mode words = None
+compared (Some l) mode words = with_form l mode words
 
--- the word is one of a command
-abbrev pub IsCommandWord : List ℕ → Type 0
-IsCommandWord word = IsTrue (is_of_text word) ⊎ (((task : MapperTask) × NamesMapperTask task word)
-    ⊎ (((task : Task) × NamesTask task word) ⊎ ((form : NormalForm) × NamesForm form word)))
+abbrev pub validated : Option Listing → ErrorMode → (names : List (List ℕ)) → Option Asked
+validated None mode names = None
+validated (Some l) mode names = Some (OfMapper (Validate l) mode, names)
 
--- the words of a command and of an encoding are known, if they are there
-abbrev pub AreKnown : (word encoding : Option (List ℕ)) → Type 0
-AreKnown word encoding = IfSome word IsCommandWord × ((scheme : EncodingScheme) × IsScheme encoding scheme)
+abbrev pub written : Option NormalForm → ErrorMode → (names : List (List ℕ)) → Option Asked
+written None mode names = None
+written (Some form) mode names = Some (OfForm Write mode form, names)
 
--- A word and those after it request a command over named files: FORM NAMES, check FORM NAMES, where FORM NAMES,
--- map NAMES, validate NAMES or well-formed NAMES.
-abbrev pub AsksFor : (word : List ℕ) (after : List (List ℕ)) (encoding : Option (List ℕ)) (mode : ErrorMode) → Command
-    → (names : List (List ℕ)) → Type 0
-AsksFor word after encoding mode (OfMapper task scheme m) names =
-    NamesMapperTask task word × (after ≡ names) × IsScheme encoding scheme × (m ≡ mode)
-AsksFor word after encoding mode (WellFormed scheme) names =
-    IsTrue (is_well_formed word) × (after ≡ names) × IsScheme encoding scheme
-AsksFor word after encoding mode (OfForm Write scheme m form) names =
-    NamesForm form word × (after ≡ names) × IsScheme encoding scheme × (m ≡ mode)
-AsksFor word after encoding mode (OfForm task scheme m form) names = NamesTask task word
-    × ((first : List ℕ) × NamesForm form first × (after ≡ first ∷ names)) × IsScheme encoding scheme × (m ≡ mode)
-
--- what a flag holds is set, or not
-abbrev pub IsFlag : Option (List ℕ) → Bool → Type 0
-IsFlag flag true = (flag ≢ None) × (flag ≢ Some (codes "false"))
-IsFlag flag false = flag ≢ Some (codes "true")
-
--- ill-formed input is fatal if the flag of `--strict` is set
-abbrev pub IsMode : (flag : Option (List ℕ)) → ErrorMode → Type 0
-IsMode flag Fatal = IsFlag flag true
-IsMode flag Replacement = IsFlag flag false
-
--- the flags of what is listed
-abbrev pub AreFlags : List Row → Flags → Type 0
-AreFlags rows flags = IsFlag (one_of (codes "quiet") rows) flags.quiet
-    × IsFlag (one_of (codes "name-only") rows) flags.names × IsFlag (one_of (codes "null") rows) flags.null
-
--- names are listed, with NUL after each by -z; or nothing by -q
-abbrev pub of_names : Flags → Listing
-of_names flags = if flags.quiet then Nothing else (if flags.null then Names Nul else Names LineFeed)
-
--- text has none of the flags
-abbrev pub of_text : Flags → Option Listing
-of_text flags = if flags.quiet || (flags.names || flags.null) then None else Some All
-
--- of reports, names are listed by -l; -z is of names alone
-abbrev pub of_reports : Flags → Option Listing
-of_reports flags = if flags.quiet || flags.names then Some (of_names flags) else of_text flags
-
--- the command of the word lists reports
-abbrev pub has_reports : (word : List ℕ) → Bool
-has_reports word =
-    bytes_eq word (codes "where") || (bytes_eq word (codes "validate") || bytes_eq word (codes "well-formed"))
-
--- what the command of a word lists by the flags, if they have a meaning for it
-abbrev pub listing_of : (word : List ℕ) → Flags → Option Listing
-listing_of word flags = if bytes_eq word (codes "check") then Some (of_names flags)
-    else (if has_reports word then of_reports flags else of_text flags)
-
-abbrev pub word_of : List Row → List ℕ
-word_of rows = unwrap_or (first_of (codes "command") rows) []
-
-abbrev pub files_of : List Row → List (List ℕ)
-files_of rows = unwrap_or (all_of (codes "file") rows) []
-
--- the same by what the words hold, by argument
-abbrev pub Asks : List Row → Command → (names : List (List ℕ)) → Type 0
-Asks rows command names = (mode : ErrorMode) × IsMode (one_of (codes "strict") rows) mode
-    × AsksFor (word_of rows) (files_of rows)
-    (first_of (codes "encoding") rows) mode command names
-
--- no word of a command or of an encoding is unknown
-abbrev pub HasKnownWords : List Row → Type 0
-HasKnownWords rows = AreKnown (first_of (codes "command") rows) (first_of (codes "encoding") rows)
+-- A word and those after it request a command: check FORM NAMES, where FORM NAMES, validate NAMES, map NAMES or FORM
+-- NAMES, if the flags have a meaning for it.
+abbrev pub command_of : (word : List ℕ) (after : List (List ℕ)) → Flags → Option Asked
+command_of word after f = if bytes_eq word (codes "check") then compared (Some (names_by f)) (mode_of f) after
+    else (if bytes_eq word (codes "where") then compared (places_by f) (mode_of f) after
+    else (if bytes_eq word (codes "validate") then validated (places_by f) (mode_of f) after
+    else (if is_plain f then (if bytes_eq word (codes "map") then Some (OfMapper Map (mode_of f), after)
+    else written (form_of word) (mode_of f) after) else None)))
 
 -- standard input, if no file is named
 abbrev pub or_input : List (List ℕ) → List (List ℕ)
 or_input [] = codes "-" ∷ []
 or_input (name ∷ names) = name ∷ names
 
--- what the flag of the version holds
-abbrev pub flag_of : List Row → Option (List ℕ)
-flag_of rows = one_of (codes "version") rows
+-- a command over files by data that may be named; the versions of the program and of the data; the data as one file; or
+-- nothing
+pub data Wanted : Type 0 where
+  Files : Command → (path : Option (List ℕ)) → (names : List (List ℕ)) → Wanted
+  Version : (path : Option (List ℕ)) → Wanted
+  Prepare : (path : Option (List ℕ)) → Wanted
+  Unclear : Wanted
 
--- a word without names after it requests prepared data
-abbrev pub Prepares : (word : List ℕ) (names : List (List ℕ)) → Type 0
-Prepares word names = IsTrue (is_prepare word) × (names ≡ [])
+abbrev pub asked_by : (path : Option (List ℕ)) → Option Asked → Wanted
+asked_by path None = Unclear
+asked_by path (Some asked) = Files asked.0 path (or_input asked.1)
 
--- prepared data are requested, or nothing is
-abbrev pub PreparesTo : (word : List ℕ) (directory : Option (List ℕ)) (names : List (List ℕ)) → Request → Type 0
-PreparesTo word directory names (Prepare named) = Prepares word names × (option_copied named ≡ directory)
-PreparesTo word directory names (Unclear reason) = Prepares word names → ⊥
-PreparesTo word directory names other = ⊥
+-- prepare, without names
+abbrev pub prepared_by : (path : Option (List ℕ)) → (names : List (List ℕ)) → Flags → Wanted
+prepared_by path [] f = if is_plain f then Prepare path else Unclear
+prepared_by path (name ∷ names) f = Unclear
 
-abbrev pub NeedsData : Command → Type 0
-NeedsData (WellFormed scheme) = ⊥
-NeedsData other = ⊤
+-- what the words request: a first one if it is there, those after it, the path that --data names, and the flags
+abbrev pub wanted : (word : List ℕ) (after : List (List ℕ)) (path : Option (List ℕ)) → Flags → Wanted
+wanted word after path f = if f.version then Version path
+    else (if bytes_eq word (codes "prepare") then prepared_by path after f else asked_by path (command_of word after f))
 
--- The words, by argument, request this: the version, by the data of a directory if one is named; a command over the
--- named files; or neither, if a word is unknown, no command is requested or a flag has no meaning for it.
+abbrev pub wanted_in : Request → Wanted
+wanted_in (request.Files r) = Files r.command (option_copied r.path) (map (λ name. name.now) r.names.items)
+wanted_in (request.Version path) = Version (option_copied path)
+wanted_in (request.Prepare path) = Prepare (option_copied path)
+wanted_in (request.Unclear reason) = Unclear
+
+-- what a flag holds is set, or not
+abbrev pub IsFlag : Option (List ℕ) → Bool → Type 0
+IsFlag flag true = (flag ≢ None) × (flag ≢ Some (codes "false"))
+IsFlag flag false = flag ≢ Some (codes "true")
+
+-- the flags, by argument
+pub record AreFlags (rows : List Row) (f : Flags) : Type 0 where
+  pub version : IsFlag (one_of (codes "version") rows) f.version
+  pub strict : IsFlag (one_of (codes "strict") rows) f.strict
+  pub quiet : IsFlag (one_of (codes "quiet") rows) f.quiet
+  pub names : IsFlag (one_of (codes "name-only") rows) f.names
+  pub null : IsFlag (one_of (codes "null") rows) f.null
+
+abbrev pub word_in : List Row → List ℕ
+word_in rows = unwrap_or (first_of (codes "command") rows) []
+
+abbrev pub files_in : List Row → List (List ℕ)
+files_in rows = unwrap_or (all_of (codes "file") rows) []
+
+-- the words, by argument, request this
 abbrev pub Requests : List Row → Request → Type 0
-Requests rows (Version directory) = (flag_of rows ≢ None) × (flag_of rows ≢ Some (codes "false"))
-    × HasKnownWords rows × (option_copied directory ≡ first_of (codes "data") rows)
-Requests rows (Files request) = (flag_of rows ≢ Some (codes "true"))
-    × ((names : List (List ℕ)) × Asks rows request.command names
-    × (map (λ name. name.now) request.names.items ≡ or_input names))
-    × ((flags : Flags) × AreFlags rows flags × (listing_of (word_of rows) flags ≡ Some request.listing))
-    × (option_copied request.directory ≡ first_of (codes "data") rows)
-Requests rows (Prepare directory) = (flag_of rows ≢ Some (codes "true")) × HasKnownWords rows
-    × Prepares (word_of rows) (files_of rows) × (option_copied directory ≡ first_of (codes "data") rows)
-Requests rows (Unclear reason) = (HasKnownWords rows → flag_of rows ≢ Some (codes "true"))
-    × (((flags : Flags) × AreFlags rows flags × (listing_of (word_of rows) flags ≡ None))
-    ⊎ (((command : Command) (names : List (List ℕ)) → Asks rows command names → ⊥)
-    × (HasKnownWords rows → Prepares (word_of rows) (files_of rows) → ⊥)))
+Requests rows r = (f : Flags) × AreFlags rows f
+    × (wanted_in r ≡ wanted (word_in rows) (files_in rows) (first_of (codes "data") rows) f)

@@ -7,44 +7,35 @@ use Rattle.clap.specs.declared.builder.action.ArgAction.TheVariants.{Append, Set
 
 -- a word; then any number of words
 abbrev pub word_rule : Rule
-word_rule = record (new_rule (codes "command")) { value_names = 1 }
+word_rule = new_rule (codes "command")
 
 abbrev pub after_rule : Rule
 after_rule = record (new_rule (codes "file")) {
-  value_names = 1;
   action = Some Append;
   range = Some (record { start_inclusive = 0; end_inclusive = usize_max });
 }
 
--- --data DIR
-abbrev pub directory_rule : Rule
-directory_rule = record (new_rule (codes "data")) { long = Some (codes "data"); value_names = 1 }
+-- --data PATH
+abbrev pub path_rule : Rule
+path_rule = record (new_rule (codes "data")) { long = Some (codes "data") }
 
--- --encoding ENCODING
-abbrev pub encoding_rule : Rule
-encoding_rule = record (new_rule (codes "encoding")) { long = Some (codes "encoding"); value_names = 1 }
-
--- a flag of this name
+-- a flag of this name, and of one letter
 abbrev pub flag_rule : (name : List ℕ) → Rule
 flag_rule name = record (new_rule name) { long = Some name; action = Some SetTrue }
 
--- and of one letter
 abbrev pub short_flag_rule : (name : List ℕ) → (letter : ℕ) → Rule
 short_flag_rule name letter = record (flag_rule name) { short = Some letter }
 
--- --data, --encoding, --strict
-abbrev pub with_reading : App → App
-with_reading a = with_rule (with_rule (with_rule a directory_rule) encoding_rule) (flag_rule (codes "strict"))
-
--- --quiet or -q, --name-only or -l, --null or -z
+-- --quiet or -q, --name-only or -l, --null or -0
 abbrev pub with_listing : App → App
 with_listing a =
     with_rule (with_rule (with_rule a (short_flag_rule (codes "quiet") 113)) (short_flag_rule (codes "name-only") 108))
-    (short_flag_rule (codes "null") 122)
+    (short_flag_rule (codes "null") 48)
 
--- these, and --version or -V
+-- these, --data, --strict, and --version or -V
 abbrev pub with_options : App → App
-with_options a = with_rule (with_listing (with_reading a)) (short_flag_rule (codes "version") 86)
+with_options a =
+    with_rule (with_listing (with_rule (with_rule a path_rule) (flag_rule (codes "strict")))) (short_flag_rule (codes "version") 86)
 
 abbrev pub uninorm : App
 uninorm = with_options (with_rule (with_rule (new_app (codes "uninorm")) word_rule) after_rule)

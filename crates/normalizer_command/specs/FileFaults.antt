@@ -1,5 +1,5 @@
 -- Faults of what the program calls, and when a file fails so.
-use Rattle.std.specs.Prelude.{ℕ, List, Option, ◌⊎◌}
+use Rattle.std.specs.Prelude.{ℕ, Bool, true, false, List, Option, ◌⊎◌}
 use Rattle.std.specs.Io.KnownBytes.{IsAtEnd}
 use Rattle.std.specs.declared.io.ErrorKind.{ErrorKind}
 use Rattle.normalizer_io.specs.Transfer.{IsUnrefused}
@@ -19,6 +19,13 @@ fault_of_transfer transfer.Memory = Memory
 abbrev pub fault_of_file : UcdError → Fault
 fault_of_file (ucd.Line fault) = Line fault
 fault_of_file ucd.Memory = Memory
+
+-- a read, a write or an allocation failed
+abbrev pub is_refusal : Fault → Bool
+is_refusal Read = true
+is_refusal Write = true
+is_refusal Memory = true
+is_refusal other = false
 
 -- When a file may fail so: it can't be opened, or a read of it or a write failed, or memory was. That memory was
 -- refused can't be stated; `no_other` says what excludes the other reasons then.

@@ -10,10 +10,9 @@ use Rattle.normalizer_prepared.specs.declared.fault.Fault.{Fault as FileFault}
 use Rattle.normalizer_prepared.specs.declared.fault.Fault.TheVariants as file_fault
 use Rattle.normalizer_ucd.specs.Messages.{text_of_problem}
 use Rattle.normalizer_ucd.specs.declared.error.Place.{Place}
-use Rattle.normalizer_command.specs.Mismatches.{code_point_digits}
+use Rattle.normalizer_command.specs.Mismatches.{code_point_digits, position}
 use Rattle.normalizer_command.specs.declared.fault.RecordsFault.{RecordsFault}
 use Rattle.std.specs.declared.io.ErrorKind.TheVariants.{Deadlock, InvalidData, NotFound}
-use Rattle.normalizer_streams.specs.declared.scheme.EncodingScheme.TheVariants.{Utf8, Utf16}
 use Rattle.normalizer_command.specs.FileReports.{Report}
 use Rattle.normalizer_command.specs.declared.fault.Fault.{Fault}
 use Rattle.normalizer_command.specs.declared.fault.Fault.TheVariants.{Open, Read, Write, Memory, Line, Records, Prepared, IllFormed, Replaced}
@@ -102,15 +101,14 @@ text_of_fault (Line fault) =
     Some (codes "line " ++ (decimal fault.place.line ++ (codes ": " ++ text_of_problem fault.problem)))
 text_of_fault (Records f) = Some (text_of_records f)
 text_of_fault (Prepared f) = Some (text_of_prepared f)
-text_of_fault (IllFormed Utf8 at) = Some (codes "ill-formed UTF-8")
-text_of_fault (IllFormed (Utf16 order) at) = Some (codes "ill-formed UTF-16")
+text_of_fault (IllFormed at) = Some (codes "ill-formed UTF-8")
 text_of_fault (Replaced count) = Some (codes "ill-formed sequences replaced by U+FFFD: " ++ decimal count)
 
 -- what a report is of: the file, with a line and a byte in it if it is ill-formed there; or standard output if a write was
 -- refused
 abbrev pub subject_of : (directory : Option (List ℕ)) (name : List ℕ) → Fault → List ℕ
 subject_of directory name Write = codes "standard output"
-subject_of None name (IllFormed scheme at) = name ++ (codes ":" ++ (decimal at.line ++ (codes ":" ++ decimal at.byte)))
+subject_of None name (IllFormed at) = position name at
 subject_of directory name fault = name_in directory name
 
 -- SUBJECT: WHY

@@ -1,6 +1,8 @@
 -- The data of a file of prepared data.
 use Rattle.std.specs.Prelude.{◌≡◌, ◌⊎◌, ℕ, List, Some, Ok, IfSome}
 use Rattle.std.specs.declared.io.ErrorKind.{ErrorKind}
+use Rattle.icu_normalizer.specs.Building.{Builds}
+use Rattle.icu_normalizer.specs.RecordValue.{RecordValue, Uts46RecordValue}
 use Rattle.icu_normalizer.specs.ByRecords.{packed_form}
 use Rattle.icu_normalizer.specs.DataError.{DataError}
 use Rattle.icu_normalizer.specs.DataError.TheVariants as data_error
@@ -14,12 +16,11 @@ use Rattle.normalizer_prepared.specs.Files.{IsFirstFault}
 use Rattle.normalizer_prepared.specs.Prepared.{IsFileOf}
 use Rattle.normalizer_prepared.specs.declared.fault.PreparedError.{PreparedError}
 use Rattle.normalizer_prepared.specs.declared.fault.PreparedError.TheVariants as prepared_error
-use Rattle.normalizer_command.specs.declared.worker.Command.{Command}
-use Rattle.normalizer_command.specs.declared.worker.Command.TheVariants as command
+use Rattle.normalizer_command.specs.declared.command.Command.{Command}
+use Rattle.normalizer_command.specs.declared.command.Command.TheVariants as command
 use Rattle.normalizer_command.specs.Making.{mapping_of, Making}
-use Rattle.normalizer_command.specs.Works.{OfForm, OfMapper, WellFormed, Work}
-use Rattle.normalizer_command.specs.Devices.{Devices}
-use Rattle.normalizer_command.specs.FileFaults.{IsFileFault}
+use Rattle.normalizer_command.specs.Works.{work_by, OfForm, OfMapper, Work}
+use Rattle.normalizer_command.specs.Devices.{Files}
 use Rattle.normalizer_command.specs.declared.fault.Fault.{Fault}
 use Rattle.normalizer_command.specs.declared.fault.Fault.TheVariants.{Memory, Prepared}
 use Rattle.normalizer_command.specs.declared.fault.PreparedFault.TheVariants.{Wrong, Unfit, NoMapper}
@@ -34,13 +35,12 @@ mapper_data_in p = (characters_of p Mapper, p.compositions)
 
 -- the work of a command, by data
 abbrev pub work_of : Packed → Command → Work
-work_of p (command.OfForm task scheme mode form) = OfForm task scheme mode (making_of p form)
-work_of p (command.OfMapper task scheme mode) = OfMapper task scheme mode (mapping_of (mapper_data_in p))
-work_of p (command.WellFormed scheme) = WellFormed scheme
+work_of p (command.OfForm task mode form) = OfForm task mode (making_of p form)
+work_of p (command.OfMapper task mode) = OfMapper task mode (mapping_of (mapper_data_in p))
 
 -- the command is of the mapper, which has no data of its own: its data are those of the canonical mappings
 abbrev pub LacksMapper : Command → Packed → Type 0
-LacksMapper (command.OfMapper task scheme mode) p = p.mapper ≡ p.canonical
+LacksMapper (command.OfMapper task mode) p = p.mapper ≡ p.canonical
 LacksMapper other p = ⊥
 
 -- what data hold for the forms
@@ -51,9 +51,8 @@ held_by p =
 
 -- the data that a command needs break a condition, with this error
 abbrev pub RefusesWork : Command → Packed → DataError → Type 0
-RefusesWork (command.OfForm task scheme mode form) p e = RefusesForm form (held_by p) e
-RefusesWork (command.OfMapper task scheme mode) p e = RefusesMapper (Ok (mapper_data_in p)) e
-RefusesWork (command.WellFormed scheme) p e = ⊥
+RefusesWork (command.OfForm task mode form) p e = RefusesForm form (held_by p) e
+RefusesWork (command.OfMapper task mode) p e = RefusesMapper (Ok (mapper_data_in p)) e
 
 abbrev pub fault_of_prepared : PreparedError → Fault
 fault_of_prepared (prepared_error.Wrong fault offset) = Prepared (Wrong fault offset)
@@ -78,15 +77,18 @@ IsFaultOfPrepared prepared command fault =
     ⊎ ((p : Packed) × IsFileOf prepared p × IsFaultOfData command p fault)
 
 -- the path can be opened, no read of its file was refused, and these are its bytes, if they are known
-abbrev pub IsFileAt : {W : Type 0} → Devices W → (path bytes : List ℕ) → Type 0
-IsFileAt d path bytes = d.can_open path × d.unrefused path × IfSome (d.bytes_of path) (λ all. bytes ≡ all)
+abbrev pub IsFileAt : Files → (path bytes : List ℕ) → Type 0
+IsFileAt f path bytes = f.can_open path × f.unrefused path × IfSome (f.bytes_of path) (λ all. bytes ≡ all)
 
 -- the path can't be opened as a file, so it is that of a directory
-abbrev pub IsDirectory : {W : Type 0} → Devices W → (path : List ℕ) → Type 0
-IsDirectory d path = (kind : ErrorKind) × d.cannot_open path kind
+abbrev pub IsDirectory : Files → (path : List ℕ) → Type 0
+IsDirectory f path = (kind : ErrorKind) × f.cannot_open path kind
 
--- why it isn't done by the file of a path that can be opened: a read failed, or memory ran out; or its bytes are at fault
-abbrev pub IsPreparedFault : {W : Type 0} → Devices W → (path : List ℕ) → Command → Fault → Type 0
-IsPreparedFault d path command fault = d.can_open path
-    × (IsFileFault (λ _. ⊥) (d.read_refused path) ⊥ (d.unrefused path) fault
-    ⊎ ((prepared : List ℕ) × IsFileAt d path prepared × IsFaultOfPrepared prepared command fault))
+-- this is so of the work of a command by the data whose file these bytes are, and so by the records that build them
+pub record IsByPrepared (prepared : List ℕ) (command : Command) (Is : Work → Type 0) : Type 0 where
+  pub packed : Packed
+  pub file : IsFileOf prepared packed
+  pub suits : ¬ LacksMapper command packed
+  pub is : Is (work_of packed command)
+  pub recorded : (records : List RecordValue) (uts46 : List Uts46RecordValue) → Builds records uts46 packed
+      → Is (work_by records uts46 command)

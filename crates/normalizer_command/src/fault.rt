@@ -1,22 +1,14 @@
 //! Why a file failed.
 ghost use Rattle.std.specs.Prelude.{◌≡◌, Some};
-ghost use Rattle.normalizer_command.specs.Messages.{
-  character_of,
-  name_of_marker,
-  text_of_error,
-  text_of_fault,
-  text_of_prepared,
-  text_of_records,
-  text_of_unfit,
-  words_of,
-};
+ghost use Rattle.normalizer_command.specs.Messages.{character_of, name_of_marker, text_of_error, text_of_fault};
+ghost use Rattle.normalizer_command.specs.Messages.{text_of_prepared, text_of_records, text_of_unfit, words_of};
 ghost use Rattle.normalizer_command.specs.FileFaults.{fault_of_file, fault_of_transfer};
 ghost use Rattle.normalizer_command.specs.PreparedFiles.{fault_of_data, fault_of_prepared};
 
 use icu_normalizer::{BuildError, DataError, DataMarkerInfo, NormalizeError, RecordAtFault};
 use normalizer_io::TransferError;
 use normalizer_prepared::{Fault as FileFault, PreparedError};
-use normalizer_streams::{EncodingScheme, Position};
+use normalizer_streams::Position;
 use normalizer_ucd::{LineFault, Place, UcdError};
 use std::alloc::{AllocError, AllocFailed};
 use std::fmt;
@@ -39,8 +31,8 @@ pub enum Fault {
     Records(RecordsFault),
     /// A file of prepared data can't be used.
     Prepared(PreparedFault),
-    /// An ill-formed sequence of this encoding scheme begins at this position, and was fatal.
-    IllFormed(EncodingScheme, Position),
+    /// An ill-formed sequence begins at this position, and was fatal.
+    IllFormed(Position),
     /// So many ill-formed sequences were written as U+FFFD.
     Replaced(usize),
 }
@@ -214,8 +206,7 @@ impl fmt::Display for Fault {
             Fault::Line(fault) => write!(f, "line {}: {}", fault.place.line, fault.problem),
             Fault::Records(fault) => write!(f, "{fault}"),
             Fault::Prepared(fault) => write!(f, "{fault}"),
-            Fault::IllFormed(EncodingScheme::Utf8, _) => f.write_str("ill-formed UTF-8"),
-            Fault::IllFormed(EncodingScheme::Utf16(_), _) => f.write_str("ill-formed UTF-16"),
+            Fault::IllFormed(_) => f.write_str("ill-formed UTF-8"),
             Fault::Replaced(count) => write!(f, "ill-formed sequences replaced by U+FFFD: {count}"),
         }
     }

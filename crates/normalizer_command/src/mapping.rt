@@ -1,93 +1,68 @@
 //! What is done with a file by the mapper.
-ghost use Rattle.std.specs.Prelude.{
-  ◌≡◌,
-  ◌⊎◌,
-  ◌<◌,
-  ◌≤◌,
-  ◌+◌,
-  ◌-◌,
-  ◌^◌,
-  ◌++◌,
-  ℕ,
-  List,
-  length,
-  map,
-  string_bytes,
-  IfOk,
-  IsErrOf,
-  IsOkUnless,
-  OnErr,
-};
+ghost use Rattle.std.specs.Prelude.{◌≡◌, ◌≢◌, ◌⊎◌, ◌<◌, ◌≤◌, ◌+◌, ◌-◌, ◌^◌, ◌++◌, length, map, string_bytes};
+ghost use Rattle.std.specs.Prelude.{encode_utf8_all, false, if◌then◌else◌, [], IfErr, IfOk, IsErrOf, IsOkUnless};
 ghost use Rattle.icu_normalizer.specs.Mappers.{mapper_data_of, mapper_data_of_borrowed};
 ghost use Rattle.normalizer_io.specs.Transfer.{IsUnrefused};
-ghost use Rattle.normalizer_streams.specs.Replies.{is_nothing};
 ghost use Rattle.normalizer_streams.specs.Streams.{IsEndless};
+ghost use Rattle.normalizer_command.specs.FileFaults.{IsTransferFault};
 ghost use Rattle.normalizer_command.specs.Lines.{invalid_line, lines_of, told_unless};
+ghost use Rattle.normalizer_command.specs.Listings.{listed};
 ghost use Rattle.normalizer_command.specs.Making.{mapping_of, Mapping, Maps};
-ghost use Rattle.normalizer_command.specs.Replies.{answer_of};
+ghost use Rattle.normalizer_command.specs.Replies.{validity};
 ghost use Rattle.normalizer_command.specs.Works.{OfMapper};
-ghost use Rattle.normalizer_command.specs.Written.{IsCutOff, IsWritten};
+ghost use Rattle.normalizer_command.specs.Written.{is_known_first, IsOutcome, Replies};
+ghost use Rattle.normalizer_command.specs.declared.command.Listing.TheVariants.{Places};
+ghost use Rattle.normalizer_command.specs.declared.command.MapperTask.TheVariants.{Validate};
 ghost use Rattle.normalizer_command.specs.inner.EachLine.{feed_unless, number_before, replies_to, reply_after, reply_to};
+ghost use Rattle.normalizer_command.specs.inner.Known.{lines_answered_by};
 
-use crate::reply::{Answer, yes_if};
+use crate::command::{Listing, MapperTask};
+use crate::fault::Fault;
+use crate::first_byte::FirstByte;
+use crate::reply::{Answer, Reply, name_of, write_known};
 use icu_normalizer::IgnoredCharacters::Dropped;
 use icu_normalizer::uts46::{Uts46Mapper, Uts46MapperBorrowed};
 use icu_normalizer::{NormalizeError, is_valid, mapped};
 use normalizer_io::{Source, Target, TransferError};
-use normalizer_streams::{EncodingScheme, Ending, ErrorMode, LineTask, Replied, write_replies};
+use normalizer_streams::{Ending, ErrorMode, LineTask, write_replies};
 use std::alloc::{AllocError, Global};
 
-/// What is done with a file by the mapper.
-#[derive(Clone, Copy, Debug, PartialEq, Eq)]
-pub enum MapperTask {
-    /// Its lines are written, each mapped by itself.
-    Map,
-    /// The numbers of its lines that aren't valid are written.
-    Validate,
-}
-
 impl MapperTask {
-    /// Reads to the end, and writes the reply to a file while it reads.
-    pub(crate) fn write_reply<R: Source, W: Target>(
+    /// Does its work with what an open file has, and writes the reply.
+    pub(crate) fn handle<S: Source, W: Target>(
         self,
         alloc: Global,
-        scheme: EncodingScheme,
         mode: ErrorMode,
         mapper: &Uts46Mapper,
         name: &str,
-        reader: &mut R,
+        input: &mut S,
         writer: &mut W,
-    ) -> Result<Answer, TransferError>
-        ensures done { (m : Mapping) → Maps (mapper_data_of mapper.now) m → IfOk result (IsWritten
-            (OfMapper self scheme mode m) name.now
-            (R.bytes_left reader.old) (W.bytes_taken writer.old) (W.bytes_taken writer.new)) }
-        ensures front { (m : Mapping) → Maps (mapper_data_of mapper.now) m → OnErr result (IsCutOff
-            (OfMapper self scheme mode m) name.now
-            (R.bytes_left reader.old) (W.bytes_taken writer.old) (W.bytes_taken writer.new)) }
-        ensures read { IsErrOf result TransferError.Read →
-            R.refusal reader.old reader.new ⊎ IsEndless (R.bytes_left reader.old) }
-        ensures write { IsErrOf result TransferError.Write → W.refusal writer.old writer.new }
-        ensures read_ahead { ¬ IsErrOf result TransferError.Read → IsUnrefused R.refusal reader.old reader.new }
-        ensures ahead { ¬ IsErrOf result TransferError.Write → IsUnrefused W.refusal writer.old writer.new }
+    ) -> Result<Answer, Fault>
+        ensures { (m : Mapping) → Maps (mapper_data_of mapper.now) m → IsOutcome (OfMapper self mode m) name.now
+            (S.bytes_left input.old) (W.bytes_taken writer.old) (W.bytes_taken writer.new)
+            (IsTransferFault S.bytes_left S.refusal W.refusal (input.old, writer.old) (input.new, writer.new))
+            (writer.new ≡ writer.old) result }
     {
         let lines = MapperLines {
             task: self,
-            scheme,
             mapper: mapper.as_borrowed(),
             name,
         };
-        let replied = write_replies(alloc, scheme, mode, &lines, reader, writer)?;
-        Ok(self.answer(scheme, replied))
+        match self {
+            MapperTask::Validate(listing) if listing != Listing::Places => {
+                write_known(lines.validated(alloc, listing, mode, input), writer)
+            }
+            _ => lines.write(alloc, mode, input, writer),
+        }
     }
 
-    /// What comes of a text, by how it ended and what was replied to its lines.
-    fn answer(self, scheme: EncodingScheme, replied: Replied) -> Answer
-        ensures { (output : List ℕ) → replied.is_silent ≡ is_nothing output →
-            result ≡ answer_of self scheme replied.ending output }
+    /// What comes of a text by its lines, whose reply is empty or not.
+    fn answer(self, is_silent: bool, ending: Ending) -> Answer
+        ensures { result ≡ lines_answered_by self is_silent ending }
     {
-        match (self, replied.ending) {
-            (MapperTask::Validate, Ending::Whole(_)) => yes_if(replied.is_silent),
-            _ => Answer::Ended(scheme, replied.ending),
+        match self {
+            MapperTask::Map => Answer::Ended(ending),
+            MapperTask::Validate(listing) => validity(listing, is_silent, ending),
         }
     }
 
@@ -98,7 +73,7 @@ impl MapperTask {
     {
         match self {
             MapperTask::Map => 0,
-            MapperTask::Validate => lines,
+            MapperTask::Validate(_) => lines,
         }
     }
 
@@ -106,20 +81,19 @@ impl MapperTask {
     fn replies_to(
         self,
         alloc: Global,
-        scheme: EncodingScheme,
         mapper: &Uts46MapperBorrowed<'_>,
         name: &str,
         before: usize,
         lines: &[&[char]],
     ) -> Result<Vec<u8>, NormalizeError>
         requires { before + length lines.now < 2 ^ 64 }
-        ensures written { IfOk result (λ output. output.items ≡ replies_to self scheme
+        ensures written { IfOk result (λ output. output.items ≡ replies_to self
             (mapping_of (mapper_data_of_borrowed mapper.now)) name.now before (map (λ line. line.now) lines.now)) }
         ensures refused { IsOkUnless result NormalizeError.Memory }
     {
         let mut output = Vec::new(alloc);
         for (index, line) in lines.iter().enumerate() {
-            let reply = self.reply_to(alloc, scheme, mapper, name, before + index, line)?;
+            let reply = self.reply_to(alloc, mapper, name, before + index, line)?;
             output.extend_from_slice(&reply)?;
         }
         Ok(output)
@@ -129,23 +103,22 @@ impl MapperTask {
     fn reply_to(
         self,
         alloc: Global,
-        scheme: EncodingScheme,
         mapper: &Uts46MapperBorrowed<'_>,
         name: &str,
         index: usize,
         line: &[char],
     ) -> Result<Vec<u8>, NormalizeError>
         requires { index + 1 < 2 ^ 64 }
-        ensures written { IfOk result (λ reply. reply.items ≡ reply_to self scheme
+        ensures written { IfOk result (λ reply. reply.items ≡ reply_to self
             (mapping_of (mapper_data_of_borrowed mapper.now)) name.now index line.now) }
         ensures refused { IsOkUnless result NormalizeError.Memory }
     {
         match self {
             MapperTask::Map => {
                 let mapped = mapped_line(alloc, mapper, index == 0, line)?;
-                Ok(scheme.encode(alloc, &mapped)?)
+                Ok(utf8(alloc, &mapped)?.into_bytes())
             }
-            MapperTask::Validate => {
+            MapperTask::Validate(_) => {
                 let valid = is_valid(alloc, mapper, line)?;
                 Ok(told_unless(alloc, valid, name, index + 1)?)
             }
@@ -153,18 +126,28 @@ impl MapperTask {
     }
 }
 
+/// What comes of lines that are validated.
+fn validity(listing: Listing, all_valid: bool, ending: Ending) -> Answer
+    ensures { result ≡ validity listing all_valid ending }
+{
+    match (listing, ending) {
+        (Listing::Places, Ending::Stopped(_)) => Answer::Ended(ending),
+        _ if !all_valid => Answer::No,
+        (_, Ending::Whole(_)) => Answer::Done,
+        (_, Ending::Stopped(_)) => Answer::Ended(ending),
+    }
+}
+
 /// What a task of the mapper replies to the lines of a text.
 #[derive(Drop)]
 struct MapperLines<'a> {
     task: MapperTask,
-    scheme: EncodingScheme,
     mapper: Uts46MapperBorrowed<'a>,
     name: &'a str,
 }
 
 impl<'a> LineTask for MapperLines<'a> {
-    ghost reply = { λ t lines text.
-        reply_after t.task t.scheme (mapper_data_of_borrowed t.mapper) t.name.now lines text };
+    ghost reply = { λ t lines text. reply_after t.task (mapper_data_of_borrowed t.mapper) t.name.now lines text };
 
     fn append_reply(
         &self,
@@ -183,17 +166,95 @@ impl<'a> LineTask for MapperLines<'a> {
 }
 
 impl<'a> MapperLines<'a> {
+    /// Writes the reply to the lines of a source, while it reads.
+    fn write<S: Source, W: Target>(
+        &self,
+        alloc: Global,
+        mode: ErrorMode,
+        input: &mut S,
+        writer: &mut W,
+    ) -> Result<Answer, Fault>
+        requires { (m : Mapping) → is_known_first (OfMapper self.now.task mode m) ≡ false }
+        ensures { (m : Mapping) → Maps (mapper_data_of_borrowed self.now.mapper) m →
+            IsOutcome (OfMapper self.now.task mode m) self.now.name.now
+            (S.bytes_left input.old) (W.bytes_taken writer.old) (W.bytes_taken writer.new)
+            (IsTransferFault S.bytes_left S.refusal W.refusal (input.old, writer.old) (input.new, writer.new))
+            (writer.new ≡ writer.old) result }
+    {
+        let replied = write_replies(alloc, mode, self, input, writer)?;
+        Ok(self.task.answer(replied.is_silent, replied.ending))
+    }
+
+    /// Reads up to the first line that isn't valid, and returns what is to be written of that.
+    fn validated<R: Source>(
+        &self,
+        alloc: Global,
+        listing: Listing,
+        mode: ErrorMode,
+        reader: &mut R,
+    ) -> Result<Reply, TransferError>
+        requires task { self.now.task ≡ Validate listing }
+        requires names { listing ≢ Places }
+        ensures replies { (m : Mapping) → Maps (mapper_data_of_borrowed self.now.mapper) m → IfOk result (λ r.
+            Replies (OfMapper (Validate listing) mode m) self.now.name.now (R.bytes_left reader.old)
+            r.answer r.output.items) }
+        ensures errors { IfErr result (λ error. (error ≡ TransferError.Read) ⊎ (error ≡ TransferError.Memory)) }
+        ensures read { IsErrOf result TransferError.Read →
+            R.refusal reader.old reader.new ⊎ IsEndless (R.bytes_left reader.old) }
+        ensures read_ahead { ¬ IsErrOf result TransferError.Read → IsUnrefused R.refusal reader.old reader.new }
+    {
+        let mut first = FirstByte::new();
+        match write_replies(alloc, mode, self, reader, &mut first) {
+            Ok(replied) => Ok(self.reply_by(alloc, listing, replied.is_silent, replied.ending)?),
+            Err(TransferError::Write) => Ok(Reply {
+                answer: Answer::No,
+                output: name_of(alloc, listing, self.name)?,
+            }),
+            Err(error) => Err(error),
+        }
+    }
+
+    /// The reply to a text of lines that are valid or not.
+    fn reply_by(
+        &self,
+        alloc: Global,
+        listing: Listing,
+        all_valid: bool,
+        ending: Ending,
+    ) -> Result<Reply, AllocError>
+        ensures answer { IfOk result (λ r. r.answer ≡ validity listing all_valid ending) }
+        ensures output { IfOk result (λ r. r.output.items
+            ≡ (if all_valid then [] else listed listing self.now.name.now [])) }
+    {
+        Ok(Reply {
+            answer: validity(listing, all_valid, ending),
+            output: if all_valid {
+                Vec::new(alloc)
+            } else {
+                name_of(alloc, listing, self.name)?
+            },
+        })
+    }
+
     /// The reply to a text that comes after so many lines.
     fn reply(&self, alloc: Global, lines: usize, text: &[char]) -> Result<Vec<u8>, NormalizeError>
         requires { lines + length text.now < 2 ^ 64 - 1 }
-        ensures written { IfOk result (λ output. output.items ≡ reply_after self.now.task self.now.scheme
+        ensures written { IfOk result (λ output. output.items ≡ reply_after self.now.task
             (mapper_data_of_borrowed self.now.mapper) self.now.name.now lines text.now) }
         ensures refused { IsOkUnless result NormalizeError.Memory }
     {
         let before = self.task.number_before(lines);
         let lines = lines_of(alloc, text)?;
-        self.task.replies_to(alloc, self.scheme, &self.mapper, self.name, before, &lines)
+        self.task
+            .replies_to(alloc, &self.mapper, self.name, before, &lines)
     }
+}
+
+/// The bytes of a text.
+fn utf8(alloc: Global, text: &[char]) -> Result<String, AllocError>
+    ensures { IfOk result (λ bytes. string_bytes bytes ≡ encode_utf8_all text.now) }
+{
+    text.iter().copied().collect(alloc)
 }
 
 /// What is between line feeds.

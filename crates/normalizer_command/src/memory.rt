@@ -1,52 +1,16 @@
 //! The program over files in memory: from the bytes of its data to what it writes and reports.
-ghost use Rattle.std.specs.Prelude.{
-  ◌≡◌,
-  ◌++◌,
-  [],
-  false,
-  true,
-  map,
-  option_copied,
-  string_bytes,
-  All,
-  IfNone,
-  ℕ,
-  IfOk,
-  IfSome,
-  None,
-  Some,
-  ⊤,
-  List,
-  cond,
-  bytes_eq,
-};
-ghost use Rattle.std.specs.declared.io.ErrorKind.TheVariants.{NotFound};
-ghost use Rattle.icu_normalizer.specs.Building.{Builds};
-ghost use Rattle.icu_normalizer.specs.Packed.{Packed};
-ghost use Rattle.icu_normalizer.specs.RecordValue.{RecordValue, Uts46RecordValue};
-ghost use Rattle.normalizer_prepared.specs.Prepared.{IsFileOf};
-ghost use Rattle.normalizer_command.specs.Works.{work_by};
-ghost use Rattle.normalizer_command.specs.InMemory.{
-  bytes_in,
-  effect_of,
-  files_of,
-  AreHandled,
-  IsEffectOf,
-  IsThere,
-};
+ghost use Rattle.std.specs.Prelude.{◌≡◌, [], true, map, option_copied, string_bytes, All, IfOk, None, Some, cond};
+ghost use Rattle.std.specs.Prelude.{bytes_eq};
+ghost use Rattle.normalizer_command.specs.FileFaults.{is_refusal};
+ghost use Rattle.normalizer_command.specs.InMemory.{bytes_in, effect_of, in_memory, IsEffectOf};
 ghost use Rattle.normalizer_command.specs.Messages.{name_in, report_of};
-ghost use Rattle.normalizer_command.specs.PreparedFiles.{LacksMapper};
-ghost use Rattle.normalizer_command.specs.inner.Kept.{is_refusal, kept_report, kept_reports, IsOfData};
+ghost use Rattle.normalizer_command.specs.inner.Kept.{kept_report, kept_reports, IsOfData};
 
+use crate::command::Command;
 use crate::devices::{Inputs, Reports};
 use crate::fault::Fault;
-use crate::listing::Listing;
 use crate::message::Message;
-use crate::run::run;
-use crate::worker::Command;
-use icu_normalizer::record_laws::{
-    data_that_meet_conditions_are_accepted, what_is_built_is_accepted,
-};
+use crate::run::Run;
 use normalizer_io::{Input, Output};
 use std::alloc::{AllocError, Global};
 use std::io::ErrorKind;
@@ -80,60 +44,32 @@ pub struct Outcome {
     pub status: u8,
 }
 
-/// Does a command with each file of these names in turn, and lists what is asked for, using the data of a path: of a file
-/// of prepared data or, if no file has that name, of a directory of Unicode's files. All files, those of the data too,
-/// are in memory, under their names; of two of one name the first counts.
+/// Does a command with each file of these names in turn, using the data of a path: of a file of prepared data or, if no
+/// file has that name, of a directory of Unicode's files. All files, those of the data too, are in memory, under their
+/// names; of two of one name the first counts.
 ///
 /// # Errors
 /// If an allocation failed.
 pub fn run_in_memory(
     alloc: Global,
     command: Command,
-    listing: Listing,
     path: &str,
     names: &[&str],
     files: &[NamedFile<'_>],
 ) -> Result<Outcome, AllocError>
-    ensures effect { IfOk result (λ outcome. IsEffectOf (files_of files.now) command listing path.now
-        (map (λ name. name.now) names.now) (effect_of outcome)) }
-
-    // With the file of data that records build, the command is done by what these records mean.
-    ensures records { (records : List RecordValue) (uts46 : List Uts46RecordValue) (p : Packed) →
-        Builds records uts46 p → (prepared : List ℕ) → IsFileOf prepared p →
-        bytes_in (files_of files.now) path.now ≡ Some prepared →
-        ¬ LacksMapper command p → IfOk result (λ outcome. AreHandled (files_of files.now) listing
-        (work_by records uts46 command) (map (λ name. name.now) names.now) (effect_of outcome)) }
-{
-    what_is_built_is_accepted();
-    data_that_meet_conditions_are_accepted();
-    run_over(alloc, command, listing, path, names, files)
-}
-
-/// What a run over files in memory wrote and reported.
-fn run_over(
-    alloc: Global,
-    command: Command,
-    listing: Listing,
-    path: &str,
-    names: &[&str],
-    files: &[NamedFile<'_>],
-) -> Result<Outcome, AllocError>
-    ensures { IfOk result (λ outcome. IsEffectOf (files_of files.now) command listing path.now
+    ensures { IfOk result (λ outcome. IsEffectOf (bytes_in files.now) command path.now
         (map (λ name. name.now) names.now) (effect_of outcome)) }
 {
     let mut output = Output(Vec::new(alloc));
     let mut reports = KeptReports::new(alloc);
-    let inputs = NamedFiles { files };
-    let status = run(
+    let run = Run {
         alloc,
         command,
-        listing,
         path,
         names,
-        &inputs,
-        &mut output,
-        &mut reports,
-    );
+        inputs: &NamedFiles { files },
+    };
+    let status = run.run(&mut output, &mut reports);
     if !reports.are_of_data() {
         return Err(AllocError);
     }
@@ -153,15 +89,7 @@ struct NamedFiles<'a> {
 impl<'a> Inputs for NamedFiles<'a> {
     type Input = Input<&'a [u8]>;
 
-    ghost bytes_of = { λ inputs. bytes_in (files_of inputs.files.now) };
-
-    ghost can_open = { λ inputs. IsThere (files_of inputs.files.now) };
-
-    ghost cannot_open = { λ inputs name kind. (bytes_in (files_of inputs.files.now) name ≡ None) × (kind ≡ NotFound) };
-
-    ghost unrefused = { λ _ _. ⊤ };
-
-    ghost read_refused = { λ _ _. ⊤ };
+    ghost files = { λ inputs. in_memory (bytes_in inputs.files.now) };
 
     fn open(&self, name: &str) -> Result<Input<&'a [u8]>, ErrorKind> {
         match bytes_of(self.files, name) {
@@ -173,7 +101,7 @@ impl<'a> Inputs for NamedFiles<'a> {
 
 /// The bytes of the first file of a name.
 fn bytes_of<'a>(files: &[NamedFile<'a>], name: &str) -> Option<&'a [u8]>
-    ensures { option_copied result ≡ bytes_in (files_of files.now) name.now }
+    ensures { option_copied result ≡ bytes_in files.now name.now }
 {
     for file in files {
         if is_same(file.name, name) {

@@ -22,7 +22,7 @@ impl fmt::Display for Message<'_> {
     fn fmt<W: fmt::Write>(&self, f: &mut fmt::Formatter<W>) -> fmt::Result {
         match (self.fault, self.directory) {
             (Fault::Write, _) => write!(f, "standard output: {}", self.fault),
-            (Fault::IllFormed(_, at), None) => {
+            (Fault::IllFormed(at), None) => {
                 write!(f, "{}:{}:{}: {}", self.name, at.line, at.byte, self.fault)
             }
             (_, Some(directory)) => write!(f, "{directory}/{}: {}", self.name, self.fault),

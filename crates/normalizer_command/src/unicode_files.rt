@@ -1,33 +1,23 @@
 //! The data of a directory of Unicode's files.
-ghost use Rattle.std.specs.Prelude.{◌≡◌, List, [], ⊤, IfOk, IfErr, IfSome, OnOk, string_bytes, unwrap_or};
+ghost use Rattle.std.specs.Prelude.{◌≡◌, List, [], ⊤, IfErr, IfOk, IfSome, OnOk, string_bytes, unwrap_or};
 ghost use Rattle.std.specs.List.{flat_map};
 ghost use Rattle.std.specs.Option.{option_and_then, option_map};
 ghost use Rattle.icu_normalizer.specs.AtFault.{IsFirstAtFault};
-ghost use Rattle.icu_normalizer.specs.Building.{IsSmallest};
+ghost use Rattle.icu_normalizer.specs.Building.{Builds, IsSmallest};
 ghost use Rattle.icu_normalizer.specs.Built.{data_in};
 ghost use Rattle.icu_normalizer.specs.MapperRanges.{entries_of};
-ghost use Rattle.normalizer_ucd.specs.RecordPlaces.{place_of_record};
-ghost use Rattle.normalizer_command.specs.UnicodeFiles.{
-  AreBuiltOf,
-  AreFiles,
-  AreRecorded,
-  IsFaultOf,
-  IsFile,
-  IsFaultOfRecords,
-  IsTable,
-  NeedsFile,
-  file_of,
-  mapper_records_of,
-  path_of,
-};
-ghost use Rattle.normalizer_command.specs.FileFaults.{fault_of_file, IsFileFault};
 ghost use Rattle.icu_normalizer.specs.RecordValue.{RecordValue, Uts46RecordValue};
-ghost use Rattle.normalizer_ucd.specs.declared.error.LineFault.{LineFault};
 ghost use Rattle.normalizer_ucd.specs.FallibleReads.{Gives};
+ghost use Rattle.normalizer_ucd.specs.RecordPlaces.{place_of_record};
+ghost use Rattle.normalizer_ucd.specs.declared.error.LineFault.{LineFault};
+ghost use Rattle.normalizer_command.specs.DataFaults.{file_of, IsFaultOf, IsFaultOfRecords, NeedsFile};
+ghost use Rattle.normalizer_command.specs.FileFaults.{fault_of_file, IsFileFault};
+ghost use Rattle.normalizer_command.specs.UnicodeFiles.{mapper_records_of, path_of, purpose_of, AreFiles, AreRecorded};
+ghost use Rattle.normalizer_command.specs.UnicodeFiles.{IsFile, IsTable};
 
+use crate::command::Command;
 use crate::devices::Inputs;
 use crate::fault::{Fault, RecordsFault};
-use crate::worker::Command;
 use icu_normalizer::{
     BuildError, Built, Record, Records, Uts46Range, Uts46Record, records_of_ranges,
 };
@@ -37,10 +27,32 @@ use normalizer_ucd::{
     uts46_ranges_beside_exclusions,
 };
 use std::alloc::{AllocError, Global};
+use std::io::ErrorKind;
+
+/// What data are for.
+#[derive(Clone, Copy, PartialEq, Eq)]
+pub(crate) enum Purpose {
+    /// Normal forms, which need no mapping table.
+    Forms,
+    /// The mapper.
+    Mapper,
+    /// Both, if there is a mapping table.
+    Both,
+}
+
+/// What a command needs data for.
+pub(crate) fn purpose_of(command: Command) -> Purpose
+    ensures { result ≡ purpose_of command }
+{
+    match command {
+        Command::OfForm(..) => Purpose::Forms,
+        Command::OfMapper(..) => Purpose::Mapper,
+    }
+}
 
 /// A file of a directory that failed.
 #[derive(Clone, Copy)]
-pub(crate) struct DataFault {
+pub(crate) struct FileFault {
     pub(crate) file: UcdFile,
     pub(crate) fault: Fault,
 }
@@ -53,7 +65,7 @@ fn path(alloc: Global, directory: &str, file: UcdFile) -> Result<String, AllocEr
     format!(in alloc; "{directory}/{name}")
 }
 
-/// The bytes of the files of a directory. A form needs no mapping table.
+/// The bytes of the files of a directory.
 #[derive(Drop)]
 pub(crate) struct DataFiles {
     pub(crate) unicode_data: Vec<u8>,
@@ -73,22 +85,22 @@ impl DataFiles {
     }
 }
 
-/// The bytes of the files that a command needs.
+/// The bytes of the files that are needed.
 pub(crate) fn read_files<I: Inputs>(
     alloc: Global,
     inputs: &I,
     directory: &str,
-    command: Command,
-) -> Result<DataFiles, DataFault>
-    ensures files { IfOk result (λ r. AreFiles (I.bytes_of inputs.now) (I.can_open inputs.now) directory.now command
+    purpose: Purpose,
+) -> Result<DataFiles, FileFault>
+    ensures files { IfOk result (λ r. AreFiles (I.files inputs.now) directory.now purpose
         r.unicode_data.items r.exclusions.items (option_map (λ v. v.items) r.table)) }
-    ensures fault { IfErr result (λ e. IsFileFault (I.cannot_open inputs.now (path_of directory.now e.file))
-        (I.read_refused inputs.now (path_of directory.now e.file)) ⊥ ⊤ e.fault) }
-    ensures needed { IfErr result (λ e. NeedsFile command e.file) }
+    ensures fault { IfErr result (λ e. IsFileFault ((I.files inputs.now).cannot_open (path_of directory.now e.file))
+        ((I.files inputs.now).read_refused (path_of directory.now e.file)) ⊥ ⊤ e.fault) }
+    ensures needed { IfErr result (λ e. NeedsFile purpose e.file) }
 {
     let unicode_data = read_file(alloc, inputs, directory, UcdFile::UnicodeData)?;
     let exclusions = read_file(alloc, inputs, directory, UcdFile::CompositionExclusions)?;
-    let table = read_table(alloc, inputs, directory, command)?;
+    let table = read_table(alloc, inputs, directory, purpose)?;
     Ok(DataFiles {
         unicode_data,
         exclusions,
@@ -96,25 +108,27 @@ pub(crate) fn read_files<I: Inputs>(
     })
 }
 
-/// The bytes of the mapping table, if a command needs it.
+/// The bytes of the mapping table, if it is needed.
 fn read_table<I: Inputs>(
     alloc: Global,
     inputs: &I,
     directory: &str,
-    command: Command,
-) -> Result<Option<Vec<u8>>, DataFault>
-    ensures table { IfOk result (λ t. IsTable (I.bytes_of inputs.now) (I.can_open inputs.now) directory.now command
-        (option_map (λ v. v.items) t)) }
-    ensures fault { IfErr result (λ e. IsFileFault (I.cannot_open inputs.now (path_of directory.now e.file))
-        (I.read_refused inputs.now (path_of directory.now e.file)) ⊥ ⊤ e.fault) }
-    ensures needed { IfErr result (λ e. NeedsFile command e.file) }
+    purpose: Purpose,
+) -> Result<Option<Vec<u8>>, FileFault>
+    ensures table { IfOk result (λ t. IsTable (I.files inputs.now) directory.now purpose (option_map (λ v. v.items) t)) }
+    ensures fault { IfErr result (λ e. IsFileFault ((I.files inputs.now).cannot_open (path_of directory.now e.file))
+        ((I.files inputs.now).read_refused (path_of directory.now e.file)) ⊥ ⊤ e.fault) }
+    ensures needed { IfErr result (λ e. NeedsFile purpose e.file) }
 {
-    match command {
-        Command::OfForm(..) | Command::WellFormed(_) => Ok(None),
-        Command::OfMapper(..) => {
-            let table = read_file(alloc, inputs, directory, UcdFile::IdnaMappingTable)?;
-            Ok(Some(table))
-        }
+    if purpose == Purpose::Forms {
+        return Ok(None);
+    }
+    match read_file(alloc, inputs, directory, UcdFile::IdnaMappingTable) {
+        Ok(table) => Ok(Some(table)),
+        Err(error) => match (purpose, error.fault) {
+            (Purpose::Both, Fault::Open(ErrorKind::NotFound)) => Ok(None),
+            _ => Err(error),
+        },
     }
 }
 
@@ -124,40 +138,40 @@ pub(crate) fn read_file<I: Inputs>(
     inputs: &I,
     directory: &str,
     file: UcdFile,
-) -> Result<Vec<u8>, DataFault>
-    ensures bytes { IfOk result (λ v. IsFile (I.bytes_of inputs.now) (I.can_open inputs.now) directory.now file v.items) }
-    ensures fault { IfErr result (λ e. IsFileFault (I.cannot_open inputs.now (path_of directory.now e.file))
-        (I.read_refused inputs.now (path_of directory.now e.file)) ⊥ ⊤ e.fault) }
+) -> Result<Vec<u8>, FileFault>
+    ensures bytes { IfOk result (λ v. IsFile (I.files inputs.now) directory.now file v.items) }
+    ensures fault { IfErr result (λ e. IsFileFault ((I.files inputs.now).cannot_open (path_of directory.now e.file))
+        ((I.files inputs.now).read_refused (path_of directory.now e.file)) ⊥ ⊤ e.fault) }
     ensures file { IfErr result (λ e. e.file ≡ file) }
 {
     let Ok(path) = path(alloc, directory, file) else {
-        return Err(DataFault {
+        return Err(FileFault {
             file,
             fault: Fault::Memory,
         });
     };
     match read(alloc, inputs, path.as_str()) {
         Ok(bytes) => Ok(bytes),
-        Err(fault) => Err(DataFault { file, fault }),
+        Err(fault) => Err(FileFault { file, fault }),
     }
 }
 
 /// The bytes of a file.
 fn read<I: Inputs>(alloc: Global, inputs: &I, path: &str) -> Result<Vec<u8>, Fault>
-    ensures opened { OnOk result (I.can_open inputs.now path.now) }
-    ensures bytes { IfOk result (λ v. IfSome (I.bytes_of inputs.now path.now) (λ all. v.items ≡ all)) }
-    ensures fault { IfErr result (IsFileFault (I.cannot_open inputs.now path.now) (I.read_refused inputs.now path.now) ⊥
-        (I.unrefused inputs.now path.now)) }
+    ensures opened { OnOk result ((I.files inputs.now).can_open path.now) }
+    ensures bytes { IfOk result (λ v. IfSome ((I.files inputs.now).bytes_of path.now) (λ all. v.items ≡ all)) }
+    ensures fault { IfErr result (IsFileFault ((I.files inputs.now).cannot_open path.now)
+        ((I.files inputs.now).read_refused path.now) ⊥ ((I.files inputs.now).unrefused path.now)) }
 {
     let mut input = inputs.open(path)?;
     Ok(read_all(alloc, &mut input)?)
 }
 
 /// The data that the records of the files build.
-pub(crate) fn built(alloc: Global, files: &DataFiles) -> Result<Built, DataFault>
-    ensures built { IfOk result (λ b. (records : List RecordValue) × (uts46 : List Uts46RecordValue) × AreBuiltOf
+pub(crate) fn built(alloc: Global, files: &DataFiles) -> Result<Built, FileFault>
+    ensures built { IfOk result (λ b. (records : List RecordValue) × (uts46 : List Uts46RecordValue) × AreRecorded
         files.now.unicode_data.items files.now.exclusions.items (option_map (λ v. v.items) files.now.table)
-        records uts46 (data_in b)) }
+        records uts46 × Builds records uts46 (data_in b)) }
     ensures fault { IfErr result (λ e. IsFaultOf files.now.unicode_data.items files.now.exclusions.items
         (option_map (λ v. v.items) files.now.table) e.file e.fault) }
 {
@@ -175,7 +189,7 @@ fn of_ranges(
     records: &[Record],
     ranges: &[Uts46Range],
     error: BuildError,
-) -> DataFault
+) -> FileFault
     requires { IsSmallest records.now (flat_map entries_of ranges.now) error }
     ensures { IsFaultOfRecords (λ r. place_of_record files.now.unicode_data.items
         (unwrap_or (option_map (λ v. v.items) files.now.table) []) r) records.now (flat_map entries_of ranges.now)
@@ -183,7 +197,7 @@ fn of_ranges(
 {
     match records_of_ranges(alloc, ranges) {
         Ok(uts46) => of_records(alloc, files, records, &uts46, error),
-        Err(AllocError) => DataFault {
+        Err(AllocError) => FileFault {
             file: UcdFile::UnicodeData,
             fault: Fault::Memory,
         },
@@ -197,7 +211,7 @@ fn of_records(
     records: &[Record],
     uts46: &[Uts46Record],
     error: BuildError,
-) -> DataFault
+) -> FileFault
     requires { IsSmallest records.now uts46.now error }
     ensures { IsFaultOfRecords (λ r. place_of_record files.now.unicode_data.items
         (unwrap_or (option_map (λ v. v.items) files.now.table) []) r) records.now uts46.now result.file result.fault }
@@ -208,11 +222,11 @@ fn of_records(
         records_fault(alloc, files, records, uts46, error)
     };
     match fault {
-        Ok(fault) => DataFault {
+        Ok(fault) => FileFault {
             file: file_of(fault.place),
             fault: Fault::Records(fault),
         },
-        Err(AllocError) => DataFault {
+        Err(AllocError) => FileFault {
             file: UcdFile::UnicodeData,
             fault: Fault::Memory,
         },
@@ -260,7 +274,7 @@ fn file_of(place: Option<Place>) -> UcdFile
 }
 
 /// The records that the files yield, those of the mapper by ranges.
-fn records_of(alloc: Global, files: &DataFiles) -> Result<(Vec<Record>, Vec<Uts46Range>), DataFault>
+fn records_of(alloc: Global, files: &DataFiles) -> Result<(Vec<Record>, Vec<Uts46Range>), FileFault>
     ensures recorded { IfOk result (λ r. AreRecorded
         files.now.unicode_data.items files.now.exclusions.items (option_map (λ v. v.items) files.now.table)
         r.0.items (flat_map entries_of r.1.items)) }
@@ -291,7 +305,7 @@ fn mapper_ranges_of(alloc: Global, files: &DataFiles) -> Result<Vec<Uts46Range>,
 }
 
 /// The file that a line is of.
-fn of_file(error: UcdError) -> DataFault
+fn of_file(error: UcdError) -> FileFault
     ensures fault { result.fault ≡ fault_of_file error }
     ensures file { (fault : LineFault) → error ≡ UcdError.Line fault → result.file ≡ fault.place.file }
 {
@@ -299,7 +313,7 @@ fn of_file(error: UcdError) -> DataFault
         UcdError::Line(fault) => fault.place.file,
         UcdError::Memory => UcdFile::UnicodeData,
     };
-    DataFault {
+    FileFault {
         file,
         fault: Fault::from(error),
     }

@@ -1,120 +1,102 @@
 //! What works for a command.
-ghost use Rattle.std.specs.Prelude.{◌≡◌, ◌⊎◌, IfOk, IsErrOf, IsOkUnless, List, OnErr};
+ghost use Rattle.std.specs.Prelude.{◌≡◌, IfErr, IfOk, List};
 ghost use Rattle.icu_normalizer.specs.Building.{Builds};
 ghost use Rattle.icu_normalizer.specs.Built.{AreBuilt, data_in};
 ghost use Rattle.icu_normalizer.specs.RecordValue.{RecordValue, Uts46RecordValue};
-ghost use Rattle.normalizer_io.specs.Transfer.{IsUnrefused};
-ghost use Rattle.normalizer_streams.specs.Streams.{IsEndless};
-ghost use Rattle.normalizer_command.specs.Works.{work_by, Does, IsOfText, WellFormed, Work};
-ghost use Rattle.normalizer_command.specs.Written.{IsCutOff, IsWritten};
+ghost use Rattle.normalizer_command.specs.FileFaults.{IsTransferFault};
+ghost use Rattle.normalizer_command.specs.Making.{Makes, Making};
+ghost use Rattle.normalizer_command.specs.Works.{work_by, Does, OfForm, Work};
+ghost use Rattle.normalizer_command.specs.Written.{IsOutcome};
 
-use crate::mapping::MapperTask;
-use crate::normalizers::{mapper_over, normalizer_over};
-use crate::reply::{Answer, Task, yes_if};
+use crate::command::{Command, MapperTask, Task};
+use crate::fault::Fault;
+use crate::reply::{Answer, compared, write_known};
 use icu_normalizer::uts46::Uts46Mapper;
-use icu_normalizer::{AnyNormalizer, Built, NormalForm, NormalizeError};
-use normalizer_io::{Source, Target, TransferError};
-use normalizer_streams::{EncodingScheme, ErrorMode, write_ill_formed};
+use icu_normalizer::{AnyNormalizer, Built, built_mapper, normalizer_to};
+use normalizer_io::{Source, Target};
+use normalizer_streams::{ErrorMode, write_form};
 use std::alloc::Global;
-
-/// What is done with each file.
-#[derive(Clone, Copy, Debug, PartialEq, Eq)]
-pub enum Command {
-    /// Something of a normal form.
-    OfForm(Task, EncodingScheme, ErrorMode, NormalForm),
-    /// Something of the mapper.
-    OfMapper(MapperTask, EncodingScheme, ErrorMode),
-    /// Its ill-formed sequences are listed.
-    WellFormed(EncodingScheme),
-}
 
 /// A command with what it needs.
 #[derive(Drop)]
-pub enum Worker {
+pub(crate) enum Worker {
     /// Something of a normal form.
-    OfForm(Task, EncodingScheme, ErrorMode, AnyNormalizer),
+    OfForm(Task, ErrorMode, AnyNormalizer),
     /// Something of the mapper.
-    OfMapper(MapperTask, EncodingScheme, ErrorMode, Uts46Mapper),
-    /// Its ill-formed sequences are listed.
-    WellFormed(EncodingScheme),
+    OfMapper(MapperTask, ErrorMode, Uts46Mapper),
 }
 
 /// Returns what works for a command, by what the records mean.
 ///
 /// # Errors
 /// `Memory` if an allocation failed.
-pub fn worker_for(built: &Built, command: Command) -> Result<Worker, NormalizeError>
+pub(crate) fn worker_for(built: &Built, command: Command) -> Result<Worker, Fault>
     requires { AreBuilt (data_in built.now) }
     ensures does { (records : List RecordValue) (uts46 : List Uts46RecordValue) →
         Builds records uts46 (data_in built.now) → IfOk result (λ worker. Does worker (work_by records uts46 command)) }
-    ensures refused { IsOkUnless result NormalizeError.Memory }
+    ensures refused { IfErr result (λ fault. fault ≡ Fault.Memory) }
 {
     match command {
-        Command::OfForm(task, scheme, mode, form) => {
-            Ok(Worker::OfForm(task, scheme, mode, normalizer_over(built, form)?))
+        Command::OfForm(task, mode, form) => {
+            Ok(Worker::OfForm(task, mode, normalizer_to(built, form)?))
         }
-        Command::OfMapper(task, scheme, mode) => {
-            Ok(Worker::OfMapper(task, scheme, mode, mapper_over(built)?))
-        }
-        Command::WellFormed(scheme) => Ok(Worker::WellFormed(scheme)),
+        Command::OfMapper(task, mode) => match built_mapper(built) {
+            Ok(mapper) => Ok(Worker::OfMapper(task, mode, mapper)),
+            Err(_) => Err(Fault::Memory),
+        },
     }
 }
 
 impl Worker {
-    /// Reads to the end, and writes the reply to a file while it reads, if it is of no normal form.
-    ///
-    /// # Errors
-    /// - `Read` if a read failed, or the source has no end.
-    /// - `Write` if a write failed.
-    /// - `Memory` if an allocation failed.
-    ///
-    /// After each, a beginning of the reply was written, and nothing more is read or written.
-    pub fn write_reply<R: Source, W: Target>(
+    /// Does its work with what an open file has, and writes the reply.
+    pub(crate) fn handle<S: Source, W: Target>(
         &self,
         alloc: Global,
         name: &str,
-        reader: &mut R,
+        input: &mut S,
         writer: &mut W,
-    ) -> Result<Answer, TransferError>
-        requires { IsOfText self.now }
-        ensures done { (w : Work) → Does self.now w → IfOk result (IsWritten w name.now
-            (R.bytes_left reader.old) (W.bytes_taken writer.old) (W.bytes_taken writer.new)) }
-        ensures front { (w : Work) → Does self.now w → OnErr result (IsCutOff w name.now
-            (R.bytes_left reader.old) (W.bytes_taken writer.old) (W.bytes_taken writer.new)) }
-        ensures read { IsErrOf result TransferError.Read →
-            R.refusal reader.old reader.new ⊎ IsEndless (R.bytes_left reader.old) }
-        ensures write { IsErrOf result TransferError.Write → W.refusal writer.old writer.new }
-        ensures read_ahead { ¬ IsErrOf result TransferError.Read → IsUnrefused R.refusal reader.old reader.new }
-        ensures ahead { ¬ IsErrOf result TransferError.Write → IsUnrefused W.refusal writer.old writer.new }
+    ) -> Result<Answer, Fault>
+        ensures { (w : Work) → Does self.now w → IsOutcome w name.now
+            (S.bytes_left input.old) (W.bytes_taken writer.old) (W.bytes_taken writer.new)
+            (IsTransferFault S.bytes_left S.refusal W.refusal (input.old, writer.old) (input.new, writer.new))
+            (writer.new ≡ writer.old) result }
     {
         match self {
-            Worker::OfForm(..) => unreachable!(),
-            Worker::OfMapper(task, scheme, mode, mapper) => {
-                task.write_reply(alloc, *scheme, *mode, mapper, name, reader, writer)
+            Worker::OfForm(task, mode, normalizer) => {
+                task.handle(alloc, *mode, normalizer, name, input, writer)
             }
-            Worker::WellFormed(scheme) => write_list(alloc, *scheme, name, reader, writer),
+            Worker::OfMapper(task, mode, mapper) => {
+                task.handle(alloc, *mode, mapper, name, input, writer)
+            }
         }
     }
 }
 
-/// Writes the list of the ill-formed sequences.
-fn write_list<R: Source, W: Target>(
-    alloc: Global,
-    scheme: EncodingScheme,
-    name: &str,
-    reader: &mut R,
-    writer: &mut W,
-) -> Result<Answer, TransferError>
-    ensures done { IfOk result (IsWritten (WellFormed scheme) name.now
-        (R.bytes_left reader.old) (W.bytes_taken writer.old) (W.bytes_taken writer.new)) }
-    ensures front { OnErr result (IsCutOff (WellFormed scheme) name.now
-        (R.bytes_left reader.old) (W.bytes_taken writer.old) (W.bytes_taken writer.new)) }
-    ensures read { IsErrOf result TransferError.Read →
-        R.refusal reader.old reader.new ⊎ IsEndless (R.bytes_left reader.old) }
-    ensures write { IsErrOf result TransferError.Write → W.refusal writer.old writer.new }
-    ensures read_ahead { ¬ IsErrOf result TransferError.Read → IsUnrefused R.refusal reader.old reader.new }
-    ensures ahead { ¬ IsErrOf result TransferError.Write → IsUnrefused W.refusal writer.old writer.new }
-{
-    let is_silent = write_ill_formed(alloc, scheme, name, reader, writer)?;
-    Ok(yes_if(is_silent))
+impl Task {
+    /// Does its work with what an open file has, and writes the reply.
+    fn handle<S: Source, W: Target>(
+        self,
+        alloc: Global,
+        mode: ErrorMode,
+        normalizer: &AnyNormalizer,
+        name: &str,
+        input: &mut S,
+        writer: &mut W,
+    ) -> Result<Answer, Fault>
+        ensures { (m : Making) → Makes normalizer.now m → IsOutcome (OfForm self mode m) name.now
+            (S.bytes_left input.old) (W.bytes_taken writer.old) (W.bytes_taken writer.new)
+            (IsTransferFault S.bytes_left S.refusal W.refusal (input.old, writer.old) (input.new, writer.new))
+            (writer.new ≡ writer.old) result }
+    {
+        match self {
+            Task::Write => {
+                let ending = write_form(alloc, mode, normalizer, input, writer)?;
+                Ok(Answer::Ended(ending))
+            }
+            Task::Compare(listing) => {
+                let reply = compared(alloc, listing, mode, normalizer, name, input);
+                write_known(reply, writer)
+            }
+        }
+    }
 }

@@ -11,13 +11,9 @@ use Rattle.icu_normalizer.specs.InputCut.{IsErrorAt}
 use Rattle.icu_normalizer.specs.Step.{Step}
 use Rattle.icu_normalizer.proofs.EncodingRules.{IsDecoding-first}
 use Rattle.icu_normalizer.proofs.StepLemmas.{IsRight, rest-shorter, steps-append, steps-nil, steps-some, steps-take}
-use Rattle.normalizer_streams.specs.declared.scheme.EncodingScheme.{EncodingScheme}
-use Rattle.normalizer_streams.specs.declared.scheme.EncodingScheme.TheVariants.{Utf8, Utf16}
-use Rattle.normalizer_streams.specs.IllFormed.{steps_by, ill_formed, IsFirstIllFormed, IsWellFormedBy}
-use Rattle.normalizer_streams.specs.Schemes.{encoding_of, units_of, unit_len}
+use Rattle.normalizer_streams.specs.IllFormed.{steps_of, ill_formed, IsFirstIllFormed, IsWellFormedBy}
 use Rattle.normalizer_streams.specs.inner.Errors.{IsFirstErrorAt}
 use Rattle.normalizer_streams.proofs.CarriedLemmas.{take-sum}
-use Rattle.normalizer_streams.proofs.SchemeLemmas.{even-double, units-back, units-front, units-within}
 
 abbrev pub count_errors : List Step → ℕ
 count_errors ss = count_by (λ s. s.is_error) ss
@@ -102,45 +98,22 @@ module _ (e : Encoding) where
                 ]
           ]
 
--- a first ill-formed sequence of units, in bytes
-pub first_ill_formed-at : (scheme : EncodingScheme) (bytes : List ℕ) (n place : ℕ) → IsFirstErrorAt (encoding_of scheme) (units_of scheme bytes) n → place ≡ n * unit_len scheme
-    → (place ≤ length bytes) × IsFirstIllFormed scheme bytes (take place bytes)
-first_ill_formed-at Utf8 bytes n place f is =
-    let same : place ≡ n = omega arith in
-    subst (λ k. (k ≤ length bytes) × IsFirstIllFormed Utf8 bytes (take k bytes)) (sym same) (
-      omega (arith, f.here.within),
-      record {
-        rest = drop n bytes;
-        parts = sym (take-append-drop n bytes);
-        aligned = refl;
-        well_formed = f.before;
-        some = omega (arith, f.here.within, length-drop n bytes);
-        error = f.here.error;
-      },
-    )
-first_ill_formed-at (Utf16 order) bytes n place f is =
-    let same : place ≡ 2 * n = omega arith in
-    let within : 2 * n < length bytes = units-within order bytes n f.here.within in
-    subst (λ k. (k ≤ length bytes) × IsFirstIllFormed (Utf16 order) bytes (take k bytes)) (sym same) (
-      omega arith,
-      record {
-        rest = drop (2 * n) bytes;
-        parts = sym (take-append-drop (2 * n) bytes);
-        aligned = even-double n (length (take (2 * n) bytes)) (omega (arith, length-take (2 * n) bytes));
-        well_formed = subst (IsWellFormed (first_in Encoding.Utf16)) (sym (units-front order bytes n)) f.before;
-        some = omega (arith, length-drop (2 * n) bytes);
-        error = ap (λ x. (first_in Encoding.Utf16 x).is_error) (units-back order bytes n) ∙ f.here.error;
-      },
-    )
-
-pub first_ill_formed-utf8 : (bytes : List ℕ) (place : Option ℕ) → IfSome place (IsFirstErrorAt Encoding.Utf8 bytes)
-    → IfSome place (λ place. (place ≤ length bytes) × IsFirstIllFormed Utf8 bytes (take place bytes))
-first_ill_formed-utf8 bytes None f = tt
-first_ill_formed-utf8 bytes (Some place) f = first_ill_formed-at Utf8 bytes place place f (omega arith)
+-- the first ill-formed sequence of bytes
+pub first_ill_formed-at : (bytes : List ℕ) (place : ℕ) → IsFirstErrorAt Encoding.Utf8 bytes place → (place ≤ length bytes) × IsFirstIllFormed bytes (take place bytes)
+first_ill_formed-at bytes place f = (
+  omega (arith, f.here.within),
+  record {
+    rest = drop place bytes;
+    parts = sym (take-append-drop place bytes);
+    well_formed = f.before;
+    some = omega (arith, f.here.within, length-drop place bytes);
+    error = f.here.error;
+  },
+)
 
 -- bytes are well-formed, or have a first ill-formed sequence
-pub find_ill_formed : (scheme : EncodingScheme) (bytes : List ℕ) → IsWellFormedBy scheme bytes ⊎ ((front : List ℕ) × IsFirstIllFormed scheme bytes front)
-find_ill_formed scheme bytes = elim (find_error (encoding_of scheme) (units_of scheme bytes)) [
+pub find_ill_formed : (bytes : List ℕ) → IsWellFormedBy bytes ⊎ ((front : List ℕ) × IsFirstIllFormed bytes front)
+find_ill_formed bytes = elim (find_error Encoding.Utf8 bytes) [
   | inl none ↦ inl none
-  | inr found ↦ inr (take (found.0 * unit_len scheme) bytes, (first_ill_formed-at scheme bytes found.0 (found.0 * unit_len scheme) found.1 refl).1)
+  | inr found ↦ inr (take found.0 bytes, (first_ill_formed-at bytes found.0 found.1).1)
 ]

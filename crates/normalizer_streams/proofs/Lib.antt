@@ -3,11 +3,9 @@ pub mod CarriedLemmas
 pub mod ErrorLemmas
 pub mod LineLemmas
 pub mod LineLists
-pub mod ListingLemmas
 pub mod MoveLemmas
 pub mod PassLemmas
 pub mod WatchLemmas
 pub mod ContinuedRuns
-pub mod SchemeLemmas
 pub mod SettledLemmas
 pub mod ComparisonLemmas

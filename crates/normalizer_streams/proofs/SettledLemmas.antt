@@ -15,10 +15,8 @@ use Rattle.icu_normalizer.proofs.StepLemmas.{decoded-some}
 use Rattle.icu_normalizer.specs.DecodingSteps.{steps}
 use Rattle.icu_normalizer.specs.EncodedForm.{encoded_form}
 use Rattle.icu_normalizer.specs.BoundaryBefore.{HasBoundaryBefore}
-use Rattle.normalizer_streams.specs.declared.scheme.EncodingScheme.{EncodingScheme}
-use Rattle.normalizer_streams.specs.Schemes.{bytes_of, encoding_of, first_by, is_aligned, units_of}
+use Rattle.normalizer_streams.specs.IllFormed.{first_of}
 use Rattle.normalizer_streams.specs.inner.Moves.{IsSettled}
-use Rattle.normalizer_streams.proofs.SchemeLemmas.{bytes-append, units-append, units-some}
 
 -- a unit that begins a whole character can't come after the first one of a step
 pub leads : (e : Encoding) (units : List ℕ) (place : ℕ) → place < length units → (first_in e (drop place units)).is_error ≡ false → trails_in e (slice_index units place) ≡ false
@@ -71,31 +69,21 @@ module _ (e : Encoding) (d : Reading) (form : Form) where
       encoded_form-parts (front ++ rest) place within (ap (λ x. (first_in e x).is_error) after ∙ right) (subst (λ x. HasBoundaryBefore d form (first_in e x).character) (sym after) apart)
       ∙ ap (λ x. encoded_form e d form x ++ encoded_form e d form (drop place (front ++ rest))) before ∙ ap (λ x. encoded_form e d form front ++ encoded_form e d form x) after
 
--- the bytes of the form of what bytes spell
-abbrev pub form_in : EncodingScheme → Reading → Form → List ℕ → List ℕ
-form_in scheme d form bytes = bytes_of scheme (encoded_form (encoding_of scheme) d form (units_of scheme bytes))
+-- the form of bytes
+abbrev pub form_in : Reading → Form → List ℕ → List ℕ
+form_in d form bytes = encoded_form Encoding.Utf8 d form bytes
 
-pub IsSettled-character : (scheme : EncodingScheme) (d : Reading) (form : Form) (bytes : List ℕ) (place : ℕ) → 0 < place → place < length bytes → is_aligned scheme place ≡ true
-    → (first_by scheme (drop place bytes)).is_error ≡ false → HasBoundaryBefore d form (first_by scheme (drop place bytes)).character → IsSettled scheme (form_in scheme d form) bytes place
-IsSettled-character scheme d form bytes place positive within aligned right apart =
-    let e = encoding_of scheme in
-    let front = take place bytes in
-    let bytes_after = drop place bytes in
-    let size : length front ≡ place = omega (arith, length-take place bytes) in
-    let whole : is_aligned scheme (length front) ≡ true = ap (is_aligned scheme) size ∙ aligned in
-    record {
-      positive = positive;
-      within = within;
-      divided = record {
-        aligned = whole;
-        begins = record { some = omega (arith, length-drop place bytes); whole = right };
-        apart = λ rest alike.
-            let parts = encoded_form-append e d form (units_of scheme front) (units_of scheme rest) (units-some scheme rest alike.some)
-            (ap (λ s. s.is_error) alike.same ∙ right) (subst (λ s. HasBoundaryBefore d form s.character) (sym alike.same) apart) in
-            ap (λ x. bytes_of scheme (encoded_form e d form x)) (units-append scheme front rest whole) ∙ ap (bytes_of scheme) parts
-            ∙ bytes-append scheme (encoded_form e d form (units_of scheme front)) (encoded_form e d form (units_of scheme rest));
-        steps_apart = λ rest alike.
-            ap (steps (first_in e)) (units-append scheme front rest whole)
-            ∙ steps-divided e (units_of scheme front) (units_of scheme rest) (units-some scheme rest alike.some) (ap (λ s. s.is_error) alike.same ∙ right);
-      };
-    }
+pub IsSettled-character : (d : Reading) (form : Form) (bytes : List ℕ) (place : ℕ) → 0 < place → place < length bytes
+    → (first_of (drop place bytes)).is_error ≡ false → HasBoundaryBefore d form (first_of (drop place bytes)).character → IsSettled (form_in d form) bytes place
+IsSettled-character d form bytes place positive within right apart = record {
+  positive = positive;
+  within = within;
+  divided = record {
+    begins = record { some = omega (arith, length-drop place bytes); whole = right };
+    apart = λ rest alike.
+        encoded_form-append Encoding.Utf8 d form (take place bytes) rest alike.some
+        (ap (λ s. s.is_error) alike.same ∙ right) (subst (λ s. HasBoundaryBefore d form s.character) (sym alike.same) apart);
+    steps_apart = λ rest alike.
+        steps-divided Encoding.Utf8 (take place bytes) rest alike.some (ap (λ s. s.is_error) alike.same ∙ right);
+  };
+}

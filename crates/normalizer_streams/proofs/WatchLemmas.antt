@@ -3,20 +3,16 @@ use Rattle.std.proofs.Common.{◌≡◌, ℕ, ◌+◌, ◌-◌, ◌^◌, ◌<◌
 use Rattle.std.specs.Prelude.{count_by, take_while, not, ◌==◌}
 use Rattle.std.proofs.lemmas.List.{length-reverse, reverse-append}
 use Rattle.std.proofs.lemmas.List.Sums.{sum_by-append, take_while-cons}
-use Rattle.normalizer_streams.specs.declared.scheme.EncodingScheme.{EncodingScheme}
 use Rattle.std.proofs.lemmas.List.Elements.{All-nil, All-same}
 use Rattle.icu_normalizer.proofs.StepLemmas.{IsRight}
 use Rattle.normalizer_streams.specs.declared.ill_formed.ErrorMode.{ErrorMode}
 use Rattle.normalizer_streams.specs.declared.ill_formed.ErrorMode.TheVariants.{Fatal, Replacement}
 use Rattle.normalizer_streams.specs.declared.position.Cursor.{Cursor}
-use Rattle.normalizer_streams.specs.declared.scheme.EncodingScheme.TheVariants.{Utf8, Utf16}
 use Rattle.normalizer_streams.specs.declared.watch.Watch.{Watch}
 use Rattle.normalizer_streams.specs.IllFormed.{IsWellFormedBy}
-use Rattle.normalizer_streams.specs.Positions.{counted, line_after, units_before}
-use Rattle.normalizer_streams.specs.Schemes.{units_of}
+use Rattle.normalizer_streams.specs.Positions.{counted, line_after, bytes_before}
 use Rattle.normalizer_streams.specs.inner.Watches.{IsCursorAfter, Joins, Watches}
-use Rattle.normalizer_streams.proofs.PassLemmas.{steps_by-nil, well_formed-joined}
-use Rattle.normalizer_streams.proofs.SchemeLemmas.{units-append}
+use Rattle.normalizer_streams.proofs.PassLemmas.{steps_of-nil, well_formed-joined}
 use Rattle.normalizer_streams.proofs.ErrorLemmas.{count_errors}
 
 -- ---- many bytes more
@@ -49,44 +45,40 @@ module _ (front us : List ℕ) where
   joined_lines : line_after (front ++ us) ≡ line_after front + count_by (λ u. u == 0x0A) us
   joined_lines = omega (arith, sum_by-append (λ (u : ℕ). cond (u == 0x0A) 1 0) front us)
 
-  joined_units-all : units_before us ≡ length us → units_before (front ++ us) ≡ units_before front + length us
-  joined_units-all all =
+  joined_bytes-all : bytes_before us ≡ length us → bytes_before (front ++ us) ≡ bytes_before front + length us
+  joined_bytes-all all =
       let p : ℕ → Bool = λ u. not (u == 0x0A) in
       let size = length-reverse us in
       let sum = while-all p (reverse us) (reverse front) (omega (arith, all, size)) in
       omega (arith, size, sum, ap (λ x. length (take_while p x)) (reverse-append front us))
 
-  joined_units-some : units_before us < length us → units_before (front ++ us) ≡ units_before us
-  joined_units-some some =
+  joined_bytes-some : bytes_before us < length us → bytes_before (front ++ us) ≡ bytes_before us
+  joined_bytes-some some =
       let p : ℕ → Bool = λ u. not (u == 0x0A) in
       ap (λ x. length (take_while p x)) (reverse-append front us) ∙ while-some p (reverse us) (reverse front) (omega (arith, some, length-reverse us))
 
-  pub cursor-in_line : (c c' : Cursor) → IsCursorAfter front c → units_before us ≡ length us → c'.line ≡ min (c.line + count_by (λ u. u == 0x0A) us) (2 ^ 64 - 1)
-      → c'.units ≡ min (c.units + units_before us) (2 ^ 64 - 1) → IsCursorAfter (front ++ us) c'
-  cursor-in_line c c' at all line units = record {
+  pub cursor-in_line : (c c' : Cursor) → IsCursorAfter front c → bytes_before us ≡ length us → c'.line ≡ min (c.line + count_by (λ u. u == 0x0A) us) (2 ^ 64 - 1)
+      → c'.bytes ≡ min (c.bytes + bytes_before us) (2 ^ 64 - 1) → IsCursorAfter (front ++ us) c'
+  cursor-in_line c c' at all line bytes = record {
     line_is = omega (arith, line, at.line_is, joined_lines);
-    units_is = omega (arith, units, at.units_is, joined_units-all all, all);
+    bytes_is = omega (arith, bytes, at.bytes_is, joined_bytes-all all, all);
   }
 
-  pub cursor-in_other : (c c' : Cursor) → IsCursorAfter front c → units_before us < length us → units_before us ≤ 2 ^ 64 - 1 → c'.line ≡ min (c.line + count_by (λ u. u == 0x0A) us) (2 ^ 64 - 1)
-      → c'.units ≡ units_before us → IsCursorAfter (front ++ us) c'
-  cursor-in_other c c' at some fits line units = record {
+  pub cursor-in_other : (c c' : Cursor) → IsCursorAfter front c → bytes_before us < length us → bytes_before us ≤ 2 ^ 64 - 1 → c'.line ≡ min (c.line + count_by (λ u. u == 0x0A) us) (2 ^ 64 - 1)
+      → c'.bytes ≡ bytes_before us → IsCursorAfter (front ++ us) c'
+  cursor-in_other c c' at some fits line bytes = record {
     line_is = omega (arith, line, at.line_is, joined_lines);
-    units_is = omega (arith, units, fits, joined_units-some some);
+    bytes_is = omega (arith, bytes, fits, joined_bytes-some some);
   }
 
 -- ---- a watch
 
-pub units_of-nil : (scheme : EncodingScheme) → units_of scheme [] ≡ []
-units_of-nil Utf8 = refl
-units_of-nil (Utf16 order) = refl
-
-pub Watches-none : (scheme : EncodingScheme) (mode : ErrorMode) (cursor : Cursor) → IsCursorAfter [] cursor → Watches scheme mode (record { mode = mode; found = 0; cursor = cursor }) []
-Watches-none scheme Replacement cursor c = (refl, sym (ap (λ ss. counted (count_errors ss)) (steps_by-nil scheme)))
-Watches-none scheme Fatal cursor c = (refl, (refl, All-same IsRight _ _ (steps_by-nil scheme) (All-nil IsRight), subst (λ units. IsCursorAfter units cursor) (sym (units_of-nil scheme)) c))
+pub Watches-none : (mode : ErrorMode) (cursor : Cursor) → IsCursorAfter [] cursor → Watches mode (record { mode = mode; found = 0; cursor = cursor }) []
+Watches-none Replacement cursor c = (refl, sym (ap (λ ss. counted (count_errors ss)) (steps_of-nil)))
+Watches-none Fatal cursor c = (refl, (refl, All-same IsRight _ _ (steps_of-nil) (All-nil IsRight), c))
 
 -- a well-formed piece is passed
-pub Watches-passed : (scheme : EncodingScheme) (passed piece : List ℕ) (w w' : Watch) → Joins scheme passed piece → Watches scheme Fatal w passed → IsWellFormedBy scheme piece
-    → w'.mode ≡ w.mode → w'.found ≡ w.found → IsCursorAfter (units_of scheme passed ++ units_of scheme piece) w'.cursor → Watches scheme Fatal w' (passed ++ piece)
-Watches-passed scheme passed piece w w' j was right mode found cursor =
-    (mode ∙ was.0, (found ∙ was.1.0, well_formed-joined scheme passed piece j.apart was.1.1 right, subst (λ units. IsCursorAfter units w'.cursor) (sym (units-append scheme passed piece j.aligned)) cursor))
+pub Watches-passed : (passed piece : List ℕ) (w w' : Watch) → Joins passed piece → Watches Fatal w passed → IsWellFormedBy piece
+    → w'.mode ≡ w.mode → w'.found ≡ w.found → IsCursorAfter (passed ++ piece) w'.cursor → Watches Fatal w' (passed ++ piece)
+Watches-passed passed piece w w' j was right mode found cursor =
+    (mode ∙ was.0, (found ∙ was.1.0, well_formed-joined passed piece j was.1.1 right, cursor))

@@ -1,12 +1,9 @@
 -- What becomes of a reply to a stream.
 use Rattle.std.specs.Prelude.{◌≡◌, ℕ, ◌==◌, Bool, true, false, List, [], ◌∷◌, count_by, Option, IfSome}
 use Rattle.std.specs.Io.KnownBytes.{Appends}
-use Rattle.normalizer_io.specs.Transfer.{AppendsFront}
 use Rattle.normalizer_streams.specs.IllFormed.{Ends}
-use Rattle.normalizer_streams.specs.IllFormedLines.{ill_formed_lines}
 use Rattle.normalizer_streams.specs.declared.ill_formed.ErrorMode.{ErrorMode}
 use Rattle.normalizer_streams.specs.declared.lines.Replied.{Replied}
-use Rattle.normalizer_streams.specs.declared.scheme.EncodingScheme.{EncodingScheme}
 
 -- there are no bytes
 abbrev pub is_nothing : List ℕ → Bool
@@ -19,25 +16,11 @@ feeds text = count_by (λ c. c == 0x0A) text
 
 -- By the bytes that are left in a source, if it reports them, and by those that a target took before and after: the
 -- target took the reply to the text that is read of them.
-pub record IsReplyWritten (scheme : EncodingScheme) (mode : ErrorMode) (reply : List ℕ → List ℕ)
+pub record IsReplyWritten (mode : ErrorMode) (reply : List ℕ → List ℕ)
     (left before after : Option (List ℕ)) (replied : Replied) : Type 0 where
   pub input : List ℕ
   pub whole : IfSome left (λ all. input ≡ all)
   pub text : List ℕ
-  pub ends : Ends scheme mode input text replied.ending
+  pub ends : Ends mode input text replied.ending
   pub output : Appends before after (reply text)
   pub silent : replied.is_silent ≡ is_nothing (reply text)
-
--- the target took the list of all ill-formed sequences; it is empty, or it isn't
-pub record IsListed (scheme : EncodingScheme) (name : List ℕ) (left before after : Option (List ℕ))
-    (is_well_formed : Bool) : Type 0 where
-  pub input : List ℕ
-  pub whole : IfSome left (λ all. input ≡ all)
-  pub output : Appends before after (ill_formed_lines scheme name input)
-  pub silent : is_well_formed ≡ is_nothing (ill_formed_lines scheme name input)
-
--- the target took a beginning of it
-pub record IsListCutOff (scheme : EncodingScheme) (name : List ℕ) (left before after : Option (List ℕ)) : Type 0 where
-  pub input : List ℕ
-  pub whole : IfSome left (λ all. input ≡ all)
-  pub output : AppendsFront before after (ill_formed_lines scheme name input)

@@ -2,6 +2,5 @@
 pub mod Agreements
 pub mod Errors
 pub mod LineMoves
-pub mod Listing
 pub mod Moves
 pub mod Watches

@@ -1,23 +1,6 @@
 //! Bytes that were read from a source.
-ghost use Rattle.std.specs.Prelude.{
-  ◌≡◌,
-  ◌⊎◌,
-  ◌+◌,
-  ◌<◌,
-  ◌≤◌,
-  ℕ,
-  List,
-  [],
-  drop,
-  length,
-  take,
-  vec_len,
-  IfErr,
-  IfOk,
-  IsErrOf,
-  OnErr,
-  OnOk,
-};
+ghost use Rattle.std.specs.Prelude.{◌≡◌, ◌⊎◌, ◌+◌, ◌<◌, ◌≤◌, ℕ, List, [], drop, length, take, vec_len, IfErr, IfOk};
+ghost use Rattle.std.specs.Prelude.{IsErrOf, OnErr, OnOk};
 ghost use Rattle.std.specs.Io.KnownBytes.{Keeps, ReadConsumes};
 ghost use Rattle.normalizer_streams.specs.inner.Moves.{Carries};
 

@@ -1,14 +1,9 @@
 //! Ill-formed sequences in bytes.
-ghost use Rattle.std.specs.Prelude.{◌≡◌, ◌≤◌, cond, count_by, length, take, IfNone, IfOk, IfSome};
-ghost use Rattle.icu_normalizer.specs.DecodingSteps.{steps, IsWellFormed};
-ghost use Rattle.icu_normalizer.specs.Encodings.{Encoding, first_in};
+ghost use Rattle.std.specs.Prelude.{◌≡◌, ◌≤◌, cond, length, take, IfNone, IfSome};
 ghost use Rattle.normalizer_streams.specs.IllFormed.{ill_formed, IsFirstIllFormed, IsWellFormedBy};
-ghost use Rattle.normalizer_streams.specs.inner.Errors.{IsFirstErrorAt};
 
 use crate::position::Position;
-use crate::scheme::EncodingScheme;
 use icu_normalizer::Units;
-use std::alloc::{AllocError, Global};
 use std::str;
 
 /// What becomes of ill-formed sequences, by the names of the Encoding Standard.
@@ -29,44 +24,9 @@ pub enum Ending {
     Stopped(Position),
 }
 
-/// Returns how many ill-formed sequences bytes have.
-pub(crate) fn ill_formed_in(
-    alloc: Global,
-    scheme: EncodingScheme,
-    bytes: &[u8],
-) -> Result<usize, AllocError>
-    ensures { IfOk result (λ count. count ≡ ill_formed scheme bytes.now) }
-{
-    match scheme {
-        EncodingScheme::Utf8 => Ok(errors_of_utf8(bytes)),
-        EncodingScheme::Utf16(order) => Ok(errors(order.units(alloc, bytes)?.as_slice())),
-    }
-}
-
-/// Returns the place of the first ill-formed sequence, if there is one.
-pub(crate) fn first_ill_formed(
-    alloc: Global,
-    scheme: EncodingScheme,
-    bytes: &[u8],
-) -> Result<Option<usize>, AllocError>
-    ensures first { IfOk result (λ place. IfSome place (λ place. (place ≤ length bytes.now)
-        × IsFirstIllFormed scheme bytes.now (take place bytes.now))) }
-    ensures none { IfOk result (λ place. IfNone place (IsWellFormedBy scheme bytes.now)) }
-{
-    match scheme {
-        EncodingScheme::Utf8 => Ok(first_error_of_utf8(bytes)),
-        EncodingScheme::Utf16(order) => {
-            match first_error(order.units(alloc, bytes)?.as_slice()) {
-                Some(place) => Ok(Some(place.saturating_mul(2).min(bytes.len()))),
-                None => Ok(None),
-            }
-        }
-    }
-}
-
-/// How many ill-formed sequences bytes have as UTF-8. Well-formed bytes, which most are, are read faster.
-fn errors_of_utf8(bytes: &[u8]) -> usize
-    ensures { result ≡ ill_formed EncodingScheme.Utf8 bytes.now }
+/// Returns how many ill-formed sequences bytes have. Well-formed bytes, which most are, are read faster.
+pub(crate) fn ill_formed_in(bytes: &[u8]) -> usize
+    ensures { result ≡ ill_formed bytes.now }
 {
     match str::from_utf8(bytes) {
         Ok(_) => 0,
@@ -74,10 +34,11 @@ fn errors_of_utf8(bytes: &[u8]) -> usize
     }
 }
 
-/// The place of the first ill-formed sequence of bytes as UTF-8.
-fn first_error_of_utf8(bytes: &[u8]) -> Option<usize>
-    ensures first { IfSome result (IsFirstErrorAt Encoding.Utf8 bytes.now) }
-    ensures none { IfNone result (IsWellFormed (first_in Encoding.Utf8) bytes.now) }
+/// Returns the place of the first ill-formed sequence, if there is one.
+pub(crate) fn first_ill_formed(bytes: &[u8]) -> Option<usize>
+    ensures first { IfSome result (λ place. (place ≤ length bytes.now)
+        × IsFirstIllFormed bytes.now (take place bytes.now)) }
+    ensures none { IfNone result (IsWellFormedBy bytes.now) }
 {
     match str::from_utf8(bytes) {
         Ok(_) => None,
@@ -85,14 +46,13 @@ fn first_error_of_utf8(bytes: &[u8]) -> Option<usize>
     }
 }
 
-/// How many ill-formed sequences units have.
-fn errors<U: Units>(units: U) -> usize
-    ensures { result ≡ count_by (λ s. s.is_error) (steps (first_in U.encoding) (U.units units)) }
+fn errors(bytes: &[u8]) -> usize
+    ensures { result ≡ ill_formed bytes.now }
 {
     let mut count = 0;
     let mut place = 0;
-    while place < units.len() {
-        let step = units.step_at(place);
+    while place < bytes.len() {
+        let step = bytes.step_at(place);
         count += one_if(step.is_error);
         place += step.width;
     }
@@ -105,14 +65,14 @@ fn one_if(yes: bool) -> usize
     if yes { 1 } else { 0 }
 }
 
-/// The place of the first ill-formed sequence of units.
-fn first_error<U: Units>(units: U) -> Option<usize>
-    ensures first { IfSome result (IsFirstErrorAt U.encoding (U.units units)) }
-    ensures none { IfNone result (IsWellFormed (first_in U.encoding) (U.units units)) }
+fn first_error(bytes: &[u8]) -> Option<usize>
+    ensures first { IfSome result (λ place. (place ≤ length bytes.now)
+        × IsFirstIllFormed bytes.now (take place bytes.now)) }
+    ensures none { IfNone result (IsWellFormedBy bytes.now) }
 {
     let mut place = 0;
-    while place < units.len() {
-        let step = units.step_at(place);
+    while place < bytes.len() {
+        let step = bytes.step_at(place);
         if step.is_error {
             return Some(place);
         }

@@ -1,34 +1,10 @@
 //! What is replied to the lines of a source, which is read block by block.
-ghost use Rattle.std.specs.Prelude.{
-  ◌≡◌,
-  ◌⊎◌,
-  ◌+◌,
-  ◌-◌,
-  ◌^◌,
-  ◌<◌,
-  ◌≤◌,
-  ◌∷◌,
-  ◌++◌,
-  true,
-  false,
-  ℕ,
-  List,
-  [],
-  length,
-  take,
-  IfErr,
-  IfNone,
-  IfOk,
-  IfSome,
-  IsErrOf,
-  None,
-  OnErr,
-  OnOk,
-};
+ghost use Rattle.std.specs.Prelude.{◌≡◌, ◌⊎◌, ◌+◌, ◌-◌, ◌^◌, ◌<◌, ◌≤◌, ◌∷◌, ◌++◌, true, false, ℕ, List, [], length};
+ghost use Rattle.std.specs.Prelude.{take, IfErr, IfNone, IfOk, IfSome, IsErrOf, None, OnErr, OnOk};
 ghost use Rattle.std.specs.Io.KnownBytes.{Appends, IsAtEnd};
 ghost use Rattle.normalizer_io.specs.Transfer.{AppendsFront, IsUnrefused};
 ghost use Rattle.normalizer_streams.specs.Replies.{feeds, is_nothing, IsReplyWritten};
-ghost use Rattle.normalizer_streams.specs.Schemes.{decoded_by};
+ghost use Rattle.normalizer_streams.specs.IllFormed.{decoded};
 ghost use Rattle.normalizer_streams.specs.Streams.{IsEndless, IsFormCutOff};
 ghost use Rattle.normalizer_streams.specs.declared.ill_formed.ErrorMode.{ErrorMode};
 ghost use Rattle.normalizer_streams.specs.declared.watch.Stop.{Stop};
@@ -37,14 +13,11 @@ ghost use Rattle.normalizer_streams.specs.inner.Watches.{Joins, Watches};
 
 use crate::carried::Carried;
 use crate::ill_formed::{Ending, ErrorMode};
-use crate::scheme::{ByteOrder, EncodingScheme};
 use crate::stream::text_in;
 use crate::watch::{Stop, Watch};
+use icu_normalizer::Chars;
 use normalizer_io::{Source, Target, TransferError, write_all};
 use std::alloc::{AllocError, Global};
-
-/// U+000A as a unit.
-const LINE_FEED: u16 = 0x0A;
 
 /// What replies to the lines of a text.
 pub trait LineTask {
@@ -104,16 +77,15 @@ struct Progress {
 /// After each, a beginning of the reply was written, and nothing more is read or written.
 pub fn write_replies<R: Source, W: Target, T: LineTask>(
     alloc: Global,
-    scheme: EncodingScheme,
     mode: ErrorMode,
     task: &T,
     reader: &mut R,
     writer: &mut W,
 ) -> Result<Replied, TransferError>
-    ensures reply { IfOk result (IsReplyWritten scheme mode (λ bytes. T.reply task.now 0 (decoded_by scheme bytes))
+    ensures reply { IfOk result (IsReplyWritten mode (λ bytes. T.reply task.now 0 (decoded bytes))
         (R.bytes_left reader.old) (W.bytes_taken writer.old) (W.bytes_taken writer.new)) }
     ensures end { IfOk result (λ r. (count : ℕ) → r.ending ≡ Ending.Whole count → IsAtEnd (R.bytes_left reader.new)) }
-    ensures front { OnErr result (IsFormCutOff scheme mode (λ bytes. T.reply task.now 0 (decoded_by scheme bytes))
+    ensures front { OnErr result (IsFormCutOff mode (λ bytes. T.reply task.now 0 (decoded bytes))
         (R.bytes_left reader.old) (W.bytes_taken writer.old) (W.bytes_taken writer.new)) }
     ensures read { IsErrOf result TransferError.Read →
         R.refusal reader.old reader.new ⊎ IsEndless (R.bytes_left reader.old) }
@@ -130,16 +102,9 @@ pub fn write_replies<R: Source, W: Target, T: LineTask>(
         let searched = carried.bytes().len();
         let is_last = !carried.read_block(reader)?;
         let bytes = carried.bytes();
-        let end = end_of_piece(scheme, bytes, searched, is_last);
-        let stop = reply_to_piece(
-            alloc,
-            scheme,
-            &bytes[..end],
-            task,
-            &mut progress,
-            &mut output,
-            writer,
-        )?;
+        let end = end_of_piece(bytes, searched, is_last);
+        let piece = &bytes[..end];
+        let stop = reply_to_piece(alloc, piece, task, &mut progress, &mut output, writer)?;
         if let Some(replied) = progress.replied(stop, is_last) {
             return Ok(replied);
         }
@@ -150,7 +115,7 @@ pub fn write_replies<R: Source, W: Target, T: LineTask>(
 
 impl Progress {
     fn new(mode: ErrorMode) -> Progress
-        ensures watch { (scheme : EncodingScheme) → Watches scheme mode result.watch [] }
+        ensures watch { Watches mode result.watch [] }
         ensures lines { result.lines ≡ 0 }
         ensures silent { result.is_silent ≡ true }
     {
@@ -182,7 +147,6 @@ impl Progress {
 /// Replies to a piece, up to where the text ends in it, which is returned.
 fn reply_to_piece<W: Target, T: LineTask>(
     alloc: Global,
-    scheme: EncodingScheme,
     piece: &[u8],
     task: &T,
     progress: &mut Progress,
@@ -190,21 +154,21 @@ fn reply_to_piece<W: Target, T: LineTask>(
     writer: &mut W,
 ) -> Result<Option<Stop>, TransferError>
     ensures replied { IfOk result (λ stop. (mode : ErrorMode) (passed written : List ℕ) →
-        Joins scheme passed piece.now → Watches scheme mode progress.old.watch passed →
-        progress.old.is_silent ≡ is_nothing written → IsPieceReplied scheme mode (T.reply task.now) progress.old
+        Joins passed piece.now → Watches mode progress.old.watch passed →
+        progress.old.is_silent ≡ is_nothing written → IsPieceReplied mode (T.reply task.now) progress.old
         progress.new passed written piece.now output.new.items stop) }
     ensures written { OnOk result (Appends (W.bytes_taken writer.old) (W.bytes_taken writer.new) output.new.items) }
     ensures front { IsErrOf result TransferError.Write → (mode : ErrorMode) (passed : List ℕ) →
-        Joins scheme passed piece.now → Watches scheme mode progress.old.watch passed →
-        IsPieceCutOff scheme mode (T.reply task.now) progress.old passed piece.now
+        Joins passed piece.now → Watches mode progress.old.watch passed →
+        IsPieceCutOff mode (T.reply task.now) progress.old passed piece.now
         (W.bytes_taken writer.old) (W.bytes_taken writer.new) }
     ensures write { IsErrOf result TransferError.Write → W.refusal writer.old writer.new }
     ensures unwritten { IfErr result (λ error. (error ≡ TransferError.Write) ⊎ (writer.new ≡ writer.old)) }
     ensures read { IsErrOf result TransferError.Read → 2 ^ 64 - 1 ≤ progress.old.lines + length piece.now }
     ensures ahead { OnOk result (IsUnrefused W.refusal writer.old writer.new) }
 {
-    let stop = progress.watch.note(alloc, scheme, piece)?;
-    let text = scheme.decode(alloc, text_in(piece, stop))?;
+    let stop = progress.watch.note(piece);
+    let text = decoded(alloc, text_in(piece, stop))?;
     let Some(lines) = lines_after(progress.lines, &text) else {
         return Err(TransferError::Read);
     };
@@ -236,51 +200,28 @@ fn feeds(text: &[char]) -> usize
 }
 
 /// The end of what can be replied to: of all bytes, if they are the last ones, or of the last whole line. All places
-/// up to `searched` but for the last one have been searched.
-fn end_of_piece(scheme: EncodingScheme, bytes: &[u8], searched: usize, is_last: bool) -> usize
+/// up to `searched` have been searched.
+fn end_of_piece(bytes: &[u8], searched: usize, is_last: bool) -> usize
     ensures within { result ≤ length bytes.now }
     ensures last { is_last ≡ true → result ≡ length bytes.now }
-    ensures lines { is_last ≡ false → (result ≡ 0) ⊎ EndsLine scheme (take result bytes.now) }
+    ensures lines { is_last ≡ false → (result ≡ 0) ⊎ EndsLine (take result bytes.now) }
 {
     if is_last {
         return bytes.len();
     }
-    let mut place = bytes.len();
-    while place > searched.saturating_sub(1) {
-        place -= 1;
-        if let Some(end) = end_of_line(scheme, bytes, place) {
+    let mut end = bytes.len();
+    while end > searched {
+        if bytes[end - 1] == b'\n' {
             return end;
         }
+        end -= 1;
     }
     0
 }
 
-/// The place after a line feed at a place, if there is one.
-fn end_of_line(scheme: EncodingScheme, bytes: &[u8], place: usize) -> Option<usize>
-    requires { place < length bytes.now }
-    ensures within { IfSome result (λ end. end ≤ length bytes.now) }
-    ensures line { IfSome result (λ end. EndsLine scheme (take end bytes.now)) }
+/// The text that bytes decode to.
+fn decoded(alloc: Global, bytes: &[u8]) -> Result<Vec<char>, AllocError>
+    ensures { IfOk result (λ text. text.items ≡ decoded bytes.now) }
 {
-    match scheme {
-        EncodingScheme::Utf8 => {
-            if bytes[place] == b'\n' {
-                Some(place + 1)
-            } else {
-                None
-            }
-        }
-        EncodingScheme::Utf16(order) => end_of_wide_line(order, bytes, place),
-    }
-}
-
-fn end_of_wide_line(order: ByteOrder, bytes: &[u8], place: usize) -> Option<usize>
-    requires { place < length bytes.now }
-    ensures within { IfSome result (λ end. end ≤ length bytes.now) }
-    ensures line { IfSome result (λ end. EndsLine (EncodingScheme.Utf16 order) (take end bytes.now)) }
-{
-    if place % 2 == 0 && place + 1 < bytes.len() && order.unit_at(bytes, place) == LINE_FEED {
-        Some(place + 2)
-    } else {
-        None
-    }
+    Chars::new(bytes).collect(alloc)
 }

@@ -1,21 +1,6 @@
 //! The first place at which a source isn't already normalized.
-ghost use Rattle.std.specs.Prelude.{
-  ◌≡◌,
-  ◌⊎◌,
-  ◌≤◌,
-  ◌++◌,
-  ℕ,
-  List,
-  length,
-  take,
-  unwrap_or,
-  IfErr,
-  IfNone,
-  IfOk,
-  IfSome,
-  IsErrOf,
-  MatchOption,
-};
+ghost use Rattle.std.specs.Prelude.{◌≡◌, ◌⊎◌, ◌≤◌, ◌++◌, ℕ, List, length, take, unwrap_or, IfErr, IfNone, IfOk};
+ghost use Rattle.std.specs.Prelude.{IfSome, IsErrOf, MatchOption};
 ghost use Rattle.icu_normalizer.specs.AnyNormalizers.{kind_by, made_by, reading_of};
 ghost use Rattle.normalizer_io.specs.Transfer.{IsUnrefused};
 ghost use Rattle.normalizer_streams.specs.IllFormed.{Ends, IsFirstIllFormed};
@@ -26,14 +11,12 @@ ghost use Rattle.normalizer_streams.specs.inner.Agreements.{Agrees, AgreesFurthe
 ghost use Rattle.normalizer_streams.specs.inner.Watches.{IsCursorAfter};
 
 use crate::carried::Carried;
-use crate::forms::first_offence;
 use crate::ill_formed::{ErrorMode, first_ill_formed};
 use crate::position::{Cursor, Position};
-use crate::scheme::EncodingScheme;
 use crate::settled::last_settled;
 use icu_normalizer::AnyNormalizer;
 use normalizer_io::{Source, TransferError};
-use std::alloc::{AllocError, Global};
+use std::alloc::Global;
 
 /// What is cut short of a character has fewer bytes.
 const LONGEST_SEQUENCE: usize = 4;
@@ -69,12 +52,11 @@ pub enum Comparison {
 /// - `Memory` if an allocation failed.
 pub fn first_mismatch<R: Source>(
     alloc: Global,
-    scheme: EncodingScheme,
     mode: ErrorMode,
     normalizer: &AnyNormalizer,
     reader: &mut R,
 ) -> Result<Comparison, TransferError>
-    ensures compared { IfOk result (IsComparison scheme mode (reading_of normalizer.now) (kind_by normalizer.now)
+    ensures compared { IfOk result (IsComparison mode (reading_of normalizer.now) (kind_by normalizer.now)
         (R.bytes_left reader.old)) }
     ensures errors { IfErr result (λ error. (error ≡ TransferError.Read) ⊎ (error ≡ TransferError.Memory)) }
     ensures read { IsErrOf result TransferError.Read →
@@ -87,24 +69,9 @@ pub fn first_mismatch<R: Source>(
     for _ in 0..u64::MAX {
         let searched = carried.bytes().len();
         if !carried.read_block(reader)? {
-            return compare_last(
-                alloc,
-                scheme,
-                mode,
-                normalizer,
-                carried.bytes(),
-                &mut cursor,
-            );
+            return compare_last(mode, normalizer, carried.bytes(), &mut cursor);
         }
-        let found = compare_settled(
-            alloc,
-            scheme,
-            mode,
-            normalizer,
-            &mut carried,
-            searched,
-            &mut cursor,
-        )?;
+        let found = compare_settled(mode, normalizer, &mut carried, searched, &mut cursor)?;
         if let Some(found) = found {
             return Ok(found);
         }
@@ -114,27 +81,23 @@ pub fn first_mismatch<R: Source>(
 
 /// Compares the last bytes with their form.
 fn compare_last(
-    alloc: Global,
-    scheme: EncodingScheme,
     mode: ErrorMode,
     normalizer: &AnyNormalizer,
     bytes: &[u8],
     cursor: &mut Cursor,
 ) -> Result<Comparison, TransferError>
     ensures compared { IfOk result (λ found. (passed : List ℕ) →
-        Agrees scheme (made_by normalizer.now) passed bytes.now cursor.old →
-        Compares scheme mode (reading_of normalizer.now) (kind_by normalizer.now) (passed ++ bytes.now) found) }
+        Agrees (made_by normalizer.now) passed bytes.now cursor.old →
+        Compares mode (reading_of normalizer.now) (kind_by normalizer.now) (passed ++ bytes.now) found) }
     ensures errors { IfErr result (λ error. error ≡ TransferError.Memory) }
 {
-    let found = compare_piece(alloc, scheme, mode, normalizer, bytes, cursor)?;
+    let found = compare_piece(mode, normalizer, bytes, cursor)?;
     Ok(found.unwrap_or(Comparison::Normalized))
 }
 
 /// Compares what is settled of the bytes that are carried with its form, and keeps the rest. All places up to
 /// `searched` but for the last few have been searched.
 fn compare_settled(
-    alloc: Global,
-    scheme: EncodingScheme,
     mode: ErrorMode,
     normalizer: &AnyNormalizer,
     carried: &mut Carried,
@@ -142,75 +105,67 @@ fn compare_settled(
     cursor: &mut Cursor,
 ) -> Result<Option<Comparison>, TransferError>
     ensures compared { IfOk result (λ found. (passed : List ℕ) →
-        Agrees scheme (made_by normalizer.now) passed carried.old cursor.old → MatchOption found
-        (AgreesFurther scheme (made_by normalizer.now) passed carried.old carried.new cursor.new)
-        (λ found. (next : List ℕ) → Compares scheme mode (reading_of normalizer.now) (kind_by normalizer.now)
+        Agrees (made_by normalizer.now) passed carried.old cursor.old → MatchOption found
+        (AgreesFurther (made_by normalizer.now) passed carried.old carried.new cursor.new)
+        (λ found. (next : List ℕ) → Compares mode (reading_of normalizer.now) (kind_by normalizer.now)
         (passed ++ (carried.old ++ next)) found)) }
     ensures errors { IfErr result (λ error. error ≡ TransferError.Memory) }
 {
     let from = searched.saturating_sub(LONGEST_SEQUENCE);
     let bytes = carried.bytes();
-    let Some(place) = last_settled(scheme, normalizer, bytes, from) else {
+    let Some(place) = last_settled(normalizer, bytes, from) else {
         return Ok(None);
     };
-    let found = compare_piece(alloc, scheme, mode, normalizer, &bytes[..place], cursor)?;
+    let found = compare_piece(mode, normalizer, &bytes[..place], cursor)?;
     carried.remove_front(place);
     Ok(found)
 }
 
 /// Compares a piece with its form, and goes past it. Returns where it differs, or where its text ends.
 fn compare_piece(
-    alloc: Global,
-    scheme: EncodingScheme,
     mode: ErrorMode,
     normalizer: &AnyNormalizer,
     piece: &[u8],
     cursor: &mut Cursor,
 ) -> Result<Option<Comparison>, TransferError>
-    ensures compared { IfOk result (λ found. (units : List ℕ) → IsCursorAfter units cursor.old →
-        IsPieceCompared scheme mode (made_by normalizer.now) units piece.now found cursor.new) }
+    ensures compared { IfOk result (λ found. (passed : List ℕ) → IsCursorAfter passed cursor.old →
+        IsPieceCompared mode (made_by normalizer.now) passed piece.now found cursor.new) }
     ensures errors { IfErr result (λ error. error ≡ TransferError.Memory) }
 {
-    let end = end_of_text(alloc, scheme, mode, piece)?;
+    let end = end_of_text(mode, piece);
     let text = &piece[..end.unwrap_or(piece.len())];
-    let Ok(offence) = first_offence(alloc, scheme, normalizer, text) else {
+    let Ok(offence) = normalizer.as_borrowed().first_offence_utf8(text) else {
         return Err(TransferError::Memory);
     };
     match (offence, end) {
         (Some(offence), _) => {
-            cursor.advance_over(alloc, scheme, scheme.front(text, offence.place))?;
+            cursor.advance_over(&text[..offence.place]);
             Ok(Some(Comparison::Differs(Mismatch {
-                position: cursor.position(scheme),
+                position: cursor.position(),
                 found: offence.found,
                 wanted: offence.wanted,
             })))
         }
         (None, Some(_)) => {
-            cursor.advance_over(alloc, scheme, text)?;
-            Ok(Some(Comparison::Stopped(cursor.position(scheme))))
+            cursor.advance_over(text);
+            Ok(Some(Comparison::Stopped(cursor.position())))
         }
         (None, None) => {
-            cursor.advance_over(alloc, scheme, text)?;
+            cursor.advance_over(text);
             Ok(None)
         }
     }
 }
 
 /// Where the text of a piece ends, if an ill-formed sequence is in it and is fatal.
-fn end_of_text(
-    alloc: Global,
-    scheme: EncodingScheme,
-    mode: ErrorMode,
-    piece: &[u8],
-) -> Result<Option<usize>, AllocError>
-    ensures within { IfOk result (λ end. IfSome end (λ end. end ≤ length piece.now)) }
-    ensures text { IfOk result (λ end.
-        IsTextOf scheme mode piece.now (take (unwrap_or end (length piece.now)) piece.now)) }
-    ensures fatal { IfOk result (λ end. IfSome end (λ end. mode ≡ ErrorMode.Fatal)) }
-    ensures first { IfOk result (λ end. IfSome end (λ end. IsFirstIllFormed scheme piece.now (take end piece.now))) }
+fn end_of_text(mode: ErrorMode, piece: &[u8]) -> Option<usize>
+    ensures within { IfSome result (λ end. end ≤ length piece.now) }
+    ensures text { IsTextOf mode piece.now (take (unwrap_or result (length piece.now)) piece.now) }
+    ensures fatal { IfSome result (λ end. mode ≡ ErrorMode.Fatal) }
+    ensures first { IfSome result (λ end. IsFirstIllFormed piece.now (take end piece.now)) }
 {
     match mode {
-        ErrorMode::Replacement => Ok(None),
-        ErrorMode::Fatal => first_ill_formed(alloc, scheme, piece),
+        ErrorMode::Replacement => None,
+        ErrorMode::Fatal => first_ill_formed(piece),
     }
 }

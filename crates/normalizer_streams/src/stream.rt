@@ -1,49 +1,18 @@
 //! A source read block by block, and the form of all its bytes.
-ghost use Rattle.std.specs.Prelude.{
-  ◌≡◌,
-  ◌⊎◌,
-  ◌<◌,
-  ◌≤◌,
-  ◌++◌,
-  true,
-  false,
-  ℕ,
-  List,
-  Option,
-  [],
-  drop,
-  length,
-  take,
-  vec_len,
-  IfErr,
-  IfOk,
-  IfSome,
-  IsErrOf,
-  MatchOption,
-  OnErr,
-  OnOk,
-};
+ghost use Rattle.std.specs.Prelude.{◌≡◌, ◌⊎◌, ◌<◌, ◌≤◌, ◌++◌, true, false, ℕ, List, Option, [], drop, length, take};
+ghost use Rattle.std.specs.Prelude.{vec_len, IfErr, IfOk, IfSome, IsErrOf, MatchOption, OnErr, OnOk};
 ghost use Rattle.std.specs.Io.KnownBytes.{Appends, IsAtEnd, Keeps};
 ghost use Rattle.normalizer_io.specs.Transfer.{AppendsFront, IsUnrefused};
 ghost use Rattle.normalizer_streams.specs.declared.ill_formed.ErrorMode.{ErrorMode};
 ghost use Rattle.normalizer_streams.specs.declared.watch.Stop.{Stop};
 ghost use Rattle.normalizer_streams.specs.declared.watch.Watch.{Watch};
-ghost use Rattle.normalizer_streams.specs.Streams.{
-  form_by,
-  may_continue,
-  IsEndless,
-  IsFormCutOff,
-  IsFormWritten,
-  IsRun,
-  IsWrittenToRun,
-};
+ghost use Rattle.normalizer_streams.specs.Streams.{form_by, may_continue, IsEndless, IsFormCutOff, IsFormWritten};
+ghost use Rattle.normalizer_streams.specs.Streams.{IsRun, IsWrittenToRun};
 ghost use Rattle.normalizer_streams.specs.inner.Moves.{IsCut, IsPassed, Passes, Stops};
 ghost use Rattle.normalizer_streams.specs.inner.Watches.{text_in, IsNoted, Joins, Watches};
 
 use crate::carried::Carried;
-use crate::forms::FormBuffers;
 use crate::ill_formed::{Ending, ErrorMode};
-use crate::scheme::EncodingScheme;
 use crate::settled::last_settled;
 use crate::watch::{Stop, Watch};
 use icu_normalizer::AnyNormalizer;
@@ -53,10 +22,10 @@ use std::alloc::Global;
 /// What is cut short of a character has fewer bytes.
 const LONGEST_SEQUENCE: usize = 4;
 
-/// Reads to the end, and writes the form of the text that all the bytes decode to, in the same scheme. Each maximal
-/// ill-formed subpart is written as U+FFFD, and counted. If ill-formed input is fatal, the text ends before the first
-/// such sequence, whose position is returned, and nothing more is read. What no later byte can change is written after
-/// each block of 32 KiB at most, so that only a run of characters without a boundary between them takes more memory.
+/// Reads to the end, and writes the form of the text that all the bytes decode to. Each maximal ill-formed subpart is written
+/// as U+FFFD, and counted. If ill-formed input is fatal, the text ends before the first such sequence, whose position is
+/// returned, and nothing more is read. What no later byte can change is written after each block of 32 KiB at most, so
+/// that only a run of characters without a boundary between them takes more memory.
 ///
 /// # Errors
 /// - `Read` if a read failed, or the source has no end: after 2^64 - 1 blocks.
@@ -67,51 +36,42 @@ const LONGEST_SEQUENCE: usize = 4;
 /// of all that was read but the last run of characters that may continue one another.
 pub fn write_form<R: Source, W: Target>(
     alloc: Global,
-    scheme: EncodingScheme,
     mode: ErrorMode,
     normalizer: &AnyNormalizer,
     reader: &mut R,
     writer: &mut W,
 ) -> Result<Ending, TransferError>
-    ensures form { IfOk result (IsFormWritten scheme mode (form_by scheme normalizer.now)
+    ensures form { IfOk result (IsFormWritten mode (form_by normalizer.now)
         (R.bytes_left reader.old) (W.bytes_taken writer.old) (W.bytes_taken writer.new)) }
     ensures end { IfOk result (λ ending. (count : ℕ) →
         ending ≡ Ending.Whole count → IsAtEnd (R.bytes_left reader.new)) }
-    ensures front { OnErr result (IsFormCutOff scheme mode (form_by scheme normalizer.now)
+    ensures front { OnErr result (IsFormCutOff mode (form_by normalizer.now)
         (R.bytes_left reader.old) (W.bytes_taken writer.old) (W.bytes_taken writer.new)) }
     ensures read { IsErrOf result TransferError.Read →
         R.refusal reader.old reader.new ⊎ IsEndless (R.bytes_left reader.old) }
     ensures so_far { IsErrOf result TransferError.Read →
-        IsWrittenToRun scheme (form_by scheme normalizer.now) (may_continue normalizer.now)
+        IsWrittenToRun (form_by normalizer.now) (may_continue normalizer.now)
         (R.bytes_left reader.old) (R.bytes_left reader.new) (W.bytes_taken writer.old) (W.bytes_taken writer.new) }
     ensures write { IsErrOf result TransferError.Write → W.refusal writer.old writer.new }
     ensures read_ahead { ¬ IsErrOf result TransferError.Read → IsUnrefused R.refusal reader.old reader.new }
     ensures ahead { ¬ IsErrOf result TransferError.Write → IsUnrefused W.refusal writer.old writer.new }
 {
     let mut carried = Carried::new(alloc);
-    let mut buffers = FormBuffers::new(alloc);
+    let mut form = String::new(alloc);
     let mut watch = Watch::new(mode);
     // A loop is proved to end, so this one counts its blocks.
     for _ in 0..u64::MAX {
         let searched = carried.bytes().len();
         if !carried.read_block(reader)? {
-            let stop = write_piece(
-                scheme,
-                normalizer,
-                carried.bytes(),
-                &mut watch,
-                &mut buffers,
-                writer,
-            )?;
+            let stop = write_piece(normalizer, carried.bytes(), &mut watch, &mut form, writer)?;
             return Ok(watch.ending(stop));
         }
         let stop = write_settled(
-            scheme,
             normalizer,
             &mut carried,
             searched,
             &mut watch,
-            &mut buffers,
+            &mut form,
             writer,
         )?;
         if let Some(stop) = stop {
@@ -124,26 +84,25 @@ pub fn write_form<R: Source, W: Target>(
 /// Writes the form of what is settled of the bytes that are carried, and keeps the rest. All places up to `searched`
 /// but for the last few have been searched. Returns the place at which the text ends, if it does.
 fn write_settled<W: Target>(
-    scheme: EncodingScheme,
     normalizer: &AnyNormalizer,
     carried: &mut Carried,
     searched: usize,
     watch: &mut Watch,
-    buffers: &mut FormBuffers,
+    form: &mut String,
     writer: &mut W,
 ) -> Result<Option<Stop>, TransferError>
     ensures moved { IfOk result (λ stop. (mode : ErrorMode) (passed written : List ℕ) →
-        IsPassed scheme (form_by scheme normalizer.now) passed written carried.old →
-        Watches scheme mode watch.old passed → MatchOption stop
-        (Passes scheme mode (form_by scheme normalizer.now) watch.new
+        IsPassed (form_by normalizer.now) passed written carried.old →
+        Watches mode watch.old passed → MatchOption stop
+        (Passes mode (form_by normalizer.now) watch.new
         (W.bytes_taken writer.old) (W.bytes_taken writer.new) passed written carried.old carried.new)
-        (λ stop. (next : List ℕ) → Stops scheme mode (form_by scheme normalizer.now) stop.position
+        (λ stop. (next : List ℕ) → Stops mode (form_by normalizer.now) stop.position
         (W.bytes_taken writer.old) (W.bytes_taken writer.new) passed written carried.old next)) }
-    ensures run { IsRun scheme (may_continue normalizer.now) (take searched carried.old) →
-        OnOk result (IsRun scheme (may_continue normalizer.now) carried.new) }
+    ensures run { IsRun (may_continue normalizer.now) (take searched carried.old) →
+        OnOk result (IsRun (may_continue normalizer.now) carried.new) }
     ensures front { OnErr result ((mode : ErrorMode) (passed written next : List ℕ) →
-        IsPassed scheme (form_by scheme normalizer.now) passed written carried.old →
-        Watches scheme mode watch.old passed → IsCut scheme mode (form_by scheme normalizer.now)
+        IsPassed (form_by normalizer.now) passed written carried.old →
+        Watches mode watch.old passed → IsCut mode (form_by normalizer.now)
         (W.bytes_taken writer.old) (W.bytes_taken writer.new) passed written (carried.old ++ next)) }
     ensures errors { IfErr result (λ error. (error ≡ TransferError.Write) ⊎ (error ≡ TransferError.Memory)) }
     ensures write { IsErrOf result TransferError.Write → W.refusal writer.old writer.new }
@@ -152,39 +111,38 @@ fn write_settled<W: Target>(
 {
     let from = searched.saturating_sub(LONGEST_SEQUENCE);
     let bytes = carried.bytes();
-    let Some(place) = last_settled(scheme, normalizer, bytes, from) else {
+    let Some(place) = last_settled(normalizer, bytes, from) else {
         return Ok(None);
     };
-    let stop = write_piece(scheme, normalizer, &bytes[..place], watch, buffers, writer)?;
+    let stop = write_piece(normalizer, &bytes[..place], watch, form, writer)?;
     carried.remove_front(place);
     Ok(stop)
 }
 
 /// Writes the form of a piece, up to where the text ends, which it returns.
 fn write_piece<W: Target>(
-    scheme: EncodingScheme,
     normalizer: &AnyNormalizer,
     piece: &[u8],
     watch: &mut Watch,
-    buffers: &mut FormBuffers,
+    form: &mut String,
     writer: &mut W,
 ) -> Result<Option<Stop>, TransferError>
-    ensures noted { IfOk result (λ stop. (mode : ErrorMode) (passed : List ℕ) → Joins scheme passed piece.now →
-        Watches scheme mode watch.old passed → IsNoted scheme mode watch.new passed piece.now stop) }
+    ensures noted { IfOk result (λ stop. (mode : ErrorMode) (passed : List ℕ) → Joins passed piece.now →
+        Watches mode watch.old passed → IsNoted mode watch.new passed piece.now stop) }
     ensures form { IfOk result (λ stop. Appends (W.bytes_taken writer.old) (W.bytes_taken writer.new)
-        (form_by scheme normalizer.now (text_in piece.now stop))) }
+        (form_by normalizer.now (text_in piece.now stop))) }
     ensures front { IsErrOf result TransferError.Write → (stop : Option Stop) × (noted : Watch)
-        × ((mode : ErrorMode) (passed : List ℕ) → Joins scheme passed piece.now → Watches scheme mode watch.old passed →
-        IsNoted scheme mode noted passed piece.now stop)
+        × ((mode : ErrorMode) (passed : List ℕ) → Joins passed piece.now → Watches mode watch.old passed →
+        IsNoted mode noted passed piece.now stop)
         × AppendsFront (W.bytes_taken writer.old) (W.bytes_taken writer.new)
-        (form_by scheme normalizer.now (text_in piece.now stop)) }
+        (form_by normalizer.now (text_in piece.now stop)) }
     ensures errors { IfErr result (λ error. (error ≡ TransferError.Write) ⊎ (error ≡ TransferError.Memory)) }
     ensures write { IsErrOf result TransferError.Write → W.refusal writer.old writer.new }
     ensures memory { IsErrOf result TransferError.Memory → writer.new ≡ writer.old }
     ensures ahead { OnOk result (IsUnrefused W.refusal writer.old writer.new) }
 {
-    let stop = watch.note(buffers.allocator(), scheme, piece)?;
-    write_form_of(scheme, normalizer, text_in(piece, stop), buffers, writer)?;
+    let stop = watch.note(piece);
+    write_form_of(normalizer, text_in(piece, stop), form, writer)?;
     Ok(stop)
 }
 
@@ -199,25 +157,25 @@ pub(crate) fn text_in(piece: &[u8], stop: Option<Stop>) -> &[u8]
     }
 }
 
-/// Writes the form of some bytes.
+/// Writes the form of some bytes, which is made in a buffer.
 fn write_form_of<W: Target>(
-    scheme: EncodingScheme,
     normalizer: &AnyNormalizer,
     bytes: &[u8],
-    buffers: &mut FormBuffers,
+    form: &mut String,
     writer: &mut W,
 ) -> Result<(), TransferError>
     ensures form { OnOk result
-        (Appends (W.bytes_taken writer.old) (W.bytes_taken writer.new) (form_by scheme normalizer.now bytes.now)) }
+        (Appends (W.bytes_taken writer.old) (W.bytes_taken writer.new) (form_by normalizer.now bytes.now)) }
     ensures front { OnErr result
-        (AppendsFront (W.bytes_taken writer.old) (W.bytes_taken writer.new) (form_by scheme normalizer.now bytes.now)) }
+        (AppendsFront (W.bytes_taken writer.old) (W.bytes_taken writer.new) (form_by normalizer.now bytes.now)) }
     ensures errors { IfErr result (λ error. (error ≡ TransferError.Write) ⊎ (error ≡ TransferError.Memory)) }
     ensures write { IsErrOf result TransferError.Write → W.refusal writer.old writer.new }
     ensures memory { IsErrOf result TransferError.Memory → writer.new ≡ writer.old }
     ensures ahead { OnOk result (IsUnrefused W.refusal writer.old writer.new) }
 {
-    match buffers.form_of(scheme, normalizer, bytes) {
-        Ok(form) => write_all(writer, form),
+    form.clear();
+    match normalizer.append_form(bytes, form) {
+        Ok(()) => write_all(writer, form.as_bytes()),
         Err(_) => Err(TransferError::Memory),
     }
 }

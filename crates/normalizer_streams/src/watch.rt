@@ -1,12 +1,10 @@
 //! What is kept of the bytes whose form was written: how many ill-formed sequences they had, or where they end.
-ghost use Rattle.std.specs.Prelude.{◌≡◌, ◌≤◌, ℕ, List, [], length, IfNone, IfOk, IfSome};
+ghost use Rattle.std.specs.Prelude.{◌≡◌, ◌≤◌, ℕ, List, [], length, IfNone, IfSome};
 ghost use Rattle.normalizer_streams.specs.declared.ill_formed.ErrorMode.{ErrorMode};
 ghost use Rattle.normalizer_streams.specs.inner.Watches.{IsNoted, Joins, Watches};
 
 use crate::ill_formed::{Ending, ErrorMode, first_ill_formed, ill_formed_in};
 use crate::position::{Cursor, Position};
-use crate::scheme::EncodingScheme;
-use std::alloc::{AllocError, Global};
 
 /// What is kept of the bytes whose form was written.
 #[derive(Clone, Copy)]
@@ -25,7 +23,7 @@ pub(crate) struct Stop {
 
 impl Watch {
     pub(crate) fn new(mode: ErrorMode) -> Watch
-        ensures { (scheme : EncodingScheme) → Watches scheme mode result [] }
+        ensures { Watches mode result [] }
     {
         Watch {
             mode,
@@ -35,48 +33,36 @@ impl Watch {
     }
 
     /// Takes note of a piece that comes next. Returns where the text ends in it, if it does.
-    pub(crate) fn note(
-        &mut self,
-        alloc: Global,
-        scheme: EncodingScheme,
-        piece: &[u8],
-    ) -> Result<Option<Stop>, AllocError>
-        ensures within { IfOk result (λ stop. IfSome stop (λ stop. stop.place ≤ length piece.now)) }
-        ensures noted { IfOk result (λ stop. (mode : ErrorMode) (passed : List ℕ) → Joins scheme passed piece.now →
-            Watches scheme mode self.old passed → IsNoted scheme mode self.new passed piece.now stop) }
+    pub(crate) fn note(&mut self, piece: &[u8]) -> Option<Stop>
+        ensures within { IfSome result (λ stop. stop.place ≤ length piece.now) }
+        ensures noted { (mode : ErrorMode) (passed : List ℕ) → Joins passed piece.now →
+            Watches mode self.old passed → IsNoted mode self.new passed piece.now result }
     {
         match self.mode {
             ErrorMode::Replacement => {
-                let count = ill_formed_in(alloc, scheme, piece)?;
-                self.found = self.found.saturating_add(count);
-                Ok(None)
+                self.found = self.found.saturating_add(ill_formed_in(piece));
+                None
             }
-            ErrorMode::Fatal => self.advance(alloc, scheme, piece),
+            ErrorMode::Fatal => self.advance(piece),
         }
     }
 
     /// Goes past a piece, up to its first ill-formed sequence.
-    fn advance(
-        &mut self,
-        alloc: Global,
-        scheme: EncodingScheme,
-        piece: &[u8],
-    ) -> Result<Option<Stop>, AllocError>
+    fn advance(&mut self, piece: &[u8]) -> Option<Stop>
         requires { self.old.mode ≡ ErrorMode.Fatal }
-        ensures within { IfOk result (λ stop. IfSome stop (λ stop. stop.place ≤ length piece.now)) }
-        ensures noted { IfOk result (λ stop. (passed : List ℕ) → Joins scheme passed piece.now →
-            Watches scheme ErrorMode.Fatal self.old passed →
-            IsNoted scheme ErrorMode.Fatal self.new passed piece.now stop) }
+        ensures within { IfSome result (λ stop. stop.place ≤ length piece.now) }
+        ensures noted { (passed : List ℕ) → Joins passed piece.now → Watches ErrorMode.Fatal self.old passed →
+            IsNoted ErrorMode.Fatal self.new passed piece.now result }
     {
-        match first_ill_formed(alloc, scheme, piece)? {
+        match first_ill_formed(piece) {
             None => {
-                self.cursor.advance_over(alloc, scheme, piece)?;
-                Ok(None)
+                self.cursor.advance_over(piece);
+                None
             }
             Some(place) => {
-                self.cursor.advance_over(alloc, scheme, &piece[..place])?;
-                let position = self.cursor.position(scheme);
-                Ok(Some(Stop { place, position }))
+                self.cursor.advance_over(&piece[..place]);
+                let position = self.cursor.position();
+                Some(Stop { place, position })
             }
         }
     }

@@ -1,10 +1,8 @@
 //! The program over files in memory.
 use icu_normalizer::NormalForm;
-use normalizer_command::listing::Listing;
+use normalizer_command::command::{Command, Task};
 use normalizer_command::memory::{NamedFile, run_in_memory};
-use normalizer_command::reply::Task;
-use normalizer_command::worker::Command;
-use normalizer_streams::{EncodingScheme, ErrorMode};
+use normalizer_streams::ErrorMode;
 use std::alloc::Global;
 
 /// Two lines of Unicode's files, and a text.
@@ -24,13 +22,8 @@ const FILES: [NamedFile<'static>; 3] = [
 ];
 
 fn is_composed(alloc: Global) -> bool {
-    let nfc = Command::OfForm(
-        Task::Write,
-        EncodingScheme::Utf8,
-        ErrorMode::Replacement,
-        NormalForm::Nfc,
-    );
-    match run_in_memory(alloc, nfc, Listing::All, "d", &["a"], &FILES) {
+    let nfc = Command::OfForm(Task::Write, ErrorMode::Replacement, NormalForm::Nfc);
+    match run_in_memory(alloc, nfc, "d", &["a"], &FILES) {
         Ok(outcome) => outcome.output.as_slice() == b"\xC3\xA4".as_slice()
             && outcome.reports.is_empty()
             && outcome.status == 0,

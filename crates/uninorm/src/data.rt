@@ -1,6 +1,6 @@
 //! Where the program finds its data.
 
-use normalizer_command::directory::{directory_of, own_directories};
+use normalizer_command::directory::{own_paths, path_of};
 use std::alloc::AllocError;
 use std::env::{self, VarError};
 use std::io::ErrorKind;
@@ -9,17 +9,15 @@ use std::{fmt, fs};
 /// The variable that names the data.
 const VARIABLE: &str = "UNINORM_DATA";
 
-/// Why there isn't a directory of data.
+/// Why there are no data.
 #[derive(Drop)]
 pub(crate) enum NoData {
     /// There was not enough memory.
     Memory,
     /// The value of the variable is not UTF-8.
     Variable,
-    /// The folder of the program is not known.
-    Folder,
-    /// None of these directories has a `UnicodeData.txt`.
-    Own(Vec<String>),
+    /// The folder of the program is not known, or none of its own paths is there.
+    Own(Option<String>),
 }
 
 impl From<AllocError> for NoData {
@@ -33,53 +31,59 @@ impl fmt::Display for NoData {
         match self {
             NoData::Memory => f.write_str("out of memory"),
             NoData::Variable => write!(f, "the value of {VARIABLE} is not UTF-8"),
-            NoData::Folder => write!(f, "its own folder is not known: {HINT}"),
-            NoData::Own(directories) => {
-                f.write_str("no UnicodeData.txt")?;
-                let mut joint = " in";
-                for directory in directories {
-                    write!(f, "{joint} {directory}")?;
-                    joint = " or";
-                }
-                write!(f, ": {HINT}")
-            }
+            NoData::Own(None) => write!(f, "its own folder is not known: {HINT}"),
+            NoData::Own(Some(folder)) => write!(
+                f,
+                "no data in {folder}/data/unicode or {folder}/../share/uninorm: {HINT}"
+            ),
         }
     }
 }
 
 /// What a user may do about it.
-const HINT: &str = "name its directory by --data or UNINORM_DATA";
+const HINT: &str = "name their path by --data or UNINORM_DATA";
 
-/// Returns the directory or the file of the data, by what `--data` names, the environment and the program's own file.
+/// What data may be.
+#[derive(Clone, Copy, PartialEq, Eq)]
+pub(crate) enum Kind {
+    /// A file or a directory.
+    Any,
+    /// A directory.
+    Directory,
+}
+
+/// Returns the path of the data, by what `--data` names, the environment and the program's own file, if its own data are
+/// of this kind.
 ///
 /// # Errors
 /// Why there is none.
-pub(crate) fn directory(rt: &HostRuntime, named: Option<&str>) -> Result<String, NoData> {
+pub(crate) fn path(rt: &HostRuntime, named: Option<&str>, kind: Kind) -> Result<String, NoData> {
     let variable = match named {
         Some(_) => None,
         None => variable(rt)?,
     };
-    let own = match folder(rt)? {
-        Some(folder) => own_directories(rt.alloc(), folder.as_str())?,
+    let folder = folder(rt)?;
+    let own = match folder.as_deref() {
+        Some(folder) => own_paths(rt.alloc(), folder)?,
         None => Vec::new(rt.alloc()),
     };
-    match chosen(rt, named, variable.as_deref(), &own)? {
-        Some(directory) => Ok(directory),
-        None if own.is_empty() => Err(NoData::Folder),
-        None => Err(NoData::Own(own)),
+    match chosen(rt, named, variable.as_deref(), &own, kind)? {
+        Some(path) => Ok(path),
+        None => Err(NoData::Own(folder)),
     }
 }
 
-/// The directory or the file of the data, if one is named or one of the program's own directories has data.
+/// The path of the data, if one is named or one of the program's own is there.
 fn chosen(
     rt: &HostRuntime,
     named: Option<&str>,
     variable: Option<&str>,
     own: &[String],
+    kind: Kind,
 ) -> Result<Option<String>, AllocError> {
-    let with_data = with_data(rt, own)?;
-    match directory_of(named, variable, &with_data) {
-        Some(directory) => Ok(Some(String::from_str(rt.alloc(), directory)?)),
+    let there = there(rt, own, kind)?;
+    match path_of(named, variable, &there) {
+        Some(path) => Ok(Some(String::from_str(rt.alloc(), path)?)),
         None => Ok(None),
     }
 }
@@ -106,14 +110,14 @@ fn folder(rt: &HostRuntime) -> Result<Option<String>, NoData> {
     }
 }
 
-/// Those of the directories that have a `UnicodeData.txt`.
-fn with_data<'a>(rt: &HostRuntime, own: &'a [String]) -> Result<Vec<&'a str>, AllocError> {
-    let mut with_data = Vec::new(rt.alloc());
-    for directory in own {
-        let path = format!(in rt.alloc(); "{directory}/UnicodeData.txt")?;
-        if matches!(fs::exists(rt, path.as_str()), Ok(true)) {
-            with_data.push(directory.as_str())?;
+/// Those of the paths where there are data of this kind.
+fn there<'a>(rt: &HostRuntime, own: &'a [String], kind: Kind) -> Result<Vec<&'a str>, AllocError> {
+    let mut there = Vec::new(rt.alloc());
+    for path in own {
+        match fs::metadata(rt, path.as_str()) {
+            Ok(data) if data.is_dir() || kind == Kind::Any => there.push(path.as_str())?,
+            _ => {}
         }
     }
-    Ok(with_data)
+    Ok(there)
 }

@@ -1,20 +1,17 @@
-//! The program `uninorm`: it writes the normal forms of files or of standard input, the names of files that aren't in a
-//! form, lines mapped or validated for domain names, and the places of ill-formed sequences.
+//! The program `uninorm`: it writes the normal forms of files or of standard input, what isn't in a form, and lines mapped
+//! or validated for domain names.
 #![tactic(auto)]
 
 mod data;
+mod help;
 mod standard;
 mod words;
 
-use data::directory;
+use data::{Kind, path};
+use help::{HELP, help_of};
 use normalizer_command::arguments::{FileRequest, Request, parsed};
-use normalizer_command::devices::Reports;
-use normalizer_command::fault::Fault;
-use normalizer_command::message::Message;
-use normalizer_command::prepare::prepare;
-use normalizer_command::run::run;
-use normalizer_command::version::write_version;
-use normalizer_io::write_all;
+use normalizer_command::made::{write_prepared, write_version};
+use normalizer_command::run::Run;
 use standard::{ErrorStream, Named, Printed};
 use std::alloc::AllocError;
 use std::cell::Cell;
@@ -44,88 +41,88 @@ fn by_arguments(rt: &HostRuntime) -> u8 {
 fn by_words(rt: &HostRuntime, words: &Vec<String>, unclear: &[String]) -> u8 {
     match parsed(rt.alloc(), words) {
         Ok(Request::Files(request)) => over_files(rt, &request, unclear),
-        Ok(Request::Version(directory)) => version(rt, directory),
-        Ok(Request::Prepare(directory)) => prepared(rt, directory),
+        Ok(Request::Version(named)) => of_data(rt, named, true),
+        Ok(Request::Prepare(named)) => of_data(rt, named, false),
         Ok(Request::Unclear(reason)) => failed(rt, reason),
-        Err(error) => {
-            let _ = error.print(rt);
-            if error.use_stderr() { FAILED } else { 0 }
-        }
+        Err(error) if error.use_stderr() => wrong(rt, error),
+        Err(_) => helped(rt, words),
     }
 }
 
 fn over_files(rt: &HostRuntime, request: &FileRequest<'_>, unclear: &[String]) -> u8 {
-    if !request.needs_data() {
-        return over_names(rt, request, "", &Named::new(rt, unclear));
-    }
-    match directory(rt, request.directory) {
-        Ok(directory) => over_names(rt, request, directory.as_str(), &Named::new(rt, unclear)),
-        Err(reason) => failed(rt, reason),
-    }
-}
-
-fn over_names(
-    rt: &HostRuntime,
-    request: &FileRequest<'_>,
-    directory: &str,
-    inputs: &Named<'_>,
-) -> u8 {
-    let closed = Cell::new(false);
-    let status = run(
-        rt.alloc(),
-        request.command,
-        request.listing,
-        directory,
-        &request.names,
-        inputs,
-        &mut Printed::new(rt, &closed),
-        &mut ErrorStream::new(rt, &closed),
-    );
-    if closed.get() { CLOSED } else { status }
-}
-
-fn version(rt: &HostRuntime, named: Option<&str>) -> u8 {
-    match directory(rt, named) {
-        Ok(directory) => version_of(rt, directory.as_str()),
-        Err(reason) => failed(rt, reason),
-    }
-}
-
-fn version_of(rt: &HostRuntime, directory: &str) -> u8 {
-    let closed = Cell::new(false);
-    let status = write_version(
-        rt.alloc(),
-        directory,
-        &Named::new(rt, &[]),
-        &mut Printed::new(rt, &closed),
-        &mut ErrorStream::new(rt, &closed),
-    );
-    if closed.get() { CLOSED } else { status }
-}
-
-/// Writes the prepared data of a directory to standard output.
-fn prepared(rt: &HostRuntime, named: Option<&str>) -> u8 {
-    match directory(rt, named) {
-        Ok(directory) => prepared_of(rt, directory.as_str()),
-        Err(reason) => failed(rt, reason),
-    }
-}
-
-fn prepared_of(rt: &HostRuntime, directory: &str) -> u8 {
-    let closed = Cell::new(false);
-    let mut reports = ErrorStream::new(rt, &closed);
-    let Some(file) = prepare(rt.alloc(), directory, &Named::new(rt, &[]), &mut reports) else {
-        return FAILED;
+    let path = match path(rt, request.path, Kind::Any) {
+        Ok(path) => path,
+        Err(reason) => return failed(rt, reason),
     };
-    if write_all(&mut Printed::new(rt, &closed), &file).is_ok() {
-        return 0;
+    let closed = Cell::new(false);
+    let run = Run {
+        alloc: rt.alloc(),
+        command: request.command,
+        path: path.as_str(),
+        names: &request.names,
+        inputs: &Named::new(rt, unclear),
+    };
+    let status = run.run(
+        &mut Printed::new(rt, &closed),
+        &mut ErrorStream::new(rt, &closed),
+    );
+    if closed.get() { CLOSED } else { status }
+}
+
+/// Writes the version of the data, or all of them as one file.
+fn of_data(rt: &HostRuntime, named: Option<&str>, is_version: bool) -> u8 {
+    let kind = if is_version {
+        Kind::Any
+    } else {
+        Kind::Directory
+    };
+    let path = match path(rt, named, kind) {
+        Ok(path) => path,
+        Err(reason) => return failed(rt, reason),
+    };
+    let closed = Cell::new(false);
+    let inputs = Named::new(rt, &[]);
+    let (mut output, mut reports) = (Printed::new(rt, &closed), ErrorStream::new(rt, &closed));
+    let status = if is_version {
+        write_version(
+            rt.alloc(),
+            path.as_str(),
+            &inputs,
+            &mut output,
+            &mut reports,
+        )
+    } else {
+        write_prepared(
+            rt.alloc(),
+            path.as_str(),
+            &inputs,
+            &mut output,
+            &mut reports,
+        )
+    };
+    if closed.get() { CLOSED } else { status }
+}
+
+/// Prints what there is to say of the first command among the words, or of the program.
+fn helped(rt: &HostRuntime, words: &[String]) -> u8 {
+    let help = words
+        .iter()
+        .skip(1)
+        .find_map(|word| help_of(word))
+        .unwrap_or(HELP);
+    let _ = print!(rt; "{help}");
+    0
+}
+
+/// Prints what is wrong with the words.
+fn wrong<E: Display + Drop>(rt: &HostRuntime, error: E) -> u8 {
+    match format!(in rt.alloc(); "{error}") {
+        Ok(text) => {
+            let text = text.strip_prefix("error: ").unwrap_or(&text);
+            failed(rt, text.trim_end())
+        }
+        Err(AllocError) => failed(rt, "out of memory"),
     }
-    reports.report(Message {
-        directory: None,
-        name: "",
-        fault: Fault::Write,
-    });
-    if closed.get() { CLOSED } else { FAILED }
 }
 
 fn failed<R: Display + Drop>(rt: &HostRuntime, reason: R) -> u8 {

@@ -1,5 +1,6 @@
 //! Files, the standard streams, and reports on standard error.
 ghost use Rattle.std.specs.Prelude.{None, ⊤};
+ghost use Rattle.normalizer_command.specs.Devices.{unknown};
 
 use normalizer_command::devices::{Inputs, Reports};
 use normalizer_command::fault::Fault;
@@ -100,15 +101,8 @@ impl Source for Stream {
 impl Inputs for Named<'_> {
     type Input = Stream;
 
-    ghost bytes_of = { λ _ _. None };
-
-    ghost can_open = { λ _ _. ⊤ };
-
-    ghost cannot_open = { λ _ _ _. ⊤ };
-
-    ghost unrefused = { λ _ _. ⊤ };
-
-    ghost read_refused = { λ _ _. ⊤ };
+    // What the system has is unknown.
+    ghost files = { λ _. unknown };
 
     fn open(&self, name: &str) -> Result<Stream, ErrorKind> {
         if name == "-" {

@@ -1,4 +1,4 @@
--- The first ill-formed sequence of units, and where a cursor is after units.
+-- The first ill-formed sequence of units.
 use Rattle.std.specs.Prelude.{◌≡◌, ℕ, List, take}
 use Rattle.icu_normalizer.specs.DecodingSteps.{IsWellFormed}
 use Rattle.icu_normalizer.specs.Encodings.{Encoding, first_in}

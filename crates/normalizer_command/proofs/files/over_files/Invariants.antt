@@ -6,9 +6,7 @@ use Rattle.normalizer_command.proofs.files.over_files.Given as goal
 
 -- what follows for the files that are left follows for all
 abbrev pub invariant-loop-name : goal.invariant-loop-name
-invariant-loop-name g l = let d = devices (g.I.Inputs.bytes_of l.inputs) (g.I.Inputs.can_open l.inputs) (g.I.Inputs.cannot_open l.inputs)
-    (g.I.Inputs.unrefused l.inputs) (g.I.Inputs.read_refused l.inputs) g.W.Target.bytes_taken g.W.Target.refusal in
-    (w : Work) → Does l.worker w → (end : State _)
-    → AreDone d l.listing w (map (λ name. name.now) (drop l.name-index l.names))
+invariant-loop-name g l = let d = devices (g.I.Inputs.files l.inputs) g.W.Target.bytes_taken g.W.Target.refusal in
+    (w : Work) → Does l.worker w → (end : State _) → AreDone d w (map (λ name. name.now) (drop l.name-index l.names))
     (state l.writer (g.R.Reports.reports l.reports) l.status) end
-    → AreDone d l.listing w (map (λ name. name.now) l.names) (state l.fn.writer (g.R.Reports.reports l.fn.reports) 0) end
+    → AreDone d w (map (λ name. name.now) l.names) (state l.fn.writer (g.R.Reports.reports l.fn.reports) 0) end

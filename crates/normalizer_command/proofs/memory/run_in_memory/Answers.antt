@@ -1,21 +1,18 @@
-use Rattle.std.proofs.Common.{Ok, refl}
-use Rattle.icu_normalizer.specs.DataError.{DataError}
-use Rattle.icu_normalizer.specs.HeldForms.{RefusesMapper}
-use Rattle.icu_normalizer.specs.DataMarkerInfo.TheVariants.{NormalizerUts46DataV1}
-use Rattle.icu_normalizer.proofs.PackedForms.{packed-unrefused}
-use Rattle.normalizer_command.specs.InMemory.{files_of}
-use Rattle.normalizer_command.specs.PreparedFiles.{mapper_data_in}
-use Rattle.normalizer_command.proofs.InMemoryLemmas.{effect-of-records-ok}
-use Rattle.normalizer_command.proofs.PreparedLemmas.{memory-only, same-file}
+use Rattle.std.proofs.Common.{◌≡◌, true, arith, refl, rules}
+use Rattle.std.specs.Prelude.{All, Some, ⊤}
+use Rattle.std.proofs.lemmas.Grind.{common_steps}
+use Rattle.normalizer_command.specs.InMemory.{bytes_in}
+use Rattle.normalizer_command.specs.inner.Kept.{kept_reports, IsOfData}
+use Rattle.normalizer_command.proofs.InMemoryLemmas.{effect-of-run}
+use Rattle.normalizer_command.proofs.KeptLemmas.{known-all, known-none}
 use Rattle.normalizer_command.proofs.memory.run_in_memory.Goals as goal
 
-pub returns-clause-records : goal.returns-clause-records
-returns-clause-records c = λ records uts46 p builds prepared file there suits.
-    let accepted = c.what_is_built_is_accepted.ensures in
-    let never = c.data_that_meet_conditions_are_accepted.ensures.refused in
-    let forms = packed-unrefused p never (accepted.nfd records uts46 p builds) (accepted.nfc records uts46 p builds)
-    (accepted.nfkd records uts46 p builds) (accepted.nfkc records uts46 p builds) in
-    let mapper : (e : DataError) → ¬ RefusesMapper (Ok (mapper_data_in p)) e = λ e refuses. never _ _ NormalizerUts46DataV1 e (accepted.mapper records uts46 p builds) refuses in
-    effect-of-records-ok (files_of c.args.files.now) c.args.listing c.args.path.now prepared _ p records uts46 builds
-    (same-file p prepared file forms mapper) c.args.command
-    (memory-only p prepared file forms mapper c.args.command suits) there c.run_over.result c.run_over.ensures
+pub returns : goal.returns
+returns c =
+    let is_whole = c.if-not-are_of_data.ensures.whole in
+    let are_of_data = c.if-not-are_of_data.ensures.of_data in
+    let whole : c.run-status.new.reports.is_whole ≡ true = first_of (search rules, grind (arith, common_steps), cc) in
+    let of_data : All IsOfData (kept_reports c.run-status.new.reports.kept.items) = first_of (search rules, grind (arith, common_steps), cc) in
+    effect-of-run (λ t. Some t.0.items) (λ t. t.0.items) (λ t. refl) (λ _ _. ⊤) (bytes_in c.args.files.now) c.args.command c.args.path.now _ _ _ (kept_reports c.run-status.new.reports.kept.items)
+    (known-none c.new-reports.result.is_whole c.new-reports.result.kept.items c.new-reports.ensures.whole c.new-reports.ensures.none) c.new.ensures.items refl
+    (known-all c.run-status.new.reports.is_whole c.run-status.new.reports.kept.items whole) of_data c.run-status.ensures

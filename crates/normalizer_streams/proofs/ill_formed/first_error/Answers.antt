@@ -1,27 +1,27 @@
 use Rattle.std.proofs.Common.{◌<◌, ◌+◌, length, arith, ap, subst, sym, take, ◌∙◌}
 use Rattle.std.proofs.lemmas.List.{take_all}
 use Rattle.icu_normalizer.specs.DecodingSteps.{IsWellFormed}
-use Rattle.icu_normalizer.specs.Encodings.{first_in}
+use Rattle.icu_normalizer.specs.Encodings.{Encoding, first_in}
 use Rattle.icu_normalizer.proofs.StepBoundaries.{step-some}
 use Rattle.normalizer_streams.proofs.ErrorLemmas.{well_formed-more, IsWellFormed-nil}
 use Rattle.normalizer_streams.proofs.ill_formed.first_error.Goals as goal
 
 pub loop-place-init : goal.loop-place-init
-loop-place-init g c = record { within = omega arith; front = IsWellFormed-nil g.U.Units.encoding }
+loop-place-init c = record { within = omega arith; front = IsWellFormed-nil Encoding.Utf8 }
 
 pub overflow_add-place : goal.overflow_add-place
-overflow_add-place g c =
-    omega (arith, c.len.ensures, step-some g.U.Units.encoding (g.U.Units.units c.args.units) c.loop-place.place c.step_at-step.result (omega (arith, c.len.ensures)) c.step_at-step.ensures)
+overflow_add-place c =
+    omega (arith, step-some Encoding.Utf8 c.args.bytes.now c.loop-place.place c.step_at-step.result (omega arith) c.step_at-step.ensures)
 
 pub loop-place-smaller : goal.loop-place-smaller
-loop-place-smaller g c =
-    omega (arith, c.len.ensures, step-some g.U.Units.encoding (g.U.Units.units c.args.units) c.loop-place.place c.step_at-step.result (omega (arith, c.len.ensures)) c.step_at-step.ensures)
+loop-place-smaller c =
+    omega (arith, step-some Encoding.Utf8 c.args.bytes.now c.loop-place.place c.step_at-step.result (omega arith) c.step_at-step.ensures)
 
 pub loop-place-preserved : goal.loop-place-preserved
-loop-place-preserved g c =
-    let units = g.U.Units.units c.args.units in
-    let e = g.U.Units.encoding in
-    let within : c.loop-place.place < length units = omega (arith, c.len.ensures) in
+loop-place-preserved c =
+    let units = c.args.bytes.now in
+    let e = Encoding.Utf8 in
+    let within : c.loop-place.place < length units = omega arith in
     let takes = step-some e units c.loop-place.place c.step_at-step.result within c.step_at-step.ensures in
     record {
       within = omega (arith, takes);
@@ -30,6 +30,6 @@ loop-place-preserved g c =
     }
 
 pub returns-clause-none : goal.returns-clause-none
-returns-clause-none g c =
-    let units = g.U.Units.units c.args.units in
-    subst (IsWellFormed (first_in g.U.Units.encoding)) (take_all c.loop-place.place units (omega (arith, c.len.ensures))) c.loop-place.invariant.front
+returns-clause-none c =
+    let units = c.args.bytes.now in
+    subst (IsWellFormed (first_in Encoding.Utf8)) (take_all c.loop-place.place units (omega arith)) c.loop-place.invariant.front

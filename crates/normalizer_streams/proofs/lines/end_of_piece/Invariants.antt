@@ -1,8 +1,8 @@
-use Rattle.std.proofs.Common.{◌-◌, ◌≤◌, length}
+use Rattle.std.proofs.Common.{◌≤◌, length}
 use Rattle.normalizer_streams.proofs.lines.end_of_piece.Given as goal
 
-abbrev pub invariant-loop-place : goal.invariant-loop-place
-invariant-loop-place l = l.place ≤ length l.bytes
+abbrev pub invariant-loop-end : goal.invariant-loop-end
+invariant-loop-end l = l.end ≤ length l.bytes
 
-abbrev pub decreases-loop-place : goal.decreases-loop-place
-decreases-loop-place l = l.place
+abbrev pub decreases-loop-end : goal.decreases-loop-end
+decreases-loop-end l = l.end

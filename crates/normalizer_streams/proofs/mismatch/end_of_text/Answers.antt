@@ -8,8 +8,8 @@ use Rattle.normalizer_streams.proofs.mismatch.end_of_text.Goals as goal
 pub returns-in-Replacement-clause-text : goal.returns-in-Replacement-clause-text
 returns-in-Replacement-clause-text c =
     let piece = c.args.piece.now in
-    subst (λ mode. IsTextOf c.args.scheme mode piece (take (length piece) piece)) (sym c.in-Replacement.is)
-    (subst (IsTextOf c.args.scheme Replacement piece) (sym (take-length piece)) (Ends-replaced c.args.scheme piece))
+    subst (λ mode. IsTextOf mode piece (take (length piece) piece)) (sym c.in-Replacement.is)
+    (subst (IsTextOf Replacement piece) (sym (take-length piece)) (Ends-replaced piece))
 
 pub returns-in-Fatal-clause-text : goal.returns-in-Fatal-clause-text
-returns-in-Fatal-clause-text c = Ends-found c.args.scheme c.args.mode c.args.piece.now c.first_ill_formed.result c.in-Fatal.is c.first_ill_formed.ensures.first c.first_ill_formed.ensures.none
+returns-in-Fatal-clause-text c = Ends-found c.args.mode c.args.piece.now c.first_ill_formed.result c.in-Fatal.is c.first_ill_formed.ensures.first c.first_ill_formed.ensures.none

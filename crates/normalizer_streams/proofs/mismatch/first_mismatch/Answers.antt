@@ -6,7 +6,7 @@ use Rattle.normalizer_streams.proofs.mismatch.first_mismatch.Goals as goal
 
 pub loop-init : goal.loop-init
 loop-init g c = record {
-  reads = IsReadTo-none c.args.scheme (made_by c.args.normalizer.now) _ c.new-carried.result c.new-cursor.result c.new-carried.ensures c.new-cursor.ensures;
+  reads = IsReadTo-none (made_by c.args.normalizer.now) _ c.new-carried.result c.new-cursor.result c.new-carried.ensures c.new-cursor.ensures;
   counted = omega arith;
   read = λ later h. h;
 }
@@ -15,15 +15,15 @@ pub returns-then-not-branch-clause-compared : goal.returns-then-not-branch-claus
 returns-then-not-branch-clause-compared g c =
     let m = made_by c.args.normalizer.now in
     let block = c.in_ok-read_block.ensures.carries in
-    let reads = IsReadTo-more c.args.scheme m _ _ _ _ _ c.loop.cursor _ c.loop.invariant.reads block in
-    IsComparison-ended c.args.scheme m c.args.mode _ _ c.read_block.new.self c.loop.cursor reads (block.end c.if-not-branch.true) c.compare_last.result (rw c.bytes.ensures at c.compare_last.ensures.compared)
+    let reads = IsReadTo-more m _ _ _ _ _ c.loop.cursor _ c.loop.invariant.reads block in
+    IsComparison-ended m c.args.mode _ _ c.read_block.new.self c.loop.cursor reads (block.end c.if-not-branch.true) c.compare_last.result (rw c.bytes.ensures at c.compare_last.ensures.compared)
 
 pub returns-in-Some-clause-compared : goal.returns-in-Some-clause-compared
 returns-in-Some-clause-compared g c =
     let m = made_by c.args.normalizer.now in
-    let reads = IsReadTo-more c.args.scheme m _ _ _ _ _ c.loop.cursor _ c.loop.invariant.reads c.in_ok-read_block.ensures.carries in
+    let reads = IsReadTo-more m _ _ _ _ _ c.loop.cursor _ c.loop.invariant.reads c.in_ok-read_block.ensures.carries in
     let found = rw c.in-Some.is at c.in_ok-found.ensures.compared in
-    IsComparison-some c.args.scheme m c.args.mode _ _ c.read_block.new.self c.loop.cursor reads _ (found reads.passed reads.agrees)
+    IsComparison-some m c.args.mode _ _ c.read_block.new.self c.loop.cursor reads _ (found reads.passed reads.agrees)
 
 pub loop-preserved : goal.loop-preserved
 loop-preserved g c =
@@ -31,7 +31,7 @@ loop-preserved g c =
     let at = c.loop.invariant in
     let block = c.in_ok-read_block.ensures.carries in
     let found = rw c.in_default.is at c.in_ok-found.ensures.compared in
-    let next = IsReadTo-block c.args.scheme m _ _ _ _ _ _ _ c.loop.counter c.loop.cursor c.compare_settled.new.cursor at.reads at.counted block c.if-not-branch.false found in
+    let next = IsReadTo-block m _ _ _ _ _ _ _ c.loop.counter c.loop.cursor c.compare_settled.new.cursor at.reads at.counted block c.if-not-branch.false found in
     record { reads = next.0; counted = next.1; read = λ later h. at.read later (c.in_ok-read_block.ensures.ahead later h) }
 
 pub returns-clause-read : goal.returns-clause-read

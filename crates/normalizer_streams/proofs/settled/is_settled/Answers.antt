@@ -9,6 +9,6 @@ pub returns-then-not-step-clause-settled : goal.returns-then-not-step-clause-set
 returns-then-not-step-clause-settled c = λ yes.
     let d = reading_of c.args.normalizer.now in
     let form = kind_by c.args.normalizer.now in
-    IsSettled-character c.args.scheme d form c.args.bytes.now c.args.place c.requires.positive c.requires.within (sym c.is_aligned.ensures ∙ c.if-not-is_aligned.false)
+    IsSettled-character d form c.args.bytes.now c.args.place c.requires.positive c.requires.within
     (sym (ap (λ s. s.is_error) c.step_at-step.ensures) ∙ not-true _ c.if-not-step.true)
     (subst (λ s. HasBoundaryBefore d form s.character) c.step_at-step.ensures (c.has_boundary_before.ensures.apart yes))

@@ -5,7 +5,7 @@ use Rattle.normalizer_streams.proofs.settled.last_settled.Goals as goal
 
 pub loop-place-preserved : goal.loop-place-preserved
 loop-place-preserved c =
-    let division = IsDivision c.args.scheme (may_continue c.args.normalizer.now) c.args.bytes.now in
+    let division = IsDivision (may_continue c.args.normalizer.now) c.args.bytes.now in
     record {
       within = omega arith;
       none = λ place after i. ⊎_elim

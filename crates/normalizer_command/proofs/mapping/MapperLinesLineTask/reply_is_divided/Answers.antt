@@ -5,9 +5,9 @@ use Rattle.normalizer_command.proofs.mapping.MapperLinesLineTask.reply_is_divide
 pub returns-clause-silent : goal.returns-clause-silent
 returns-clause-silent c = λ lines.
     let t = c.args.self.now in
-    silent_reply (mapper_data_of_borrowed t.mapper) t.task t.scheme t.name.now lines
+    silent_reply (mapper_data_of_borrowed t.mapper) t.task t.name.now lines
 
 pub returns-clause-divided : goal.returns-clause-divided
 returns-clause-divided c = λ lines front rest.
     let t = c.args.self.now in
-    divided_reply (mapper_data_of_borrowed t.mapper) t.task t.scheme t.name.now lines front rest
+    divided_reply (mapper_data_of_borrowed t.mapper) t.task t.name.now lines front rest
