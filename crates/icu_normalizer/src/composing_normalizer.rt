@@ -8,16 +8,13 @@ ghost use Rattle.icu_normalizer.specs.ComposingAcceptance.{
   SuitsComposing,
 };
 ghost use Rattle.icu_normalizer.specs.Normalizers.{data_of};
-ghost use Rattle.normalizer_calls.specs.Serving.{ServesComposing};
-ghost use Rattle.normalizer_calls.specs.inner.ComposingClasses.{composing_class};
-ghost use Rattle.normalizer_calls.specs.inner.KeptClasses.{Say};
+ghost use Rattle.normalizer_calls.specs.Serving.{AreComposingBytes, ServesComposing};
 
 use crate::decomposing_normalizer::DecomposingNormalizer;
-use normalizer_calls::{
-    ComposingForm, ComposingNormalizerBorrowed, NormalizerBorrowed, PassingClasses,
-};
+use normalizer_calls::{ComposingForm, ComposingNormalizerBorrowed, NormalizerBorrowed};
 use normalizer_check::check::check;
 use normalizer_check::loaded::LoadedData;
+use normalizer_passing::PassBytes;
 use normalizer_tables::characters::Purpose;
 use normalizer_tables::condition::{Bounds, composing_conditions};
 use normalizer_tables::owned::OwnedCharacterData;
@@ -25,7 +22,6 @@ use normalizer_tables::{
     CanonicalCompositions, DataError, DataMarkerInfo, DataProvider, NormalizerNfcV1,
     NormalizerNfdDataV1, NormalizerNfdTablesV1, NormalizerNfkdDataV1, NormalizerNfkdTablesV1,
 };
-use std::alloc::AllocError;
 
 /// A normalizer to NFC, or to NFKC over compatibility data. Its data were checked when it was made.
 ///
@@ -34,9 +30,8 @@ use std::alloc::AllocError;
 pub struct ComposingNormalizer {
     decomposing: DecomposingNormalizer,
     pairs: CanonicalCompositions,
-    classes: PassingClasses,
-    ghost says: { Say (composing_class (data_of decomposing) (bounds_of (data_of decomposing).decompositions) pairs)
-        classes },
+    bytes: PassBytes,
+    ghost passing: { AreComposingBytes (data_of decomposing) pairs bytes },
     ghost serves: { ServesComposing (data_of decomposing) (bounds_of (data_of decomposing).decompositions) pairs },
 }
 
@@ -126,14 +121,15 @@ impl ComposingNormalizer {
         let bounds = Bounds::of_cap(borrowed.cap());
         let loaded = LoadedData::new(borrowed, bounds, Some(&pairs), None);
         check(&loaded, marker, composing_conditions())?;
-        let decomposing = DecomposingNormalizer { characters, bounds };
-        let Ok(classes) = classes_over(&decomposing, &pairs) else {
+        let held = characters.as_borrowed(Purpose::Forms);
+        let Ok(bytes) = held.composing_bytes(&pairs) else {
             return Err(DataError::Memory);
         };
+        let decomposing = DecomposingNormalizer { characters, bounds };
         Ok(ComposingNormalizer {
             decomposing,
             pairs,
-            classes,
+            bytes,
         })
     }
 
@@ -153,21 +149,6 @@ impl ComposingNormalizer {
         let bounds = self.decomposing.bounds;
         let characters = self.decomposing.characters.as_borrowed(Purpose::Forms);
         let characters = characters.with_passthrough_bound(bounds.decomposition);
-        NormalizerBorrowed::new(ComposingForm::new(characters, &self.pairs, bounds, &self.classes))
+        NormalizerBorrowed::new(ComposingForm::new(characters, &self.pairs, bounds, &self.bytes))
     }
-}
-
-/// The classes with which characters pass in the composing form over data and pairs.
-fn classes_over(
-    decomposing: &DecomposingNormalizer,
-    pairs: &CanonicalCompositions,
-) -> Result<PassingClasses, AllocError>
-    requires { let s = data_of decomposing.now in ServesComposing s (bounds_of s.decompositions) pairs.now }
-    ensures { let s = data_of decomposing.now in
-        IfOk result (Say (composing_class s (bounds_of s.decompositions) pairs.now)) }
-{
-    let bounds = decomposing.bounds;
-    let characters = decomposing.characters.as_borrowed(Purpose::Forms);
-    let characters = characters.with_passthrough_bound(bounds.decomposition);
-    PassingClasses::over(characters, pairs, bounds)
 }

@@ -15,6 +15,7 @@ use Rattle.normalizer_tables.proofs.conditions.ListedConditions.{met}
 use Rattle.normalizer_check.proofs.conditions.AcceptedLaws.{SuitsTexts-handed_in}
 use Rattle.normalizer_tables.proofs.words.PassthroughBound.{IsPassthroughBelow-handed_in}
 use Rattle.normalizer_calls.specs.Serving.{ServesDecomposing}
+use Rattle.normalizer_calls.proofs.passthrough.PassthroughLemmas.{HasBoundaryBefore-decomposed}
 use Rattle.normalizer_iterators.proofs.reads.ReadsOfSoundData.{SuitsLazyReading-nfd}
 
 -- the list of a character is in canonical order: condition 9
@@ -25,6 +26,8 @@ list_ordered s b holds c scalar = (holds.1 c scalar).ordered
 pub ServesDecomposing-handed_in : (decompositions : Decompositions) (tables : Lists) → IsSoundNfdData decompositions tables → ServesDecomposing (characters_from decompositions tables None) nfd_bounds
 ServesDecomposing-handed_in decompositions tables sound = record {
   reading = SuitsLazyReading-nfd decompositions tables sound;
+  beginnings = HasBoundaryBefore-decomposed (characters_from decompositions tables None) nfd_bounds (SuitsLazyReading-nfd decompositions tables sound)
+      (IsPassthroughBelow-handed_in decompositions tables sound) (SuitsTexts-handed_in decompositions tables sound);
   passthrough = IsPassthroughBelow-handed_in decompositions tables sound;
   ordered = list_ordered (characters_from decompositions tables None) nfd_bounds (met (nfd_loaded decompositions tables) nfd_conditions Order sound refl);
   laws = SuitsTexts-handed_in decompositions tables sound;

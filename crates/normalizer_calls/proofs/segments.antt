@@ -1,4 +1,4 @@
 -- Segments that stay as they are.
 pub mod ApartLemmas
 pub mod KeptLemmas
-pub mod StableLemmas
+pub mod LeftLemmas

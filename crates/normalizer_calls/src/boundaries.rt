@@ -1,7 +1,6 @@
 //! Characters before which a text may be divided.
 ghost use Rattle.std.specs.Prelude.{◌≡◌, true};
 ghost use Rattle.normal_forms.specs.declared.Form.TheVariants.{Composing, Decomposing};
-ghost use Rattle.normalizer_tables.specs.conditions.PairConditions.{is_taken_as_boundary};
 ghost use Rattle.normalizer_calls.specs.BoundaryBefore.{HasBoundaryBefore};
 ghost use Rattle.normalizer_calls.specs.Boundaries.{has_composing_boundary, has_decomposing_boundary};
 ghost use Rattle.normalizer_calls.specs.Forms.{composed_by, decomposed_by};
@@ -9,9 +8,6 @@ ghost use Rattle.normalizer_calls.specs.Forms.{composed_by, decomposed_by};
 use crate::borrowed::NormalizerBorrowed;
 use crate::composing_form::ComposingForm;
 use crate::decomposing_form::DecomposingForm;
-use normalizer_tables::characters::CharacterData;
-use normalizer_tables::condition::Bounds;
-use normalizer_tables::word::is_backward_combining;
 
 impl<'a> NormalizerBorrowed<DecomposingForm<'a>> {
     /// Returns whether a text may be divided before `character`: its decomposition begins with a starter (The Unicode
@@ -32,18 +28,7 @@ impl<'a> NormalizerBorrowed<ComposingForm<'a>> {
         ensures exactly { result ≡ has_composing_boundary self.now character }
         ensures apart { result ≡ true → HasBoundaryBefore (composed_by self.now).reading Composing character }
     {
-        is_taken_as_boundary(&self.form.characters, self.form.bounds, character)
+        let form = &self.form;
+        form.begins_by(character, form.characters.word_of(character))
     }
-}
-
-/// Whether a character isn't flagged as backward combining, or is below the bound.
-#[tactic(auto, unfolding(normalizer_tables::specs::conditions::PairConditions::is_taken_as_boundary))]
-pub(crate) fn is_taken_as_boundary(
-    characters: &CharacterData<'_>,
-    bounds: Bounds,
-    character: char,
-) -> bool
-    ensures { result ≡ is_taken_as_boundary characters.now bounds character }
-{
-    !is_backward_combining(characters.word_of(character)) || (character as u32) < bounds.composition
 }

@@ -7,13 +7,10 @@ ghost use Rattle.normalizer_calls.specs.Checks.{
   FindsOffence,
   FindsOffenceOfText,
 };
-ghost use Rattle.normalizer_calls.specs.inner.PassthroughRuns.{IsPassedFront};
 
 use crate::borrowed::NormalizerBorrowed;
-use crate::changing::{changes_first, has_unordered_marks};
 use crate::forming::Forming;
-use crate::offence::{cut_after, offence_of};
-use crate::runs::{ExpectedFront, Passed, SHORT, is_own_if_seen, kept_from, passthrough_end};
+use crate::offence::{cut_of, offence_of};
 use normalizer_iterators::NormalizeError;
 use normalizer_text::Offence;
 use normalizer_text::check_sink::Expected;
@@ -22,39 +19,7 @@ use normalizer_text::check_sink::Expected;
 fn is_own_form<U: Expected, N: Forming>(normalizer: &N, units: U) -> Result<bool, NormalizeError>
     ensures { ChecksForm (N.made_form normalizer.now) U.encoding (U.units units) result }
 {
-    // In a decomposing form most characters that don't pass change by themselves.
-    if !normalizer.holds_back() && units.len() <= SHORT {
-        if let Some(own) = is_own_if_seen(normalizer, units) {
-            return Ok(own);
-        }
-    }
-    let passed = passthrough_end(normalizer, units, ExpectedFront::Run);
-    if passed.end == units.len() {
-        return Ok(true);
-    }
-    is_own_after_run(normalizer, units, passed)
-}
-
-/// Whether they are, by the end of the run at the beginning. If what comes next is seen to change, nothing is written.
-/// It isn't inlined, so that a text that is passed on needs no large frame.
-#[inline(never)]
-fn is_own_after_run<U: Expected, N: Forming>(
-    normalizer: &N,
-    units: U,
-    passed: Passed,
-) -> Result<bool, NormalizeError>
-    requires { IsPassedFront U.encoding (N.made_form normalizer.now) (U.units units) passed.end }
-    ensures { ChecksForm (N.made_form normalizer.now) U.encoding (U.units units) result }
-{
-    let kept = kept_from(normalizer, units, passed, ExpectedFront::Run);
-    if kept.end == units.len() {
-        return Ok(true);
-    }
-    let rest = units.after(kept.end);
-    if changes_first(normalizer, rest, kept.composite) || has_unordered_marks(normalizer, rest) {
-        return Ok(false);
-    }
-    Ok(cut_after(normalizer, units, kept.end)?.is_none())
+    Ok(cut_of(normalizer, units)?.is_none())
 }
 
 impl<F: Forming> NormalizerBorrowed<F> {

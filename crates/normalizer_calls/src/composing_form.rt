@@ -1,5 +1,5 @@
 //! The composing form over borrowed data.
-ghost use Rattle.std.specs.Prelude.{◌≡◌, All, IfOk};
+ghost use Rattle.std.specs.Prelude.{◌≡◌, true, false, All, IfOk, MatchOption};
 ghost use Rattle.std.specs.Iterator.{IsFinite};
 ghost use Rattle.normal_forms.specs.Forms.{nfc};
 ghost use Rattle.normalizer_tables.specs.Ignored.{ignored_list};
@@ -8,14 +8,12 @@ ghost use Rattle.normalizer_tables.specs.conditions.PairConditions.{is_composing
 ghost use Rattle.normalizer_tables.specs.conditions.PairConditions.{HasOrderedLists};
 ghost use Rattle.normalizer_tables.specs.declared.characters.IgnoredCharacters.TheVariants.{Dropped};
 ghost use Rattle.normalizer_iterators.specs.Iterating.{YieldsFormBy};
-ghost use Rattle.normalizer_calls.specs.Serving.{ServesComposing};
-ghost use Rattle.normalizer_calls.specs.inner.ComposingClasses.{composing_class};
-ghost use Rattle.normalizer_calls.specs.inner.KeptClasses.{Say};
+ghost use Rattle.normalizer_calls.specs.Serving.{AreComposingBytes, ServesComposing};
 
 use crate::borrowed::NormalizerBorrowed;
-use crate::passing_classes::PassingClasses;
 use normalizer_iterators::composition::composed;
 use normalizer_iterators::{Composition, NormalizeError};
+use normalizer_passing::PassBytes;
 use normalizer_tables::CanonicalCompositions;
 use normalizer_tables::characters::{CharacterData, IgnoredCharacters};
 use normalizer_tables::condition::Bounds;
@@ -27,10 +25,13 @@ pub struct ComposingForm<'a> {
     pub(crate) characters: CharacterData<'a>,
     pub(crate) pairs: &'a CanonicalCompositions,
     pub(crate) bounds: Bounds,
-    pub(crate) classes: &'a PassingClasses,
-    ghost says: { Say (composing_class characters bounds pairs.now) classes.now },
+    pub(crate) bytes: &'a PassBytes,
+    ghost passing: { AreComposingBytes characters pairs.now bytes.now },
     ghost serves: { ServesComposing characters bounds pairs.now },
 }
+
+/// A normalizer to NFC or NFKC over borrowed data: the calls on text are its methods.
+pub type ComposingNormalizerBorrowed<'a> = NormalizerBorrowed<ComposingForm<'a>>;
 
 impl<'a> ComposingForm<'a> {
     ghost use Rattle.normalizer_iterators.specs.CompositionItems.{data_of_composition, pairs_of_composition};
@@ -73,6 +74,20 @@ impl<'a> ComposingForm<'a> {
     {
         !is_backward_combining(word) || (character as u32) < self.bounds.composition
     }
+
+    /// Whether a run may begin with a character, if it is taken to begin a new part. It is looked up once.
+    #[inline(always)]
+    pub(crate) fn run_begins(&self, character: char) -> Option<bool>
+        ensures { let f = self.now in MatchOption result (is_taken_as_boundary f.characters f.bounds character ≡ false)
+            (λ _. is_taken_as_boundary f.characters f.bounds character ≡ true) }
+    {
+        let word = self.characters.word_of(character);
+        if self.begins_by(character, word) {
+            Some(self.passes_by(character, word))
+        } else {
+            None
+        }
+    }
 }
 
 impl<'a> NormalizerBorrowed<ComposingForm<'a>> {
@@ -107,9 +122,6 @@ impl<'a> NormalizerBorrowed<ComposingForm<'a>> {
         ensures results { IfOk result (λ it.
             All (HasOrderedLists (data_of_composition it) (ignored_list Dropped)) (pairs_of_composition it)) }
     {
-        let form = &self.form;
-        let characters = form.characters.copied();
-        let dropped = IgnoredCharacters::Dropped;
-        composed(characters, dropped, form.pairs, form.bounds, iter)
+        self.form.items(iter)
     }
 }

@@ -19,6 +19,9 @@ pub struct DecomposingForm<'a> {
     ghost serves: { ServesDecomposing characters bounds },
 }
 
+/// A normalizer to NFD or NFKD over borrowed data: the calls on text are its methods.
+pub type DecomposingNormalizerBorrowed<'a> = NormalizerBorrowed<DecomposingForm<'a>>;
+
 impl<'a> DecomposingForm<'a> {
     /// Returns an iterator over the characters of the form of what an iterator yields.
     pub(crate) fn items<I: Iterator<Item = char> + Drop>(
@@ -62,7 +65,6 @@ impl<'a> NormalizerBorrowed<DecomposingForm<'a>> {
             (data_of_borrowed self.now) Dropped [] nfd iter result }
         ensures ready { IfOk result ⟦<Decomposition<'a, I> as Iterator>⟧.can_next }
     {
-        let characters = self.form.characters.copied();
-        Decomposition::over(characters, IgnoredCharacters::Dropped, iter)
+        self.form.items(iter)
     }
 }

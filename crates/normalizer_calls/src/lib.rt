@@ -5,30 +5,25 @@
 
 mod borrowed;
 mod boundaries;
-mod changing;
 mod checks;
+mod composing;
 mod composing_form;
+mod decomposing;
 mod decomposing_form;
-mod form_of_one;
 mod forming;
-mod kept;
 mod offence;
 mod owned;
-mod passing_classes;
 mod runs;
+mod segment;
 mod serving;
 mod splits;
 mod to_sinks;
 mod unchecked;
 mod utf32;
-mod word_classes;
 mod writing;
 
-pub use borrowed::{
-    ComposingNormalizerBorrowed, DecomposingNormalizerBorrowed, NormalizerBorrowed,
-};
-pub use composing_form::ComposingForm;
-pub use decomposing_form::DecomposingForm;
+pub use borrowed::NormalizerBorrowed;
+pub use composing_form::{ComposingForm, ComposingNormalizerBorrowed};
+pub use decomposing_form::{DecomposingForm, DecomposingNormalizerBorrowed};
 pub use forming::Forming;
-pub use passing_classes::PassingClasses;
 pub use utf32::Utf32Chars;

@@ -1,42 +1,16 @@
 //! The first place at which an input is not normalized: one search, on which every check is based.
 ghost use Rattle.std.specs.Prelude.{IfOk, IsOk, IsOkUnless};
-ghost use Rattle.normalizer_text.specs.InputCut.{QualifiesForInputCut};
 ghost use Rattle.normalizer_calls.specs.Checks.{IsLastingOffence};
 ghost use Rattle.normalizer_calls.specs.Forms.{HasShortUnits};
 ghost use Rattle.normalizer_calls.specs.inner.Offences.{IsCutUnlessNormalized};
-ghost use Rattle.normalizer_calls.specs.inner.PassthroughRuns.{IsPassedFront};
+ghost use Rattle.normalizer_calls.specs.inner.PassthroughRuns.{IsPassed};
 
 use crate::forming::Forming;
-use crate::runs::{ExpectedFront, Passed, kept_from, passthrough_end};
+use crate::runs::{Passed, passthrough_end};
 use crate::writing::write_changed;
 use normalizer_iterators::NormalizeError;
 use normalizer_text::Offence;
 use normalizer_text::check_sink::{Expected, IsNormalizedSink};
-
-/// The cut of the units, of which those before an end are kept, or nothing if they are well-formed and normalized.
-pub(crate) fn cut_after<U: Expected, N: Forming>(
-    normalizer: &N,
-    units: U,
-    kept: usize,
-) -> Result<Option<usize>, NormalizeError>
-    requires { let m = N.made_form normalizer.now in
-        QualifiesForInputCut U.encoding m.reading m.form (U.units units) kept }
-    ensures cut { IfOk result (IsCutUnlessNormalized
-        U.encoding (N.made_form normalizer.now).reading (N.made_form normalizer.now).form (U.units units)) }
-    ensures room { HasShortUnits (N.made_form normalizer.now) U.encoding (U.units units) → IsOk result }
-    ensures refused { IsOkUnless result NormalizeError.Memory }
-{
-    if kept == units.len() {
-        return Ok(None);
-    }
-    let rest = units.after(kept);
-    let mut expected = IsNormalizedSink::new(rest);
-    match write_changed(normalizer, rest, None, &mut expected) {
-        Ok(()) => Ok(None),
-        Err(NormalizeError::Sink) => Ok(Some(kept + (rest.len() - expected.remaining_len()))),
-        Err(NormalizeError::Memory) => Err(NormalizeError::Memory),
-    }
-}
 
 /// The cut of the units, or nothing if they are well-formed and normalized.
 #[inline(always)]
@@ -49,29 +23,34 @@ pub(crate) fn cut_of<U: Expected, N: Forming>(
     ensures room { HasShortUnits (N.made_form normalizer.now) U.encoding (U.units units) → IsOk result }
     ensures refused { IsOkUnless result NormalizeError.Memory }
 {
-    let passed = passthrough_end(normalizer, units, ExpectedFront::Run);
+    let passed = passthrough_end(normalizer, units);
     if passed.end == units.len() {
         return Ok(None);
     }
-    cut_after_run(normalizer, units, passed)
+    cut_after(normalizer, units, passed)
 }
 
-/// The same cut, by the end of the run at the beginning. It isn't inlined, so that a text that is passed on needs no
-/// large frame.
+/// The same cut, by the end of what is passed on. It isn't inlined, so that a text that is passed on needs no large
+/// frame.
 #[inline(never)]
-fn cut_after_run<U: Expected, N: Forming>(
+fn cut_after<U: Expected, N: Forming>(
     normalizer: &N,
     units: U,
     passed: Passed,
 ) -> Result<Option<usize>, NormalizeError>
-    requires { IsPassedFront U.encoding (N.made_form normalizer.now) (U.units units) passed.end }
+    requires { IsPassed U.encoding (N.made_form normalizer.now) (U.units units) passed }
     ensures cut { IfOk result (IsCutUnlessNormalized
         U.encoding (N.made_form normalizer.now).reading (N.made_form normalizer.now).form (U.units units)) }
     ensures room { HasShortUnits (N.made_form normalizer.now) U.encoding (U.units units) → IsOk result }
     ensures refused { IsOkUnless result NormalizeError.Memory }
 {
-    let kept = kept_from(normalizer, units, passed, ExpectedFront::Run);
-    cut_after(normalizer, units, kept.end)
+    let rest = units.after(passed.end);
+    let mut expected = IsNormalizedSink::new(rest);
+    match write_changed(normalizer, rest, passed.next, &mut expected) {
+        Ok(()) => Ok(None),
+        Err(NormalizeError::Sink) => Ok(Some(units.len() - expected.remaining_len())),
+        Err(NormalizeError::Memory) => Err(NormalizeError::Memory),
+    }
 }
 
 /// The first mismatch of the units, which lasts whatever is appended to them, or none if they are well-formed and

@@ -1,17 +1,14 @@
 //! Forms over data that serve them, and normalizers to these forms.
-ghost use Rattle.std.specs.Prelude.{◌≡◌, IfOk};
-ghost use Rattle.normalizer_calls.specs.Serving.{ServesComposing, ServesDecomposing};
-ghost use Rattle.normalizer_calls.specs.inner.ComposingClasses.{composing_class};
-ghost use Rattle.normalizer_calls.specs.inner.KeptClasses.{Say};
+ghost use Rattle.std.specs.Prelude.{◌≡◌};
+ghost use Rattle.normalizer_calls.specs.Serving.{AreComposingBytes, ServesComposing, ServesDecomposing};
 
 use crate::borrowed::NormalizerBorrowed;
 use crate::composing_form::ComposingForm;
 use crate::decomposing_form::DecomposingForm;
-use crate::passing_classes::PassingClasses;
+use normalizer_passing::PassBytes;
 use normalizer_tables::CanonicalCompositions;
 use normalizer_tables::characters::CharacterData;
 use normalizer_tables::condition::Bounds;
-use std::alloc::AllocError;
 
 impl<F> NormalizerBorrowed<F> {
     /// Makes the normalizer to a form.
@@ -36,51 +33,26 @@ impl<'a> DecomposingForm<'a> {
 }
 
 impl<'a> ComposingForm<'a> {
-    /// Makes the composing form over data, pairs, and the classes with which characters pass in it.
+    /// Makes the composing form over data, pairs, and the bytes by which characters pass in it.
     #[inline(always)]
     pub fn new(
         characters: CharacterData<'a>,
         pairs: &'a CanonicalCompositions,
         bounds: Bounds,
-        classes: &'a PassingClasses,
+        bytes: &'a PassBytes,
     ) -> Self
-        requires says { Say (composing_class characters bounds pairs.now) classes.now }
+        requires passing { AreComposingBytes characters pairs.now bytes.now }
         requires serves { ServesComposing characters bounds pairs.now }
         ensures characters { result.characters ≡ characters.entry }
         ensures pairs { result.pairs.now ≡ pairs.now }
         ensures bounds { result.bounds ≡ bounds }
-        ensures classes { result.classes.now ≡ classes.now }
+        ensures bytes { result.bytes.now ≡ bytes.now }
     {
         ComposingForm {
             characters,
             pairs,
             bounds,
-            classes,
+            bytes,
         }
-    }
-}
-
-impl PassingClasses {
-    /// Makes the classes with which characters pass in the composing form over data and pairs.
-    ///
-    /// # Errors
-    /// If an allocation failed.
-    pub fn over(
-        characters: CharacterData<'_>,
-        pairs: &CanonicalCompositions,
-        bounds: Bounds,
-    ) -> Result<PassingClasses, AllocError>
-        requires { ServesComposing characters bounds pairs.now }
-        ensures { IfOk result (Say (composing_class characters.entry bounds pairs.now)) }
-    {
-        let alloc = characters.allocator();
-        let unknown = PassingClasses::unknown(alloc)?;
-        let form = ComposingForm {
-            characters,
-            pairs,
-            bounds,
-            classes: &unknown,
-        };
-        PassingClasses::of(alloc, &form)
     }
 }

@@ -4,7 +4,6 @@ ghost use Rattle.std.specs.Prelude.{chars};
 ghost use Rattle.normalizer_text.specs.Encodings.{Encoding, decoded_in};
 ghost use Rattle.normalizer_text.specs.Utf8.{decoded_utf8};
 ghost use Rattle.normalizer_text.specs.Utf16.{decoded_utf16};
-ghost use Rattle.normalizer_text.specs.InputCut.{IsInputCut};
 ghost use Rattle.normalizer_calls.specs.Checks.{AnswersOf, IsSplitAtCut, IsTextSplitAtCut};
 
 use crate::borrowed::NormalizerBorrowed;
@@ -14,20 +13,6 @@ use normalizer_iterators::NormalizeError;
 use normalizer_text::check_sink::Expected;
 use normalizer_text::text_of;
 
-/// Returns the cut of the units: their end if they are well-formed and normalized.
-pub(crate) fn offset_of_cut<U: Expected, N: Forming>(
-    normalizer: &N,
-    units: U,
-) -> Result<usize, NormalizeError>
-    ensures { let m = N.made_form normalizer.now in AnswersOf m (decoded_in U.encoding (U.units units))
-        (IsInputCut U.encoding m.reading m.form (U.units units)) result }
-{
-    match cut_of(normalizer, units)? {
-        Some(place) => Ok(place),
-        None => Ok(units.len()),
-    }
-}
-
 /// The units in two parts, at their cut.
 pub(crate) fn split_at_cut<U: Expected, N: Forming>(
     normalizer: &N,
@@ -36,7 +21,7 @@ pub(crate) fn split_at_cut<U: Expected, N: Forming>(
     ensures { AnswersOf (N.made_form normalizer.now) (decoded_in U.encoding (U.units units)) (λ parts. IsSplitAtCut
         (N.made_form normalizer.now) U.encoding (U.units units) (U.units parts.0) (U.units parts.1)) result }
 {
-    let place = offset_of_cut(normalizer, units)?;
+    let place = cut_of(normalizer, units)?.unwrap_or(units.len());
     Ok((units.before(place), units.after(place)))
 }
 

@@ -13,6 +13,7 @@ ghost use Rattle.normalizer_calls.specs.Utf32.{decoded_utf32, TakesUnit};
 use crate::borrowed::NormalizerBorrowed;
 use crate::forming::Forming;
 use normalizer_iterators::NormalizeError;
+use normalizer_text::least_after;
 use std::marker::Model;
 
 /// An iterator over the characters that units decode to, as UTF-32. A unit that isn't a Unicode scalar value reads as
@@ -90,16 +91,17 @@ fn is_seen_to_pass<N: Forming>(normalizer: &N, units: &[u32]) -> bool
     ensures normalized { let m = N.made_form normalizer.now in
         IsTrue result → IsNormalized m.reading m.form units.now }
 {
-    normalizer.passthrough_is_normalized_apart();
-    let mut last = 0;
+    let bytes = normalizer.bytes();
+    let mut least = 1;
     for unit in units {
         let Some(character) = char::from_u32(*unit) else {
             return false;
         };
-        let Some(class) = normalizer.branched_class(last, character) else {
+        let byte = bytes.of(character);
+        if byte < least {
             return false;
-        };
-        last = class;
+        }
+        least = least_after(byte);
     }
     true
 }

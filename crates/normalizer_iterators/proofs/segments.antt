@@ -1,7 +1,3 @@
 -- Segments in buffers.
-pub mod InOrderLemmas
-pub mod OrderedLemmas
-pub mod PairLemmas
-pub mod BufferedMarks
+pub mod BufferedSegments
 pub mod SegmentLemmas
-pub mod ShortTextLemmas

@@ -1,4 +1,3 @@
-pub mod BufferRoom
 pub mod ByClass
 pub mod Composing
 pub mod ComposingInPlace
@@ -9,11 +8,9 @@ pub mod Items
 pub mod Iterating
 pub mod LazyComposing
 pub mod LazyReading
-pub mod CharactersLeft
 pub mod NextItem
 pub mod Reads
 pub mod Segment
-pub mod ShortText
 pub mod ToCome
 pub mod Waiting
 pub mod WaitingList

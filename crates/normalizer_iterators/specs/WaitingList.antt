@@ -22,10 +22,6 @@ text_from b place = entries.characters (drop place (take b.run b.entries.items))
 unfoldable pub unordered_text : WaitingList → List ℕ
 unordered_text b = entries.characters (drop b.run b.entries.items)
 
--- those that come out next are marks alone
-unfoldable pub HasOnlyMarks : WaitingList → Type 0
-HasOnlyMarks b = entries.HasMarks (drop b.next (take b.run b.entries.items))
-
 -- how many places are in use
 unfoldable pub item_count : WaitingList → ℕ
 item_count b = small_vec_len b.entries

@@ -1,319 +1,238 @@
-//! The normal forms of short texts, in buffers that are used again.
-ghost use Rattle.std.specs.Prelude.{◌≡◌, ◌+◌, ◌≤◌, ◌∷◌, [], ℕ, List, length, IfSome, IsTrue};
+//! The normal form of a segment, whose characters are buffered in canonical order and taken one by one.
+ghost use Rattle.std.specs.Prelude.{◌≡◌, ◌+◌, ◌<◌, ◌≤◌, ◌∷◌, [], ℕ, List, drop, length};
+ghost use Rattle.std.specs.Prelude.{IfOk, IfNone, IfSome, IsOk, IsTrue, OnOk};
 ghost use Rattle.normal_forms.specs.CompositionByStarters.{compose_by_starters};
-ghost use Rattle.normal_forms.specs.Decomposition.{expand};
-ghost use Rattle.normal_forms.specs.Forms.{nfd, nfc};
-ghost use Rattle.normal_forms.specs.Hypotheses.{HasStarterResults};
 ghost use Rattle.normal_forms.specs.ShortRuns.{buffer_limit};
 ghost use Rattle.normal_forms.specs.Reading.{Reading};
-ghost use Rattle.normalizer_tables.specs.Characters.{class_of, list_of};
+ghost use Rattle.normalizer_tables.specs.Characters.{class_of, has_class_form, list_of};
 ghost use Rattle.normalizer_tables.specs.Ignored.{ignored_list};
 ghost use Rattle.normalizer_tables.specs.Readings.{reading_by};
-ghost use Rattle.normalizer_tables.specs.declared.characters.IgnoredCharacters.TheVariants.{Dropped};
-ghost use Rattle.normalizer_text.specs.Encodings.{decoded_in};
-ghost use Rattle.normalizer_iterators.specs.ShortText.{so_far};
-ghost use Rattle.normalizer_iterators.specs.Waiting.{characters, HasClassesOf};
-ghost use Rattle.normalizer_iterators.specs.inner.OrderedTexts.{entries_so_far, IsOrderOf, Puts};
-ghost use Rattle.normalizer_iterators.specs.inner.Segments.{composed_nfd, HasPairsOf};
+ghost use Rattle.normalizer_text.specs.DecodingSteps.{IsBoundary};
+ghost use Rattle.normalizer_text.specs.Encodings.{Encoding, decoded_in, first_in};
+ghost use Rattle.normalizer_iterators.specs.LazyReading.{HasShortLazyRuns};
+ghost use Rattle.normalizer_iterators.specs.Reads.{HasOwnWord};
+ghost use Rattle.normalizer_iterators.specs.WaitingList.{item_count, AgreesWith};
+ghost use Rattle.normalizer_iterators.specs.inner.Segments.{HasPairsOf};
+ghost use Rattle.normalizer_iterators.specs.inner.MarkReads.{after_starter, starter_of, HasRoomForMarks, MarksReadTo};
+ghost use Rattle.normalizer_iterators.specs.inner.ReadingOn.{Adds, KeepsClasses};
 
 use crate::pending::PendingChar;
-use crate::segment::ordered_text::OrderedText;
-use crate::segment::short_text::ShortText;
-use crate::waiting::ClassedChar;
+use crate::reading::push_from;
+use crate::waiting::{ClassedChar, WaitingList};
 use normalizer_tables::CanonicalCompositions;
 use normalizer_tables::characters::{CharacterData, IgnoredCharacters};
-use normalizer_tables::members::Members;
 use normalizer_text::{Step, Units};
+use std::alloc::{AllocError, Global};
 
-mod ordered_text;
-mod short_text;
-
-/// How many characters the buffers hold.
-pub(crate) const ROOM: usize = 32;
-
-/// Buffers for the normal forms of short texts, which are used again for each text. A form fits if it is made of lists
-/// that have at most 17 characters together, and mostly up to 32. No memory is taken.
+/// The characters of a segment, which are taken one by one. It is used again for each segment.
 #[derive(Drop)]
-pub struct SegmentBuffers {
-    ordered: OrderedText,
-    text: ShortText,
-    /// Whether marks of the next text are known to be out of order.
-    is_unordered: bool,
+pub struct SegmentBuffer {
+    /// The starter at the front, if there is one and it isn't taken.
+    starter: Option<char>,
+    /// The characters after it.
+    waiting: WaitingList,
 }
 
-impl SegmentBuffers {
-    ghost use Rattle.normalizer_iterators.specs.Segment.{text};
+impl SegmentBuffer {
+    ghost use Rattle.normalizer_iterators.specs.Segment.{
+      characters_left,
+      Agrees,
+      HasRead,
+      IsDecomposed,
+      IsSmall,
+    };
 
-    /// Makes empty buffers.
-    pub fn new() -> Self
-        ensures { text result ≡ [] }
-    {
-        SegmentBuffers {
-            ordered: OrderedText::new(),
-            text: ShortText::new(),
-            is_unordered: false,
+    /// Makes an empty buffer. No memory is taken for up to 17 characters after a starter.
+    pub fn new(alloc: Global) -> Self {
+        SegmentBuffer {
+            starter: None,
+            waiting: WaitingList::new(alloc),
         }
     }
 
-    /// Says whether marks of the next text are known to be out of order: its composed form then takes less time.
-    #[inline(always)]
-    pub fn expect_unordered(&mut self, is_unordered: bool)
-        ensures { text self.new ≡ text self.old }
-    {
-        self.is_unordered = is_unordered;
-    }
-
-    /// Returns the form that was made last.
-    #[inline(always)]
-    pub fn text(&self) -> &[char]
-        ensures { result.now ≡ text self.now }
-    {
-        self.text.as_slice()
-    }
-
-    /// Makes the decomposed form of what the units decode to. Returns whether it fits; if not, the text is unspecified.
-    pub fn decompose<U: Units>(
+    /// Buffers the list of the first step, which was read before, and the marks after it that are their own lists, in
+    /// place of what is buffered. Returns where they end.
+    ///
+    /// # Errors
+    /// `AllocError` if an allocation failed. Over short runs none is made.
+    pub fn read<U: Units>(
         &mut self,
         characters: &CharacterData<'_>,
         ignored: IgnoredCharacters,
         units: U,
-    ) -> bool
-        ensures text { IsTrue result → text self.new ≡
-            nfd (reading_by characters.now ignored []) (decoded_in U.encoding (U.units units)) }
-        ensures fits { length (expand (reading_by characters.now ignored []) (decoded_in U.encoding (U.units units)))
-            ≤ buffer_limit → IsTrue result }
+        first: Step,
+    ) -> Result<usize, AllocError>
+        requires some { 0 < length (U.units units) }
+        requires first { first ≡ first_in U.encoding (U.units units) }
+        ensures read { IfOk result (λ end.
+            HasRead (reading_by characters.now ignored []) U.encoding (U.units units) end self.new) }
+        ensures room { HasShortLazyRuns characters.now ignored (decoded_in U.encoding (U.units units)) → IsOk result }
+        ensures small { HasShortLazyRuns characters.now ignored (decoded_in U.encoding (U.units units)) →
+            IsSmall self.new }
     {
-        if let Some((first, second)) = two_in_order(characters, ignored, units) {
-            self.text.clear();
-            return self.text.push(first) && self.text.push(second);
-        }
-        if !read_all(characters, ignored, units, &mut self.ordered) {
-            return false;
-        }
-        copy_all(&self.ordered, &mut self.text)
+        self.waiting.clear();
+        let read = PendingChar::new(characters, 0, first.character);
+        self.starter = push_after_starter(characters, ignored, read, &mut self.waiting)?;
+        let end = read_marks(characters, ignored, units, first.width, &mut self.waiting)?;
+        Ok(end)
     }
 
-    /// Makes the composed form of what the units decode to. Returns whether it fits; if not, the text is unspecified.
-    pub fn compose<U: Units>(
+    /// Buffers the list of the character of a step too. Returns whether it fits without memory.
+    pub fn add(
         &mut self,
         characters: &CharacterData<'_>,
         ignored: IgnoredCharacters,
-        pairs: &CanonicalCompositions,
-        units: U,
+        step: Step,
     ) -> bool
-        requires { HasStarterResults (reading_by characters.now Dropped pairs.now) }
-        ensures text { IsTrue result → text self.new ≡
-            nfc (reading_by characters.now ignored pairs.now) (decoded_in U.encoding (U.units units)) }
-        ensures fits { length (expand (reading_by characters.now ignored []) (decoded_in U.encoding (U.units units)))
-            ≤ buffer_limit → IsTrue result }
+        ensures read { IsTrue result → (e : Encoding) (units : List ℕ) (place : ℕ) → place < length units →
+            step ≡ first_in e (drop place units) → HasRead (reading_by characters.now ignored []) e units place self.old →
+            HasRead (reading_by characters.now ignored []) e units (place + step.width) self.new }
+        ensures small { IsTrue result → IsSmall self.new }
     {
-        let is_unordered = self.is_unordered;
-        self.is_unordered = false;
-        if !is_unordered && compose_in_order(characters, pairs, units, &mut self.text) {
-            return true;
-        }
-        if !read_all(characters, ignored, units, &mut self.ordered) {
-            return false;
-        }
-        compose_all(pairs, &self.ordered, &mut self.text)
-    }
-}
-
-/// Returns two characters in canonical order, if the units decode to two, and the list of each is seen to have one member.
-#[inline(always)]
-fn two_in_order<U: Units>(
-    characters: &CharacterData<'_>,
-    ignored: IgnoredCharacters,
-    units: U,
-) -> Option<(char, char)>
-    ensures { IfSome result (λ two.
-        two.0 ∷ two.1 ∷ [] ≡ nfd (reading_by characters.now ignored []) (decoded_in U.encoding (U.units units))) }
-{
-    let len = units.len();
-    if len == 0 {
-        return None;
-    }
-    let first = units.step_at(0);
-    if first.width == len {
-        return None;
-    }
-    let before = only_member(characters, ignored, first)?;
-    let second = units.step_at(first.width);
-    if len - first.width != second.width {
-        return None;
-    }
-    let after = only_member(characters, ignored, second)?;
-    if 0 < after.class && after.class < before.class {
-        Some((after.character, before.character))
-    } else {
-        Some((before.character, after.character))
-    }
-}
-
-/// Returns the member of the list of the character of a step, if that is seen to have one.
-#[inline(always)]
-fn only_member(
-    characters: &CharacterData<'_>,
-    ignored: IgnoredCharacters,
-    step: Step,
-) -> Option<ClassedChar>
-    ensures list { IfSome result (λ member.
-        list_of characters.now (ignored_list ignored) step.character ≡ member.character ∷ []) }
-    ensures class { IfSome result (λ member. member.class ≡ class_of characters.now member.character) }
-{
-    let read = PendingChar::new(characters, 0, step.character);
-    if let Some(class) = read.class_of_itself(characters) {
-        return Some(ClassedChar {
-            character: step.character,
-            class,
-        });
-    }
-    let character = read.one_member(characters, ignored)?;
-    Some(ClassedChar {
-        character,
-        class: characters.class_of(character),
-    })
-}
-
-/// Composes what the units decode to, if each character is its own list, they are in canonical order, and they fit.
-#[inline(always)]
-fn compose_in_order<U: Units>(
-    characters: &CharacterData<'_>,
-    pairs: &CanonicalCompositions,
-    units: U,
-    text: &mut ShortText,
-) -> bool
-    ensures { IsTrue result → (ignored : IgnoredCharacters) → so_far text.new ≡
-        composed_nfd characters.now ignored pairs.now (decoded_in U.encoding (U.units units)) }
-{
-    text.clear();
-    let mut position = 0;
-    let mut last = 0;
-    while position < units.len() {
-        let step = units.step_at(position);
         let read = PendingChar::new(characters, 0, step.character);
-        let Some(class) = read.class_of_itself(characters) else {
-            return false;
-        };
-        if 0 < class && class < last {
+        let members = read.members(characters, ignored);
+        if !self.waiting.has_room(members.len()) {
             return false;
         }
-        let next = ClassedChar {
-            character: step.character,
-            class,
-        };
-        if !text.compose(pairs, next) {
+        let Ok(()) = push_from(characters, &members, 0, &mut self.waiting) else {
             return false;
-        }
-        last = class;
-        position += step.width;
+        };
+        true
     }
-    true
+
+    /// Puts what is buffered in canonical order.
+    ///
+    /// # Errors
+    /// `AllocError` if an allocation failed. Of up to 17 characters after a starter none is made.
+    pub fn put_in_order(&mut self) -> Result<(), AllocError>
+        ensures read { OnOk result ((d : Reading) (e : Encoding) (units : List ℕ) (end : ℕ) →
+            HasRead d e units end self.old → IsDecomposed d e units end self.new) }
+        ensures small { IsSmall self.old → IsOk result }
+    {
+        self.waiting.put_in_order()?;
+        Ok(())
+    }
+
+    /// Takes the next character, if one is left.
+    #[inline(always)]
+    pub fn pop_front(&mut self) -> Option<char>
+        ensures some { IfSome result (λ c. characters_left self.old ≡ c ∷ characters_left self.new) }
+        ensures agrees { (d : Reading) → Agrees d self.old → Agrees d self.new }
+        ensures none { IfNone result (characters_left self.old ≡ []) }
+    {
+        match self.pop_classed() {
+            Some(given) => Some(given.character),
+            None => None,
+        }
+    }
+
+    /// Takes the next character, composed with what follows it if it is a starter.
+    #[inline(always)]
+    pub fn pop_composed(&mut self, pairs: &CanonicalCompositions) -> Option<char>
+        ensures some { IfSome result (λ c. (d : Reading) → HasPairsOf pairs.now d → Agrees d self.old →
+            compose_by_starters d (characters_left self.old) ≡ c ∷ compose_by_starters d (characters_left self.new)) }
+        ensures agrees { (d : Reading) → Agrees d self.old → Agrees d self.new }
+        ensures none { IfNone result (characters_left self.old ≡ []) }
+    {
+        let given = self.pop_classed()?;
+        if given.class == 0 {
+            return Some(self.waiting.compose(pairs, given.character));
+        }
+        Some(given.character)
+    }
+
+    /// Takes the next character with its class, if one is left.
+    #[inline(always)]
+    fn pop_classed(&mut self) -> Option<ClassedChar>
+        ensures some { IfSome result (λ c. characters_left self.old ≡ c.character ∷ characters_left self.new) }
+        ensures taken { IfSome result (λ _. self.new.starter ≡ None) }
+        ensures class { (d : Reading) → Agrees d self.old → IfSome result (λ c. c.class ≡ d.class c.character) }
+        ensures agrees { (d : Reading) → Agrees d self.old → Agrees d self.new }
+        ensures none { IfNone result (characters_left self.old ≡ []) }
+    {
+        if let Some(starter) = self.starter {
+            self.starter = None;
+            return Some(ClassedChar {
+                character: starter,
+                class: 0,
+            });
+        }
+        match self.waiting.pop_front() {
+            Some(given) => Some(given),
+            None => None,
+        }
+    }
 }
 
-/// Puts the lists of what the units decode to in canonical order, if they fit.
-fn read_all<U: Units>(
+/// Buffers the list of a character, but for its first member if that is a starter, which is returned.
+fn push_after_starter(
+    characters: &CharacterData<'_>,
+    ignored: IgnoredCharacters,
+    read: PendingChar,
+    waiting: &mut WaitingList,
+) -> Result<Option<char>, AllocError>
+    requires { HasOwnWord characters.now read }
+    ensures starter { let d = reading_by characters.now ignored [] in
+        IfOk result (λ starter. starter ≡ starter_of d (d.list read.character)) }
+    ensures text { let d = reading_by characters.now ignored [] in
+        OnOk result (Adds characters.now (after_starter d (d.list read.character)) waiting.old waiting.new) }
+    ensures classes { OnOk result (KeepsClasses characters.now waiting.old waiting.new) }
+    ensures held { let d = reading_by characters.now ignored [] in OnOk result
+        (item_count waiting.new ≡ item_count waiting.old + length (after_starter d (d.list read.character))) }
+    ensures succeeds { let d = reading_by characters.now ignored [] in
+        item_count waiting.old + length (after_starter d (d.list read.character)) ≤ buffer_limit → IsOk result }
+{
+    let members = read.members(characters, ignored);
+    let Some(first) = members.get(0) else {
+        return Ok(None);
+    };
+    if characters.class_of(first) != 0 {
+        push_from(characters, &members, 0, waiting)?;
+        return Ok(None);
+    }
+    push_from(characters, &members, 1, waiting)?;
+    Ok(Some(first))
+}
+
+/// Buffers the marks from a position on that are their own lists, and returns where they end.
+fn read_marks<U: Units>(
     characters: &CharacterData<'_>,
     ignored: IgnoredCharacters,
     units: U,
-    ordered: &mut OrderedText,
-) -> bool
-    ensures text { IsTrue result → let d = reading_by characters.now ignored [] in
-        IsOrderOf d (expand d (decoded_in U.encoding (U.units units))) (entries_so_far ordered.new) }
-    ensures fits { length (expand (reading_by characters.now ignored []) (decoded_in U.encoding (U.units units)))
-        ≤ buffer_limit → IsTrue result }
+    position: usize,
+    waiting: &mut WaitingList,
+) -> Result<usize, AllocError>
+    requires boundary { IsBoundary (first_in U.encoding) (U.units units) position }
+    requires classes { AgreesWith (reading_by characters.now ignored []) waiting.old }
+    ensures read { IfOk result (λ end. MarksReadTo (has_class_form characters.now)
+        (reading_by characters.now ignored []) U.encoding (U.units units) position waiting.old end waiting.new) }
+    ensures room { HasRoomForMarks characters.now ignored waiting.old
+        (decoded_in U.encoding (drop position (U.units units)))
+        → IsOk result × (item_count waiting.new ≤ buffer_limit) }
 {
-    ordered.clear();
-    let mut position = 0;
-    while position < units.len() {
-        let step = units.step_at(position);
-        if !add_list(characters, ignored, step.character, ordered) {
-            return false;
-        }
-        position += step.width;
+    let mut place = position;
+    while place < units.len() {
+        let step = units.step_at(place);
+        let Some(class) = class_of_mark(characters, step.character) else {
+            return Ok(place);
+        };
+        waiting.push_mark(step.character, class)?;
+        place += step.width;
     }
-    true
+    Ok(place)
 }
 
-/// Adds the list of a character, if it fits.
+/// Returns the class of a mark whose word says that it is its own list.
 #[inline(always)]
-fn add_list(
-    characters: &CharacterData<'_>,
-    ignored: IgnoredCharacters,
-    character: char,
-    ordered: &mut OrderedText,
-) -> bool
-    ensures text { IsTrue result →
-        Puts characters.now (list_of characters.now (ignored_list ignored) character) ordered.old ordered.new }
-    ensures len { IsTrue result → ordered.new.len ≡
-        ordered.old.len + length (list_of characters.now (ignored_list ignored) character) }
-    ensures fits { ordered.old.len + length (list_of characters.now (ignored_list ignored) character) ≤ buffer_limit →
-        IsTrue result }
+fn class_of_mark(characters: &CharacterData<'_>, character: char) -> Option<u8>
+    ensures mark { IfSome result (λ class. 0 < class) }
+    ensures class { IfSome result (λ class. class ≡ class_of characters.now character) }
+    ensures itself { (ignored : List ℕ) →
+        IfSome result (λ _. list_of characters.now ignored character ≡ character ∷ []) }
 {
     let word = characters.word_of(character);
     match characters.class_of_itself(character, word) {
-        Some(class) => ordered.add(ClassedChar { character, class }),
-        None => {
-            let members = characters.members_by(character, word, ignored);
-            add_members(characters, &members, ordered)
-        }
+        Some(0) => None,
+        class => class,
     }
-}
-
-/// Adds the members of a list, if they fit.
-#[inline(always)]
-fn add_members(
-    characters: &CharacterData<'_>,
-    members: &Members<'_>,
-    ordered: &mut OrderedText,
-) -> bool
-    ensures text { IsTrue result → Puts characters.now members.now ordered.old ordered.new }
-    ensures len { IsTrue result → ordered.new.len ≡ ordered.old.len + length members.now }
-    ensures fits { ordered.old.len + length members.now ≤ buffer_limit → IsTrue result }
-{
-    let mut place = 0;
-    while place < members.len() {
-        let character = members.at(place);
-        let class = characters.class_of(character);
-        if !ordered.add(ClassedChar { character, class }) {
-            return false;
-        }
-        place += 1;
-    }
-    true
-}
-
-/// Copies what is in order, if it fits.
-#[inline(always)]
-fn copy_all(ordered: &OrderedText, text: &mut ShortText) -> bool
-    ensures text { IsTrue result → so_far text.new ≡ characters (entries_so_far ordered.now) }
-    ensures fits { IsTrue result }
-{
-    text.clear();
-    let mut place = 0;
-    while place < ordered.len() {
-        if !text.push(ordered.at(place).character) {
-            return false;
-        }
-        place += 1;
-    }
-    true
-}
-
-/// Composes what is in order, if it fits.
-#[inline(always)]
-fn compose_all(pairs: &CanonicalCompositions, ordered: &OrderedText, text: &mut ShortText) -> bool
-    ensures text { IsTrue result → (d : Reading) → HasClassesOf d (entries_so_far ordered.now) → HasPairsOf pairs.now d →
-        so_far text.new ≡ compose_by_starters d (characters (entries_so_far ordered.now)) }
-    ensures fits { IsTrue result }
-{
-    text.clear();
-    let mut place = 0;
-    while place < ordered.len() {
-        if !text.compose(pairs, ordered.at(place)) {
-            return false;
-        }
-        place += 1;
-    }
-    true
 }

@@ -2,7 +2,7 @@
 pub mod BlockCounts
 pub mod BlockEquality
 pub mod BlockLemmas
-pub mod BlockSets
+pub mod BlockBytes
 pub mod NextInBlocks
 pub mod NextWords
 pub mod RangeLists

@@ -1,4 +1,5 @@
 -- Pairs and what they compose to.
+pub mod AllSeconds
 pub mod BucketLemmas
 pub mod PairLemmas
 pub mod SingleComposites

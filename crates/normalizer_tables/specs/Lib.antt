@@ -9,6 +9,7 @@ pub mod MapperLists
 pub mod MapperSources
 pub mod Owned
 pub mod Pairs
+pub mod PassingWords
 pub mod Passthrough
 pub mod Places
 pub mod Purposes
@@ -19,7 +20,6 @@ pub mod ShortLists
 pub mod SpecialLists
 pub mod Steps
 pub mod Table
-pub mod TableSets
 pub mod Words
 pub mod conditions
 pub mod inner

@@ -2,5 +2,5 @@
 pub mod Blocks
 pub mod Buckets
 pub mod Members
+pub mod PassingWords
 pub mod Seconds
-pub mod TableSets

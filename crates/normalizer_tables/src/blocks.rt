@@ -1,15 +1,16 @@
 //! How the words of a table are stored: in blocks of 64 code points each, equal blocks once.
-ghost use Rattle.std.specs.Prelude.{◌≡◌, ◌+◌, ◌*◌, ◌≤◌, ◌<◌, IfOk, OnOk, ℕ, [], ◌∷◌, ◌++◌, length, position, nat_eq, slice_index};
+ghost use Rattle.std.specs.Prelude.{◌≡◌, ◌+◌, ◌*◌, ◌≤◌, ◌<◌, IfOk, OnOk, All, ℕ, [], ◌∷◌, ◌++◌, length, position, nat_eq, slice_index};
 ghost use Rattle.std.specs.Cmp.Lexicographic.{pointwise};
 ghost use Rattle.normalizer_tables.specs.Table.{block_count};
 ghost use Rattle.normalizer_tables.specs.inner.Blocks.{AreFrom, AreLeft, AreNumbered, IsBlockOf, IsJoined, IsRun};
-ghost use Rattle.normalizer_tables.specs.TableSets.{IsSetWithout};
-ghost use Rattle.normalizer_tables.specs.inner.TableSets.{HasPlacesWithout};
+ghost use Rattle.normalizer_passing.specs.PassBytes.{byte_of};
+ghost use Rattle.normalizer_tables.specs.inner.PassingWords.{byte_without, AreBytesWithout, HasBytesWithout};
 ghost use Rattle.normalizer_tables.specs.Ranges.{word_in, words_of, IsRangeList};
 ghost use Rattle.normalizer_tables.specs.Table.{code_points, IsNextWithWord};
 
 use crate::characters::CODE_POINTS;
-use normalizer_sets::CharacterSet;
+use crate::word::{is_ordinary_class_form, low_byte};
+use normalizer_passing::PassBytes;
 use std::alloc::{AllocError, Global};
 use std::marker::Model;
 
@@ -109,17 +110,18 @@ impl Blocks {
         None
     }
 
-    /// The set of the characters whose words have none of these bits. Each block is tested once.
-    pub(crate) fn characters_without(&self, bits: u32) -> Result<CharacterSet, AllocError>
-        ensures { (above : ℕ) →
-            IfOk result (IsSetWithout bits (record { words = self.now; past = above })) }
+    /// The bytes with which characters pass: starters those whose words have none of the bits, and marks those of the
+    /// ordinary class form. The characters of `stops` stop.
+    pub(crate) fn bytes_without(&self, bits: u32, stops: &[char]) -> Result<PassBytes, AllocError>
+        ensures bytes { (above : ℕ) →
+            IfOk result (HasBytesWithout bits (record { words = self.now; past = above })) }
+        ensures stops { IfOk result (λ bytes. All (λ c. byte_of bytes c ≡ 0) stops.now) }
     {
-        let alloc = self.allocator();
-        let mut kept = Vec::with_capacity(alloc, self.blocks.len())?;
+        let mut bytes = Vec::with_capacity(self.allocator(), self.blocks.len())?;
         for block in 0..self.blocks.len() {
-            kept.push(places_without(&self.blocks[block], bits))?;
+            bytes.push(bytes_of_block(&self.blocks[block], bits))?;
         }
-        CharacterSet::from_blocks(alloc, &kept, &self.numbers)
+        PassBytes::from_blocks(bytes, &self.numbers, stops)
     }
 }
 
@@ -199,17 +201,29 @@ fn first_other(block: &[u32; 64]) -> usize
     0
 }
 
-/// The places of a block whose words have none of the bits, as a bit each.
-fn places_without(block: &[u32; 64], bits: u32) -> u64
-    ensures { HasPlacesWithout bits block.now result }
+/// The bytes of the words of a block.
+fn bytes_of_block(block: &[u32; 64], bits: u32) -> [u8; 64]
+    ensures { AreBytesWithout bits block.now result }
 {
-    let mut places = 0u64;
-    for place in 0..BLOCK {
-        if block[place as usize] & bits == 0 {
-            places |= 1 << place;
-        }
+    let mut bytes = [0; 64];
+    for place in 0..64 {
+        bytes[place] = byte_without(block[place], bits);
     }
-    places
+    bytes
+}
+
+/// The byte of a word.
+#[tactic(auto, unfolding(crate::specs::inner::PassingWords::byte_without))]
+fn byte_without(word: u32, bits: u32) -> u8
+    ensures { result ≡ byte_without bits word }
+{
+    if word & bits == 0 {
+        255
+    } else if is_ordinary_class_form(word) && low_byte(word) < 255 {
+        low_byte(word)
+    } else {
+        0
+    }
 }
 
 /// The number of the block of a place, the end of the places that have it one after another, as far as one range says

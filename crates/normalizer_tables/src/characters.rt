@@ -1,9 +1,8 @@
 //! What decomposition data say of each character.
-ghost use Rattle.std.specs.Prelude.{◌≡◌, ◌≢◌, ◌↔◌, ◌≤◌, ◌∷◌, ◌&&◌, [], ℕ, List, Option, IfErr, IfOk, IfSome, IsTrue};
+ghost use Rattle.std.specs.Prelude.{◌≡◌, ◌≢◌, ◌↔◌, ◌≤◌, ◌<◌, ◌∷◌, ◌&&◌, [], ℕ, List, Option, IfErr, IfOk, IfSome, IsTrue};
 ghost use Rattle.std.specs.Option.{option_copied};
-ghost use Rattle.normalizer_sets.specs.CharacterSets.{has, may_have};
-ghost use Rattle.normalizer_tables.specs.TableSets.{has_no_flag};
-ghost use Rattle.normalizer_tables.specs.Words.{is_plain};
+ghost use Rattle.normalizer_passing.specs.PassBytes.{byte_of};
+ghost use Rattle.normalizer_tables.specs.PassingWords.{byte_of_word, IsComposingByte};
 ghost use Rattle.normalizer_tables.specs.Ignored.{ignored_list, Dropped};
 ghost use Rattle.normalizer_tables.specs.Data.{lists_or_none};
 ghost use Rattle.normalizer_tables.specs.Characters.{
@@ -31,13 +30,14 @@ ghost use Rattle.normalizer_tables.specs.Readings.{reading_by};
 
 use crate::hangul::{decompose_hangul, is_hangul_syllable};
 use crate::members::Members;
+use crate::pairs::CanonicalCompositions;
 use crate::provider::{DecompositionData, DecompositionTables};
 use crate::scalars::Scalars16;
 use crate::short_list::ShortList;
 use crate::special::fixed_list_of;
 use crate::word::{FLAGS, HANGUL_WORD, WordReading, class_of_word, is_class_form, is_plain, read};
-use normalizer_sets::CharacterSet;
-use std::alloc::Global;
+use normalizer_passing::PassBytes;
+use std::alloc::{AllocError, Global};
 use std::marker::Model;
 
 /// How a character that the mapper ignores reads (UTS #46, section 4).
@@ -211,22 +211,27 @@ impl<'a> CharacterData<'a> {
         decompositions.passthrough_cap
     }
 
-    /// Returns the characters, but U+FFFD, whose words have nothing but flags.
+    /// Returns the bytes with which characters pass in a decomposing form: as their words say, or not at all.
     #[tactic(auto, unfolding(crate::specs::Characters::word_of))]
-    pub fn plain(&self) -> &'a CharacterSet
-        ensures { (n : ℕ) → has result.now n ≡ (may_have n && is_plain (word_of self.now n)) }
+    #[inline(always)]
+    pub fn pass_bytes(&self) -> &'a PassBytes
+        ensures { (n : ℕ) → 0 < byte_of result.now n → byte_of result.now n ≡ byte_of_word (word_of self.now n) }
     {
         let decompositions = self.parts.decompositions;
-        decompositions.table.plain()
+        decompositions.table.pass_bytes()
     }
 
-    /// Returns the characters, but U+FFFD, whose words have no flag.
+    /// Makes the bytes with which characters pass in the composing form over pairs.
+    ///
+    /// # Errors
+    /// If an allocation failed.
     #[tactic(auto, unfolding(crate::specs::Characters::word_of))]
-    pub fn unflagged(&self) -> &'a CharacterSet
-        ensures { (n : ℕ) → has result.now n ≡ (may_have n && has_no_flag (word_of self.now n)) }
+    pub fn composing_bytes(&self, pairs: &CanonicalCompositions) -> Result<PassBytes, AllocError>
+        ensures { IfOk result (λ bytes. (n : ℕ) →
+            0 < byte_of bytes n → IsComposingByte pairs.now n (word_of self.now n) (byte_of bytes n)) }
     {
         let decompositions = self.parts.decompositions;
-        decompositions.table.unflagged()
+        decompositions.table.composing_bytes(pairs)
     }
 
     /// Returns the tables of lists.

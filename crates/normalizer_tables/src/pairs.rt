@@ -1,5 +1,5 @@
 //! The pairs of characters that compose.
-ghost use Rattle.std.specs.Prelude.{◌≡◌, ◌↔◌, ◌<◌, ◌||◌, length, slice_get, All, false, ℕ, IfOk, IsOkUnless, IsTrue};
+ghost use Rattle.std.specs.Prelude.{◌≡◌, ◌↔◌, ◌<◌, ◌||◌, length, slice_get, All, Contains, false, true, ℕ, IfOk, IsOkUnless, IsTrue};
 ghost use Rattle.normalizer_tables.specs.Pairs.{
   is_before,
   is_of,
@@ -18,8 +18,14 @@ use crate::hangul::{compose_hangul, is_never_hangul_second};
 use crate::pairs::buckets::PairBuckets;
 use crate::pairs::seconds::Seconds;
 use crate::table::TableError;
-use std::alloc::AllocError;
+use std::alloc::{AllocError, Global};
 use std::marker::Model;
+
+/// The first vowel of the block Hangul Jamo.
+const FIRST_VOWEL: u32 = 0x1161;
+
+/// The last trailing consonant of that block.
+const LAST_TRAILING: u32 = 0x11FF;
 
 /// The pairs of characters that compose: a list of triples of second character, first character and result.
 pub struct CanonicalCompositions {
@@ -69,6 +75,22 @@ impl CanonicalCompositions {
             seconds,
             is_rising,
         })
+    }
+
+    /// The characters that may be second in a pair: the vowels and trailing consonants, and the seconds of the list.
+    pub(crate) fn all_seconds(&self, alloc: Global) -> Result<Vec<char>, AllocError>
+        ensures { IfOk result (λ seconds. (n : ℕ) → may_be_second self.now n ≡ true → Contains seconds.items n) }
+    {
+        let mut seconds = Vec::new(alloc);
+        for number in FIRST_VOWEL..=LAST_TRAILING {
+            if let Some(second) = char::from_u32(number) {
+                seconds.push(second)?;
+            }
+        }
+        for place in 0..self.pairs.len() {
+            seconds.push(self.pairs.at(place).0)?;
+        }
+        Ok(seconds)
     }
 
     /// Whether no pair has this second.

@@ -1,9 +1,8 @@
 //! The code point table: a 32-bit word for every number.
-ghost use Rattle.std.specs.Prelude.{◌≡◌, ◌↔◌, ◌≤◌, ◌&&◌, ℕ, nat_eq, IfOk, IsErrOf, IsTrue};
+ghost use Rattle.std.specs.Prelude.{◌≡◌, ◌↔◌, ◌≤◌, ◌<◌, ◌&&◌, ℕ, nat_eq, IfOk, IsErrOf, IsTrue};
 ghost use Rattle.std.specs.Cmp.Lexicographic.{pointwise};
-ghost use Rattle.normalizer_sets.specs.CharacterSets.{has, may_have};
-ghost use Rattle.normalizer_tables.specs.TableSets.{has_no_flag};
-ghost use Rattle.normalizer_tables.specs.Words.{is_plain};
+ghost use Rattle.normalizer_passing.specs.PassBytes.{byte_of};
+ghost use Rattle.normalizer_tables.specs.PassingWords.{byte_of_word, IsComposingByte};
 ghost use Rattle.normalizer_tables.specs.Table.{block_count};
 ghost use Rattle.normalizer_tables.specs.Ranges.{IsComplete, IsRangeList, IsTableOf};
 ghost use Rattle.normalizer_tables.specs.inner.Blocks.{is_range};
@@ -12,8 +11,9 @@ ghost use Rattle.normalizer_tables.specs.Table.{word_at, code_points, IsNextWith
 
 use crate::blocks::Blocks;
 use crate::characters::CODE_POINTS;
+use crate::pairs::CanonicalCompositions;
 use crate::word::FLAGS;
-use normalizer_sets::CharacterSet;
+use normalizer_passing::PassBytes;
 use std::alloc::{AllocError, Global};
 use std::marker::Model;
 use thiserror::Error;
@@ -45,21 +45,19 @@ impl From<AllocError> for TableError {
 pub struct CodePointTable {
     words: Blocks,
     past: u32,
-    /// The characters whose words have nothing but flags.
-    plain: CharacterSet,
-    /// The characters whose words have no flag.
-    unflagged: CharacterSet,
+    /// The bytes with which characters pass in a decomposing form.
+    bytes: PassBytes,
 }
 
 impl Model for CodePointTable {
     ghost use Rattle.normalizer_tables.specs.Table.{Table};
-    ghost use Rattle.normalizer_tables.specs.inner.TableSets.{HasSets};
+    ghost use Rattle.normalizer_tables.specs.inner.PassingWords.{HasBytes};
 
     ghost Value = { Table };
 
     ghost view = { λ t. record { words = t.words; past = t.past } };
 
-    ghost invariant = { λ t. HasSets (record { words = t.words; past = t.past }) t.plain t.unflagged };
+    ghost invariant = { λ t. HasBytes (record { words = t.words; past = t.past }) t.bytes };
 }
 
 impl CodePointTable {
@@ -83,14 +81,8 @@ impl CodePointTable {
             return Err(TableError::Ranges);
         }
         let words = Blocks::from_ranges(*ranges.allocator(), &ranges)?;
-        let plain = words.characters_without(!FLAGS)?;
-        let unflagged = words.characters_without(FLAGS)?;
-        Ok(CodePointTable {
-            words,
-            past,
-            plain,
-            unflagged,
-        })
+        let bytes = words.bytes_without(!FLAGS, &[])?;
+        Ok(CodePointTable { words, past, bytes })
     }
 
     /// Returns the word of a character.
@@ -125,19 +117,24 @@ impl CodePointTable {
         self.words.word(number)
     }
 
-    /// Returns the characters, but U+FFFD, whose words have nothing but flags.
-    #[tactic(auto, unfolding(crate::specs::Words::is_plain))]
-    pub fn plain(&self) -> &CharacterSet
-        ensures { (n : ℕ) → has result.now n ≡ (may_have n && is_plain (word_at self.now n)) }
+    /// Returns the bytes with which characters pass in a decomposing form: as their words say, or not at all.
+    #[inline(always)]
+    pub fn pass_bytes(&self) -> &PassBytes
+        ensures { (n : ℕ) → 0 < byte_of result.now n → byte_of result.now n ≡ byte_of_word (word_at self.now n) }
     {
-        &self.plain
+        &self.bytes
     }
 
-    /// Returns the characters, but U+FFFD, whose words have no flag.
-    pub fn unflagged(&self) -> &CharacterSet
-        ensures { (n : ℕ) → has result.now n ≡ (may_have n && has_no_flag (word_at self.now n)) }
+    /// Makes the bytes with which characters pass in the composing form over pairs.
+    ///
+    /// # Errors
+    /// If an allocation failed.
+    pub fn composing_bytes(&self, pairs: &CanonicalCompositions) -> Result<PassBytes, AllocError>
+        ensures { IfOk result (λ bytes. (n : ℕ) →
+            0 < byte_of bytes n → IsComposingByte pairs.now n (word_at self.now n) (byte_of bytes n)) }
     {
-        &self.unflagged
+        let stops = pairs.all_seconds(self.allocator())?;
+        self.words.bytes_without(FLAGS, &stops)
     }
 
     /// Does nothing: its contract is for laws, which don't see the blocks.
@@ -170,8 +167,7 @@ impl Clone for CodePointTable {
         Ok(CodePointTable {
             words: self.words.clone()?,
             past: self.past,
-            plain: self.plain.clone()?,
-            unflagged: self.unflagged.clone()?,
+            bytes: self.bytes.clone()?,
         })
     }
 }

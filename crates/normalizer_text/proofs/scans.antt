@@ -1,7 +1,6 @@
--- Units below a bound, and members of a set.
-pub mod LaneLemmas
+-- Units below a bound, and characters that pass.
+pub mod GroupLemmas
 pub mod LowLemmas
-pub mod PrefixLemmas
+pub mod PairedLemmas
+pub mod PassingLemmas
 pub mod ScanLemmas
-pub mod LowByteLemmas
-pub mod MemberLemmas

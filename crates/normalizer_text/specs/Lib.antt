@@ -5,6 +5,7 @@ pub mod InputCut
 pub mod InputOffence
 pub mod MaximalSubparts
 pub mod Outputs
+pub mod Passing
 pub mod Scans
 pub mod Sinks
 pub mod DecodingSteps

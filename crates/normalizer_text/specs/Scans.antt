@@ -1,8 +1,7 @@
 -- Scanning units.
-use Rattle.std.specs.Prelude.{ℕ, ◌+◌, ◌<◌, ◌≤◌, Bool, List, [], ◌∷◌, nat_lt, if◌then◌else◌, All}
+use Rattle.std.specs.Prelude.{ℕ, ◌<◌, ◌≤◌, List, nat_lt, All}
 use Rattle.std.specs.List.{prefix_len, slice_range}
 use Rattle.normalizer_text.specs.Encodings.{Encoding, first_in, decoded_in}
-use Rattle.normalizer_text.specs.declared.decoding_step.Step.{Step}
 use Rattle.normalizer_text.specs.DecodingSteps.{IsBoundary}
 
 -- the number of units before the first one that is not below the bound
@@ -14,12 +13,3 @@ pub record EndsLowCharacters (e : Encoding) (units : List ℕ) (from bound to : 
   pub behind : from ≤ to
   pub boundary : IsBoundary (first_in e) units to
   pub low : All (λ c. c < bound) (decoded_in e (slice_range units from to))
-
--- the number of units that a step takes, if its character passes the test, and otherwise 0
-abbrev pub width_in : (ℕ → Bool) → Step → ℕ
-width_in test s = if test s.character then s.width else 0
-
--- the number of units that steps take before the first whose character fails the test
-abbrev pub width_within : (ℕ → Bool) → List Step → ℕ
-width_within test [] = 0
-width_within test (s ∷ ss) = if test s.character then s.width + width_within test ss else 0

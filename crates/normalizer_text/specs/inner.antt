@@ -1,7 +1,4 @@
 -- What the contracts of private functions alone cite.
 pub mod Backwards
-pub mod Leads
-pub mod LowBytes
-pub mod PairMembers
-pub mod PassedMembers
+pub mod Groups
 pub mod Trails

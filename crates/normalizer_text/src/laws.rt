@@ -1,6 +1,6 @@
 //! The laws of decoding, as contracts of functions that do nothing. Each holds for every list of numbers, and for each
 //! encoding unless it names one.
-ghost use Rattle.std.specs.Prelude.{◌≡◌, ◌↔◌, ℕ, ◌<◌, ◌≤◌, ◌^◌, List, [], ◌++◌, length, take, drop, All};
+ghost use Rattle.std.specs.Prelude.{◌≡◌, ◌↔◌, ℕ, ◌<◌, ◌≤◌, ◌^◌, ◌-◌, ◌*◌, List, [], ◌++◌, length, take, drop, All};
 ghost use Rattle.std.specs.Prelude.{true, false, ◌∷◌, map, slice_index, encode_utf8_all};
 ghost use Rattle.std.specs.List.{slice_range};
 ghost use Rattle.std.specs.Char.Utf16.{utf16_lossy_chars};
@@ -64,20 +64,16 @@ pub fn step_begins_at_unit_that_cannot_trail()
         IsBoundary (first_in e) units n }
 {}
 
-/// A byte below 80 is its character, and so is a 16-bit unit below D800. In what is well-formed, a byte below C3
-/// begins a character below U+00C0, and one below CC a character below U+0300; no other character is in bytes below
-/// these.
+/// A byte below 80 is its character, and so is a 16-bit unit below D800. In what is well-formed, bytes below a limit
+/// from C2 to E0 begin characters below 64 for each byte from C0 up to it: below C3 those below U+00C0, and below CC
+/// those below U+0300. No other character is in bytes below the limit.
 pub fn low_units_begin_low_characters()
     ensures ascii { (byte : ℕ) (rest : List ℕ) → byte < 0x80 → first_of_utf8 (byte ∷ rest) ≡ read byte 1 }
     ensures unit { (unit : ℕ) (rest : List ℕ) → unit < 0xD800 → first_of_utf16 (unit ∷ rest) ≡ read unit 1 }
-    ensures below_C0 { (byte : ℕ) (rest : List ℕ) → byte < 0xC3 →
-        (first_of_utf8 (byte ∷ rest)).is_error ≡ false → (first_of_utf8 (byte ∷ rest)).character < 0xC0 }
-    ensures below_300 { (byte : ℕ) (rest : List ℕ) → byte < 0xCC →
-        (first_of_utf8 (byte ∷ rest)).is_error ≡ false → (first_of_utf8 (byte ∷ rest)).character < 0x300 }
-    ensures all_below_C0 { (bytes : List ℕ) → IsWellFormed first_of_utf8 bytes → All (λ b. b < 0xC3) bytes →
-        All (λ c. c < 0xC0) (decoded_utf8 bytes) }
-    ensures all_below_300 { (bytes : List ℕ) → IsWellFormed first_of_utf8 bytes → All (λ b. b < 0xCC) bytes →
-        All (λ c. c < 0x300) (decoded_utf8 bytes) }
+    ensures below { (limit byte : ℕ) (rest : List ℕ) → 0xC2 ≤ limit → limit ≤ 0xE0 → byte < limit →
+        (first_of_utf8 (byte ∷ rest)).is_error ≡ false → (first_of_utf8 (byte ∷ rest)).character < (limit - 0xC0) * 64 }
+    ensures all_below { (limit : ℕ) → 0xC2 ≤ limit → limit ≤ 0xE0 → (bytes : List ℕ) →
+        IsWellFormed first_of_utf8 bytes → All (λ b. b < limit) bytes → All (λ c. c < (limit - 0xC0) * 64) (decoded_utf8 bytes) }
 {}
 
 /// Units below 80 are characters by themselves, whatever follows, and so are 16-bit units below D800.
@@ -89,8 +85,7 @@ pub fn low_units_are_single_characters()
 {}
 
 /// A step ends with the units below a bound, whatever follows: for bounds up to 80 and, in bytes, from C0 on; for
-/// 16-bit units up to D800. In what is well-formed, bytes below C3 are characters below U+00C0, and bytes below CC are
-/// characters below U+0300.
+/// 16-bit units up to D800. What is well-formed decodes up to there to low characters, as above.
 pub fn step_ends_with_low_units()
     ensures below { (bound : ℕ) (units : List ℕ) → All (λ u. u < bound) (take (leading_below bound units) units) }
     ensures ascii { (e : Encoding) (bound : ℕ) (units : List ℕ) → bound ≤ 0x80 →
@@ -99,10 +94,8 @@ pub fn step_ends_with_low_units()
         IsBoundary first_of_utf16 units (leading_below bound units) }
     ensures bytes { (bound : ℕ) (bytes : List ℕ) → 0xC0 ≤ bound →
         IsBoundary first_of_utf8 bytes (leading_below bound bytes) }
-    ensures text_below_C0 { (bytes : List ℕ) → IsWellFormed first_of_utf8 bytes →
-        All (λ c. c < 0xC0) (decoded_utf8 (take (leading_below 0xC3 bytes) bytes)) }
-    ensures text_below_300 { (bytes : List ℕ) → IsWellFormed first_of_utf8 bytes →
-        All (λ c. c < 0x300) (decoded_utf8 (take (leading_below 0xCC bytes) bytes)) }
+    ensures text { (limit : ℕ) → 0xC2 ≤ limit → limit ≤ 0xE0 → (bytes : List ℕ) → IsWellFormed first_of_utf8 bytes →
+        All (λ c. c < (limit - 0xC0) * 64) (decoded_utf8 (take (leading_below limit bytes) bytes)) }
 {}
 
 /// Calls of `next` and `next_back` in any mixture take the text apart from both ends: if they took the characters x

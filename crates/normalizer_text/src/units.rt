@@ -1,17 +1,15 @@
 //! The three encodings as one trait, over which every loop is written once.
-ghost use Rattle.std.specs.Prelude.{◌≡◌, ◌==◌, ℕ, ◌+◌, ◌<◌, ◌≤◌, min, IfSome, MatchOption};
+ghost use Rattle.std.specs.Prelude.{◌≡◌, ◌==◌, ℕ, ◌<◌, IfSome, MatchOption};
 ghost use Rattle.std.specs.Prelude.{List, [], length, take, drop, slice_index};
-ghost use Rattle.std.specs.Prelude.{nat_lt};
-ghost use Rattle.normalizer_sets.specs.CharacterSets.{has};
-ghost use Rattle.normalizer_text.specs.DecodingSteps.{steps, IsBoundary, IsFirstStep, IsLastStep};
+ghost use Rattle.normalizer_text.specs.DecodingSteps.{IsBoundary, IsFirstStep, IsLastStep};
 ghost use Rattle.normalizer_text.specs.inner.Backwards.{IsLastStart};
 ghost use Rattle.normalizer_text.specs.Encodings.{Encoding, first_in, trails_in};
-ghost use Rattle.normalizer_text.specs.Scans.{width_within, EndsLowCharacters};
+ghost use Rattle.normalizer_text.specs.Passing.{IsByteAt, PassesTo};
+ghost use Rattle.normalizer_text.specs.Scans.{EndsLowCharacters};
 
 use crate::decoding_step::Step;
-use crate::utf8::Lead;
-use crate::{low_bytes, members, scan, utf8, utf16};
-use normalizer_sets::{KnownSet, LowBound};
+use crate::{groups, scan, utf8, utf16};
+use normalizer_passing::{LowBound, PassBytes};
 
 /// No step takes more units.
 const LONGEST_STEP: usize = 4;
@@ -34,10 +32,21 @@ pub trait Units: Copy {
         requires { position < length (units self) }
         ensures { result ≡ first_in encoding (drop position (units self)) };
 
-    /// Returns the step at a position, if it is seen at once to be a sequence of two bytes.
-    fn two_byte_step_at(self, position: usize) -> Option<Step>
-        requires { position < length (units self) }
-        ensures { IfSome result (λ step. step ≡ first_in encoding (drop position (units self))) };
+    /// Returns the byte and the width of the character at a position: 0 if it is ill-formed, or isn't seen at once to
+    /// pass.
+    fn byte_at(self, position: usize, bytes: &PassBytes) -> (u8, usize)
+        requires inside { position < length (units self) }
+        requires boundary { IsBoundary (first_in encoding) (units self) position }
+        ensures { IsByteAt encoding bytes.now (units self) position result.0 result.1 };
+
+    /// Returns an end of characters at the beginning that pass, found by groups of units, and the least byte that
+    /// passes after them.
+    #[inline(always)]
+    fn passed_in_groups(self, _bytes: &PassBytes) -> (usize, u8)
+        ensures { PassesTo encoding _bytes.now (units self) result.0 result.1 }
+    {
+        (0, 1)
+    }
 
     /// Returns whether the unit at a position can come after the first one of a step. No character begins with such a
     /// unit.
@@ -55,29 +64,12 @@ pub trait Units: Copy {
         requires { IsBoundary (first_in encoding) (units self) position }
         ensures { units result ≡ drop position (units self) };
 
-    /// Returns the end of the steps from a position on whose characters are all in the set. It is found faster if the first
-    /// one isn't low, as after a run of low characters.
-    fn end_of_members_after_low(self, position: usize, set: KnownSet<'_>) -> usize
+    /// Returns an end of characters from a position on that are below a bound, if there are any. They are passed over
+    /// up to the first unit that isn't seen at once to be of such a character.
+    fn end_of_low(self, position: usize, bound: LowBound) -> Option<usize>
         requires { IsBoundary (first_in encoding) (units self) position }
-        ensures { result ≡ position
-            + width_within (has set.entry.set.now) (steps (first_in encoding) (drop position (units self))) };
-
-    /// Returns the same end, found in fewer instructions if there are few units.
-    fn end_of_few_members_after_low(self, position: usize, set: KnownSet<'_>) -> usize
-        requires { IsBoundary (first_in encoding) (units self) position }
-        ensures { result ≡ position
-            + width_within (has set.entry.set.now) (steps (first_in encoding) (drop position (units self))) };
-
-    /// Returns an end of characters from a position on that are below a bound. They are passed over up to the first unit
-    /// that isn't seen at once to be of such a character: unit by unit, and the last few by a vector.
-    fn end_of_low(self, position: usize, bound: LowBound) -> usize
-        requires { IsBoundary (first_in encoding) (units self) position }
-        ensures { EndsLowCharacters encoding (units self) position bound.number result };
-
-    /// Returns such an end, found by vectors if the first unit is seen at once to be of such a character.
-    fn end_of_low_run(self, position: usize, bound: LowBound) -> usize
-        requires { IsBoundary (first_in encoding) (units self) position }
-        ensures { EndsLowCharacters encoding (units self) position bound.number result };
+        ensures low { IfSome result (EndsLowCharacters encoding (units self) position bound.number) }
+        ensures further { IfSome result (λ end. position < end) };
 
     final fn is_empty(self) -> bool
         ensures { result ≡ (length (units self) == 0) }
@@ -149,13 +141,8 @@ impl<'a> Units for &'a str {
     }
 
     #[inline(always)]
-    fn two_byte_step_at(self, position: usize) -> Option<Step> {
-        let bytes = &self.as_bytes()[position..];
-        if Lead::OfTwo.matches(bytes[0]) {
-            Some(utf8::first_step_of_well_formed(bytes))
-        } else {
-            None
-        }
+    fn byte_at(self, position: usize, bytes: &PassBytes) -> (u8, usize) {
+        utf8::byte_of_well_formed(&self.as_bytes()[position..], bytes)
     }
 
     fn trails_at(self, position: usize) -> bool {
@@ -163,23 +150,8 @@ impl<'a> Units for &'a str {
     }
 
     #[inline(always)]
-    fn end_of_low(self, position: usize, bound: LowBound) -> usize {
-        scan::end_of_last_few(self.as_bytes(), position, u32::from(bound.byte))
-    }
-
-    #[inline(always)]
-    fn end_of_low_run(self, position: usize, bound: LowBound) -> usize {
+    fn end_of_low(self, position: usize, bound: LowBound) -> Option<usize> {
         scan::end_of_below(self.as_bytes(), position, u32::from(bound.byte))
-    }
-
-    #[inline(always)]
-    fn end_of_members_after_low(self, position: usize, set: KnownSet<'_>) -> usize {
-        members::end_of_members_after_low(self, position, set)
-    }
-
-    #[inline(always)]
-    fn end_of_few_members_after_low(self, position: usize, set: KnownSet<'_>) -> usize {
-        members::end_of_few_members_after_low(self, position, set)
     }
 
     fn before(self, position: usize) -> Self {
@@ -206,8 +178,8 @@ impl<'a> Units for &'a [u8] {
     }
 
     #[inline(always)]
-    fn two_byte_step_at(self, position: usize) -> Option<Step> {
-        utf8::first_if_of_two(&self[position..])
+    fn byte_at(self, position: usize, bytes: &PassBytes) -> (u8, usize) {
+        utf8::byte_of_first(&self[position..], bytes)
     }
 
     fn trails_at(self, position: usize) -> bool {
@@ -215,23 +187,8 @@ impl<'a> Units for &'a [u8] {
     }
 
     #[inline(always)]
-    fn end_of_low(self, position: usize, bound: LowBound) -> usize {
-        scan::end_of_last_few(self, position, u32::from(bound.number).min(utf8::ASCII))
-    }
-
-    #[inline(always)]
-    fn end_of_low_run(self, position: usize, bound: LowBound) -> usize {
-        low_bytes::end_of_low_bytes(self, position, bound)
-    }
-
-    #[inline(always)]
-    fn end_of_members_after_low(self, position: usize, set: KnownSet<'_>) -> usize {
-        members::end_of_members_after_low(self, position, set)
-    }
-
-    #[inline(always)]
-    fn end_of_few_members_after_low(self, position: usize, set: KnownSet<'_>) -> usize {
-        members::end_of_few_members_after_low(self, position, set)
+    fn end_of_low(self, position: usize, bound: LowBound) -> Option<usize> {
+        scan::end_of_below(self, position, u32::from(bound.number).min(utf8::ASCII))
     }
 
     fn before(self, position: usize) -> Self {
@@ -258,8 +215,13 @@ impl<'a> Units for &'a [u16] {
     }
 
     #[inline(always)]
-    fn two_byte_step_at(self, _position: usize) -> Option<Step> {
-        None
+    fn byte_at(self, position: usize, bytes: &PassBytes) -> (u8, usize) {
+        utf16::byte_of_first(&self[position..], bytes)
+    }
+
+    #[inline(always)]
+    fn passed_in_groups(self, bytes: &PassBytes) -> (usize, u8) {
+        groups::passed_in_groups(self, bytes)
     }
 
     fn trails_at(self, position: usize) -> bool {
@@ -267,23 +229,8 @@ impl<'a> Units for &'a [u16] {
     }
 
     #[inline(always)]
-    fn end_of_low(self, position: usize, bound: LowBound) -> usize {
-        scan::end_of_last_few(self, position, u32::from(bound.number))
-    }
-
-    #[inline(always)]
-    fn end_of_low_run(self, position: usize, bound: LowBound) -> usize {
+    fn end_of_low(self, position: usize, bound: LowBound) -> Option<usize> {
         scan::end_of_below(self, position, u32::from(bound.number))
-    }
-
-    #[inline(always)]
-    fn end_of_members_after_low(self, position: usize, set: KnownSet<'_>) -> usize {
-        members::end_of_unit_members_after_low(self, position, set)
-    }
-
-    #[inline(always)]
-    fn end_of_few_members_after_low(self, position: usize, set: KnownSet<'_>) -> usize {
-        members::end_of_unit_members_after_low(self, position, set)
     }
 
     fn before(self, position: usize) -> Self {

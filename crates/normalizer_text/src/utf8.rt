@@ -1,18 +1,16 @@
 //! Decoding bytes that may not be UTF-8, with U+FFFD for ill-formed sequences (The Unicode Standard, section 3.9).
-ghost use Rattle.std.specs.Prelude.{◌≡◌, ◌+◌, ◌<◌, ◌≤◌, if◌then◌else◌, IfSome, IsTrue};
+ghost use Rattle.std.specs.Prelude.{◌≡◌, ◌+◌, ◌<◌, ◌≤◌, IfSome, IsTrue};
 ghost use Rattle.std.specs.Prelude.{length, option_map, slice_index, slice_index_or};
 ghost use Rattle.std.specs.Str.{continuation_len};
-ghost use Rattle.normalizer_sets.specs.CharacterSets.{has};
-ghost use Rattle.normalizer_text.specs.Scans.{width_in};
+ghost use Rattle.normalizer_passing.specs.PassBytes.{byte_of};
 ghost use Rattle.normalizer_text.specs.DecodingSteps.{IsWellFormed};
 ghost use Rattle.normalizer_text.specs.Utf8.{continuation, allows, row_of, matched_count, scalar_value, first_of_utf8};
 ghost use Rattle.normalizer_text.specs.MaximalSubparts.{IsWellFormedSequence};
-ghost use Rattle.normalizer_text.specs.declared.utf8.Lead.{Lead};
-ghost use Rattle.normalizer_text.specs.inner.Leads.{width_led_by, IsLead};
-ghost use Rattle.normalizer_text.specs.inner.Trails.{BeginsWithSequence, LeadsFour, LeadsThree};
+ghost use Rattle.normalizer_text.specs.Passing.{PassesBy};
+ghost use Rattle.normalizer_text.specs.inner.Trails.{IsFirstSequence, LeadsFour, LeadsThree};
 
 use crate::decoding_step::Step;
-use normalizer_sets::CharacterSet;
+use normalizer_passing::PassBytes;
 
 /// Bytes below this are characters by themselves.
 pub(crate) const ASCII: u32 = 0x80;
@@ -23,45 +21,6 @@ pub(crate) fn is_continuation(byte: u8) -> bool
     ensures { result ≡ allows continuation byte }
 {
     0x80 <= byte && byte <= 0xBF
-}
-
-/// The bytes that begin sequences, by how many bytes these have.
-#[derive(Clone, Copy)]
-pub(crate) enum Lead {
-    OfOne,
-    OfTwo,
-    OfThree,
-    OfFour,
-}
-
-impl Lead {
-    ghost use Rattle.normalizer_text.specs.inner.Leads.{width_led_by, IsLead};
-
-    /// How many bytes such a sequence has.
-    #[inline(always)]
-    pub(crate) fn width(self) -> usize
-        ensures { result ≡ width_led_by self }
-    {
-        match self {
-            Lead::OfOne => 1,
-            Lead::OfTwo => 2,
-            Lead::OfThree => 3,
-            Lead::OfFour => 4,
-        }
-    }
-
-    /// Whether a byte is such a lead.
-    #[inline(always)]
-    pub(crate) fn matches(self, byte: u8) -> bool
-        ensures { IsTrue result → IsLead self byte }
-    {
-        match self {
-            Lead::OfOne => byte <= 0x7F,
-            Lead::OfTwo => 0xC2 <= byte && byte <= 0xDF,
-            Lead::OfThree => 0xE0 <= byte && byte <= 0xEF,
-            Lead::OfFour => 0xF0 <= byte && byte <= 0xF4,
-        }
-    }
 }
 
 /// The bytes that may follow a first byte: how many, and the range of the first of them; the others are of 80 to BF.
@@ -160,93 +119,108 @@ fn length_of_sequence(lead: u8) -> usize
     }
 }
 
-/// The first step of well-formed bytes that aren't empty: the first byte says how many it takes.
+/// The sequence that well-formed bytes begin with, which aren't empty.
+#[inline(always)]
+fn sequence_of_well_formed(bytes: &[u8]) -> &[u8]
+    requires some { 0 < length bytes.now }
+    requires well_formed { IsWellFormed first_of_utf8 bytes.now }
+    ensures { IsFirstSequence bytes.now result.now }
+{
+    &bytes[..length_of_sequence(bytes[0])]
+}
+
+/// The first step of well-formed bytes that aren't empty.
 #[inline(always)]
 pub(crate) fn first_step_of_well_formed(bytes: &[u8]) -> Step
     requires some { 0 < length bytes.now }
     requires well_formed { IsWellFormed first_of_utf8 bytes.now }
     ensures { result ≡ first_of_utf8 bytes.now }
 {
-    let width = length_of_sequence(bytes[0]);
-    Step::read(character_of(&bytes[..width]), width)
+    let sequence = sequence_of_well_formed(bytes);
+    Step::read(character_of(sequence), sequence.len())
 }
 
-/// Whether a set has the character of the first step of well-formed bytes that begin with a lead.
+/// The byte and the width of the first character of well-formed bytes that aren't empty.
 #[inline(always)]
-pub(crate) fn has_well_formed_led_by(bytes: &[u8], lead: Lead, set: &CharacterSet) -> bool
-    requires room { width_led_by lead ≤ length bytes.now }
-    requires lead { IsLead lead (slice_index bytes.now 0) }
-    requires well_formed { IsWellFormed first_of_utf8 bytes.now }
-    ensures { width_in (has set.now) (first_of_utf8 bytes.now) ≡ (if result then width_led_by lead else 0) }
+pub(crate) fn byte_of_well_formed(text: &[u8], bytes: &PassBytes) -> (u8, usize)
+    requires some { 0 < length text.now }
+    requires well_formed { IsWellFormed first_of_utf8 text.now }
+    ensures { PassesBy bytes.now (first_of_utf8 text.now) result.0 result.1 }
 {
-    has_sequence(&bytes[..lead.width()], set)
+    let sequence = sequence_of_well_formed(text);
+    (byte_of_sequence(sequence, bytes), sequence.len())
 }
 
-/// Whether a set has the character of a well-formed sequence: the bit is found by the bytes.
+/// The byte of the character of a well-formed sequence: it is found without the character.
 #[inline(always)]
 #[tactic(auto, using(crate::proofs::sequences::SubpartLemmas::bounds_of_sequence))]
-fn has_sequence(sequence: &[u8], set: &CharacterSet) -> bool
+fn byte_of_sequence(sequence: &[u8], bytes: &PassBytes) -> u8
     requires { IsWellFormedSequence sequence.now }
-    ensures { result ≡ has set.now (scalar_value sequence.now) }
+    ensures { result ≡ byte_of bytes.now (scalar_value sequence.now) }
 {
     match sequence {
-        [a] => set.has_at((*a / 64) as usize, (*a % 64) as u32),
-        [a, b] => set.has_at((*a - 0xC0) as usize, (*b % 64) as u32),
+        [a] => bytes.at((*a / 64) as usize, (*a % 64) as usize),
+        [a, b] => bytes.at((*a - 0xC0) as usize, (*b % 64) as usize),
         [a, b, c] => {
             let block = (*a as usize - 0xE0) * 64 + (*b as usize - 0x80);
-            set.has_at(block, (*c % 64) as u32)
+            bytes.at(block, (*c % 64) as usize)
         }
         [a, b, c, d] => {
-            let page = (*a as usize - 0xF0) * 64 + (*b as usize - 0x80) - 16;
-            set.has_above(page, (*c % 64) as usize, (*d % 64) as u32)
+            let block = ((*a as usize - 0xF0) * 64 + (*b as usize - 0x80)) * 64
+                + (*c as usize - 0x80);
+            bytes.at(block, (*d % 64) as usize)
         }
         _ => unreachable!(),
     }
 }
 
-/// Whether bytes begin with a sequence of two.
+/// The well-formed sequence that bytes begin with, if there is one. Its length is a constant where it is used, so that
+/// few tests are left.
 #[inline(always)]
-fn begins_with_two(bytes: &[u8]) -> bool
-    ensures { IsTrue result → BeginsWithSequence bytes.now 2 }
+fn first_sequence(bytes: &[u8]) -> Option<&[u8]>
+    requires { 0 < length bytes.now }
+    ensures { IfSome result (λ sequence. IsFirstSequence bytes.now sequence.now) }
 {
-    if bytes.len() < 2 {
-        return false;
+    let lead = bytes[0];
+    if lead < 0x80 {
+        first_sequence_of::<1>(bytes)
+    } else if lead < 0xE0 {
+        first_sequence_of::<2>(bytes)
+    } else if lead < 0xF0 {
+        first_sequence_of::<3>(bytes)
+    } else {
+        first_sequence_of::<4>(bytes)
     }
-    if !leads_two(bytes[0]) {
-        return false;
-    }
-    is_continuation(bytes[1])
 }
 
-/// Whether bytes begin with a sequence of three.
+/// The sequence, if it has N bytes.
 #[inline(always)]
-fn begins_with_three(bytes: &[u8]) -> bool
-    ensures { IsTrue result → BeginsWithSequence bytes.now 3 }
+fn first_sequence_of<const N: usize>(bytes: &[u8]) -> Option<&[u8]>
+    ensures { IfSome result (λ sequence. IsFirstSequence bytes.now sequence.now) }
 {
-    if bytes.len() < 3 {
-        return false;
+    if bytes.len() < N {
+        return None;
     }
-    if !leads_three(bytes[0], bytes[1]) {
-        return false;
+    let sequence = &bytes[..N];
+    if is_sequence(sequence) {
+        Some(sequence)
+    } else {
+        None
     }
-    is_continuation(bytes[2])
 }
 
-/// Whether bytes begin with a sequence of four.
+/// Whether bytes are a well-formed sequence.
 #[inline(always)]
-fn begins_with_four(bytes: &[u8]) -> bool
-    ensures { IsTrue result → BeginsWithSequence bytes.now 4 }
+fn is_sequence(bytes: &[u8]) -> bool
+    ensures { IsTrue result → IsWellFormedSequence bytes.now }
 {
-    if bytes.len() < 4 {
-        return false;
+    match bytes {
+        [a] => *a <= 0x7F,
+        [a, b] => leads_two(*a) && is_continuation(*b),
+        [a, b, c] => leads_three(*a, *b) && is_continuation(*c),
+        [a, b, c, d] => leads_four(*a, *b) && is_continuation(*c) && is_continuation(*d),
+        _ => false,
     }
-    if !leads_four(bytes[0], bytes[1]) {
-        return false;
-    }
-    if !is_continuation(bytes[2]) {
-        return false;
-    }
-    is_continuation(bytes[3])
 }
 
 /// Whether a byte begins a sequence of two.
@@ -290,65 +264,21 @@ pub(crate) fn first_step(bytes: &[u8]) -> Step
     requires { 0 < length bytes.now }
     ensures { result ≡ first_of_utf8 bytes.now }
 {
-    let lead = bytes[0];
-    if lead < 0x80 {
-        Step::read(char::from(lead), 1)
-    } else if lead < 0xE0 {
-        first_step_of_two(bytes)
-    } else if lead < 0xF0 {
-        first_step_of_three(bytes)
-    } else {
-        first_step_of_four(bytes)
-    }
-}
-
-/// Returns the first step, if it is a sequence of two.
-#[inline(always)]
-pub(crate) fn first_if_of_two(bytes: &[u8]) -> Option<Step>
-    ensures { IfSome result (λ step. step ≡ first_of_utf8 bytes.now) }
-{
-    if begins_with_two(bytes) {
-        Some(Step::read(character_of(&bytes[..2]), 2))
-    } else {
-        None
-    }
-}
-
-/// Returns the first step, at once if it is a sequence of two.
-#[inline(always)]
-fn first_step_of_two(bytes: &[u8]) -> Step
-    requires { 0 < length bytes.now }
-    ensures { result ≡ first_of_utf8 bytes.now }
-{
-    match first_if_of_two(bytes) {
-        Some(step) => step,
+    match first_sequence(bytes) {
+        Some(sequence) => Step::read(character_of(sequence), sequence.len()),
         None => first_step_of_more(bytes),
     }
 }
 
-/// Returns the first step, at once if it is a sequence of three.
+/// The byte and the width of the first character of bytes that aren't empty: 0 if it is ill-formed.
 #[inline(always)]
-fn first_step_of_three(bytes: &[u8]) -> Step
-    requires { 0 < length bytes.now }
-    ensures { result ≡ first_of_utf8 bytes.now }
+pub(crate) fn byte_of_first(text: &[u8], bytes: &PassBytes) -> (u8, usize)
+    requires { 0 < length text.now }
+    ensures { PassesBy bytes.now (first_of_utf8 text.now) result.0 result.1 }
 {
-    if begins_with_three(bytes) {
-        Step::read(character_of(&bytes[..3]), 3)
-    } else {
-        first_step_of_more(bytes)
-    }
-}
-
-/// Returns the first step, at once if it is a sequence of four.
-#[inline(always)]
-fn first_step_of_four(bytes: &[u8]) -> Step
-    requires { 0 < length bytes.now }
-    ensures { result ≡ first_of_utf8 bytes.now }
-{
-    if begins_with_four(bytes) {
-        Step::read(character_of(&bytes[..4]), 4)
-    } else {
-        first_step_of_more(bytes)
+    match first_sequence(text) {
+        Some(sequence) => (byte_of_sequence(sequence, bytes), sequence.len()),
+        None => (0, 1),
     }
 }
 
@@ -367,91 +297,6 @@ fn first_step_of_more(bytes: &[u8]) -> Step
         return Step::replaced(width);
     }
     Step::read(character_of(&bytes[..width]), width)
-}
-
-/// Whether a set has the character of the first step of bytes that begin with a lead.
-#[inline(always)]
-pub(crate) fn has_led_by(bytes: &[u8], lead: Lead, set: &CharacterSet) -> bool
-    requires room { width_led_by lead ≤ length bytes.now }
-    requires lead { IsLead lead (slice_index bytes.now 0) }
-    ensures { width_in (has set.now) (first_of_utf8 bytes.now) ≡ (if result then width_led_by lead else 0) }
-{
-    match lead {
-        Lead::OfOne => has_one(bytes, set),
-        Lead::OfTwo => has_two(bytes, set),
-        Lead::OfThree => has_three(bytes, set),
-        Lead::OfFour => has_four(bytes, set),
-    }
-}
-
-/// The same of the leads of one, which are characters by themselves.
-#[inline(always)]
-fn has_one(bytes: &[u8], set: &CharacterSet) -> bool
-    requires room { 1 ≤ length bytes.now }
-    requires lead { IsLead Lead.OfOne (slice_index bytes.now 0) }
-    ensures { width_in (has set.now) (first_of_utf8 bytes.now) ≡ (if result then 1 else 0) }
-{
-    set.has_unit(bytes[0] as u16)
-}
-
-/// The same of the leads of two.
-#[inline(always)]
-fn has_two(bytes: &[u8], set: &CharacterSet) -> bool
-    requires room { 2 ≤ length bytes.now }
-    requires lead { IsLead Lead.OfTwo (slice_index bytes.now 0) }
-    ensures { width_in (has set.now) (first_of_utf8 bytes.now) ≡ (if result then 2 else 0) }
-{
-    if !is_continuation(bytes[1]) {
-        return false;
-    }
-    set.has_at((bytes[0] - 0xC0) as usize, (bytes[1] % 64) as u32)
-}
-
-/// The same of the leads of three. No set has surrogates, and the blocks below 32 have no sequence of three, so that
-/// the first two bytes need no further tests.
-#[inline(always)]
-fn has_three(bytes: &[u8], set: &CharacterSet) -> bool
-    requires room { 3 ≤ length bytes.now }
-    requires lead { IsLead Lead.OfThree (slice_index bytes.now 0) }
-    ensures { width_in (has set.now) (first_of_utf8 bytes.now) ≡ (if result then 3 else 0) }
-{
-    if !is_continuation(bytes[1]) {
-        return false;
-    }
-    if !is_continuation(bytes[2]) {
-        return false;
-    }
-    let block = (bytes[0] as usize - 0xE0) * 64 + (bytes[1] as usize - 0x80);
-    if block < 32 {
-        return false;
-    }
-    set.has_at(block, (bytes[2] % 64) as u32)
-}
-
-/// The same of the leads of four: their sequences are those of the pages above the Basic Multilingual Plane.
-#[inline(always)]
-fn has_four(bytes: &[u8], set: &CharacterSet) -> bool
-    requires room { 4 ≤ length bytes.now }
-    requires lead { IsLead Lead.OfFour (slice_index bytes.now 0) }
-    ensures { width_in (has set.now) (first_of_utf8 bytes.now) ≡ (if result then 4 else 0) }
-{
-    if !is_continuation(bytes[1]) {
-        return false;
-    }
-    if !is_continuation(bytes[2]) {
-        return false;
-    }
-    if !is_continuation(bytes[3]) {
-        return false;
-    }
-    let page = (bytes[0] as usize - 0xF0) * 64 + (bytes[1] as usize - 0x80);
-    if page < 16 {
-        return false;
-    }
-    if page >= 272 {
-        return false;
-    }
-    set.has_above(page - 16, (bytes[2] % 64) as usize, (bytes[3] % 64) as u32)
 }
 
 /// Returns well-formed bytes as a text.

@@ -21,7 +21,7 @@ use Rattle.icu_normalizer.specs.Acceptance.{bounds_of, SuitsDecomposing}
 use Rattle.icu_normalizer.specs.ComposingAcceptance.{SuitsComposing}
 use Rattle.normalizer_calls.specs.Serving.{ServesDecomposing, ServesComposing}
 use Rattle.normalizer_calls.proofs.HandedInData.{list_ordered}
-use Rattle.normalizer_calls.proofs.passthrough.PassthroughLemmas.{HasBoundaryBefore-taken}
+use Rattle.normalizer_calls.proofs.passthrough.PassthroughLemmas.{HasBoundaryBefore-decomposed, HasBoundaryBefore-taken}
 use Rattle.icu_normalizer.proofs.acceptance.SoundPairs.{SuitsLazyComposing-met}
 use Rattle.normalizer_iterators.proofs.reads.ReadsOfSoundData.{SuitsLazyReading-sound}
 
@@ -38,6 +38,8 @@ ServesDecomposing-met s plain accepted =
     let in_order = met (characters_alone s) decomposing_conditions Order accepted refl in
     record {
       reading = SuitsLazyReading-sound s _ in_order;
+      beginnings = HasBoundaryBefore-decomposed s (bounds_of s.decompositions) (SuitsLazyReading-sound s _ in_order) (IsPassthroughBelow-accepted s (bounds_of s.decompositions) accepted)
+          (SuitsTexts-accepted s (bounds_of s.decompositions) plain accepted);
       passthrough = IsPassthroughBelow-accepted s (bounds_of s.decompositions) accepted;
       ordered = list_ordered s (bounds_of s.decompositions) in_order;
       laws = SuitsTexts-accepted s (bounds_of s.decompositions) plain accepted;

@@ -1,11 +1,11 @@
 -- Characters that are passed on as they are, and runs of them.
 use Rattle.std.proofs.Common.{◌≡◌, ℕ, ◌<◌, ◌⊎◌, inl, inr, Bool, true, false, List, [], ◌∷◌, ◌++◌, length, drop, refl, sym, ap, subst, ◌∙◌, append_assoc, append-nil, arith, length-append}
 use Rattle.std.specs.Char.{IsScalar}
-use Rattle.std.specs.Prelude.{nat_lt, ◌||◌, ◌&&◌, ◌≤◌, not, option_and_then, Option, Some, None, if◌then◌else◌}
+use Rattle.std.specs.Prelude.{◌≢◌, nat_lt, ◌||◌, ◌&&◌, ◌≤◌, not, Option, Some, None, if◌then◌else◌}
 use lib.Utf8.{scalar}
-use Rattle.std.proofs.lemmas.Bool.{cases_Bool, cases_lt, cond-false, cond-true, cond_both, le-ltb, lt-ltb}
+use Rattle.std.proofs.lemmas.Bool.{cases_lt, cond-false, cond-true, cond_both, le-ltb}
+use Rattle.std.proofs.lemmas.Bool.Decides.{nat_tests}
 use Rattle.std.proofs.lemmas.List.{drop_at}
-use Rattle.std.proofs.lemmas.Option.{option_and_then_some}
 use Rattle.normal_forms.specs.Reading.{Reading, ReadsAsItself, IsSecondInNoPair, IsStarter}
 use Rattle.normal_forms.specs.Boundary.{BeginsAtBoundary, BeginsWithStarter}
 use Rattle.normal_forms.specs.Hypotheses.{HasStarterResults, SuitsForm}
@@ -22,7 +22,7 @@ use Rattle.normal_forms.proofs.ordering.OrderLemmas.{order-at_starter}
 use Rattle.normalizer_tables.specs.declared.characters.IgnoredCharacters.TheVariants.{Dropped}
 use Rattle.normalizer_tables.specs.declared.condition.Bounds.{Bounds}
 use Rattle.normalizer_tables.specs.declared.condition.Condition.TheVariants.{SafeBeginning}
-use Rattle.normalizer_check.specs.RequiredConditions.{AreAcceptedPairs, pair_conditions}
+use Rattle.normalizer_check.specs.RequiredConditions.{AreAcceptedPairs, SuitsTexts, pair_conditions}
 use Rattle.normalizer_tables.specs.conditions.Loaded.{pairs_loaded}
 use Rattle.normalizer_tables.proofs.conditions.ListedConditions.{met}
 use Rattle.normalizer_tables.specs.conditions.Conditions.{says}
@@ -32,18 +32,21 @@ use Rattle.normalizer_tables.specs.declared.word.WordReading.{WordReading}
 use Rattle.normalizer_tables.specs.declared.word.WordReading.TheVariants.{Ignored, Itself, ClassForm, SpecialForm}
 use Rattle.normalizer_tables.specs.declared.word.WordReading.TheVariants.{TwoCharacters, HangulSyllable, Fdfa, OneCharacter, Listed}
 use Rattle.normalizer_tables.specs.Pairs.{Pair, may_be_second}
-use Rattle.normalizer_tables.specs.Words.{class_of_word, is_backward_combining, is_class_form, is_non_round_trip}
-use Rattle.normalizer_tables.specs.Readings.{reading_by}
+use Rattle.normalizer_tables.specs.Words.{class_of_word, is_class_form, is_ordinary_class_form, is_plain, low_byte}
+use Rattle.normalizer_tables.specs.PassingWords.{byte_of_word, has_no_flag}
+use Rattle.normalizer_passing.specs.PassBytes.{byte_of}
 use Rattle.normalizer_tables.specs.Passthrough.{IsPassthroughBelow}
+use Rattle.normalizer_tables.specs.Readings.{reading_by}
 use Rattle.normalizer_tables.proofs.composites.SecondLemmas.{pair_of-none}
 use Rattle.normalizer_tables.proofs.words.CharacterLemmas.{list_of-reads}
 use Rattle.normalizer_tables.proofs.words.WordLemmas.{class_of-class_form, class_of-itself}
-use Rattle.normalizer_calls.specs.Serving.{ServesDecomposing}
+use Rattle.normalizer_calls.specs.Serving.{AreComposingBytes, ServesComposing, ServesDecomposing}
 use Rattle.normalizer_iterators.specs.LazyComposing.{SuitsLazyComposing}
+use Rattle.normalizer_iterators.specs.LazyReading.{SuitsLazyReading}
 use Rattle.normalizer_iterators.proofs.passthrough.PassthroughItemLemmas.{BeginsAtBoundary-apart}
 use Rattle.normalizer_calls.specs.BoundaryBefore.{HasBoundaryBefore}
-use Rattle.normalizer_calls.specs.inner.ComposingClasses.{class_if_alone, composing_class}
-use Rattle.normalizer_calls.specs.inner.PassthroughRuns.{Divides, CanFollowMark, CanPassThrough}
+use Rattle.normalizer_calls.specs.inner.PassthroughRuns.{AreBytesOf, Divides, CanFollowMark, CanPassThrough}
+use Rattle.normalizer_calls.proofs.passthrough.ClassReadings.{class_of_itself-ordinary, class_of_itself-plain}
 
 -- a starter that reads as itself is normalized apart from what comes after it too
 CanPassThrough-itself : (d : Reading) (c : ℕ) → ReadsAsItself d c → IsStarter d c → CanPassThrough d Decomposing false c
@@ -63,54 +66,54 @@ CanFollowMark-itself d form suits c k itself class mark second = record {
   stays = λ x ends. normal_form-mark d form suits x c itself (omega (arith, class)) second (subst (λ n. EndsUpTo d n (normal_form d form x)) (sym class) ends);
 }
 
-module _ (s : Characters) (bound : ℕ) (c : ℕ) where
-  -- with which class a character passes when text is decomposed: 0 below the bound, and else if its word says that it is its own list
-  abbrev decomposed_class : Option ℕ
-  decomposed_class = if nat_lt c bound then Some 0 else class_of_itself (reading_of_word s c)
+-- a word that says that its character is its own list says its class
+module _ (s : Characters) (c : ℕ) (is_scalar : IsScalar c) where
+  list_of_reading : (r : WordReading) → reading_of_word s c ≡ r → named_list s [] c r ≡ Some (c ∷ []) → list_of s [] c ≡ c ∷ []
+  unfolding list_read
+  list_of_reading r read named =
+      list_of-reads s [] c (c ∷ []) (cond-true (scalar c) (named_list s [] c (reading_of_word s c)) None is_scalar ∙ ap (named_list s [] c) read ∙ named)
 
-  pub low_class : c < bound → decomposed_class ≡ Some 0
-  low_class low = cond-true (nat_lt c bound) (Some 0) (class_of_itself (reading_of_word s c)) (lt-ltb c bound low)
+  of_reading : (r : WordReading) → reading_of_word s c ≡ r → (k : ℕ) → class_of_itself r ≡ Some k → (list_of s [] c ≡ c ∷ []) × (class_of s c ≡ k)
+  unfolding class_of_itself named_list
+  of_reading Itself read k is = (list_of_reading Itself read refl, sym (class_of-itself s c read is_scalar) ∙ (let same : 0 ≡ k = cc in same))
+  of_reading (ClassForm j) read k is = (list_of_reading (ClassForm j) read refl, sym (class_of-class_form s c j read is_scalar) ∙ (let same : j ≡ k = cc in same))
+  of_reading Ignored read k is = absurd (cc)
+  of_reading (SpecialForm j) read k is = absurd (cc)
+  of_reading (TwoCharacters a b) read k is = absurd (cc)
+  of_reading HangulSyllable read k is = absurd (cc)
+  of_reading Fdfa read k is = absurd (cc)
+  of_reading (OneCharacter a) read k is = absurd (cc)
+  of_reading (Listed item low rest) read k is = absurd (cc)
 
-  high_class : (k : ℕ) → bound ≤ c → decomposed_class ≡ Some k → class_of_itself (reading_of_word s c) ≡ Some k
-  high_class k high is = sym (cond-false (nat_lt c bound) (Some 0) (class_of_itself (reading_of_word s c)) (le-ltb c bound high)) ∙ is
+  pub of_itself : (k : ℕ) → class_of_itself (reading_of_word s c) ≡ Some k → (list_of s [] c ≡ c ∷ []) × (class_of s c ≡ k)
+  of_itself k is = of_reading (reading_of_word s c) refl k is
 
-  -- a word that says that its character is its own list says its class
-  module _ (is_scalar : IsScalar c) where
-    list_of_reading : (r : WordReading) → reading_of_word s c ≡ r → named_list s [] c r ≡ Some (c ∷ []) → list_of s [] c ≡ c ∷ []
-    unfolding list_read
-    list_of_reading r read named =
-        list_of-reads s [] c (c ∷ []) (cond-true (scalar c) (named_list s [] c (reading_of_word s c)) None is_scalar ∙ ap (named_list s [] c) read ∙ named)
+  -- a mark with the ordinary class form, which composes with nothing before it
+  pub CanFollowMark-ordinary : (form : Form) (pairs : List Pair) (k : ℕ) → SuitsForm (reading_by s Dropped pairs) form → is_ordinary_class_form (word_of s c) ≡ true → low_byte (word_of s c) ≡ k
+      → 0 < k → (form ≡ Composing → may_be_second pairs c ≡ false) → CanFollowMark (reading_by s Dropped pairs) form c k
+  CanFollowMark-ordinary form pairs k suits ordinary low mark second =
+      let known = of_itself k (class_of_itself-ordinary s c ordinary ∙ ap (λ n. Some n) low) in
+      CanFollowMark-itself (reading_by s Dropped pairs) form suits c k known.0 known.1 mark (λ is. pair_of-none pairs c (second is))
 
-    of_reading : (r : WordReading) → reading_of_word s c ≡ r → (k : ℕ) → class_of_itself r ≡ Some k → (list_of s [] c ≡ c ∷ []) × (class_of s c ≡ k)
-    unfolding class_of_itself named_list
-    of_reading Itself read k is = (list_of_reading Itself read refl, sym (class_of-itself s c read is_scalar) ∙ (let same : 0 ≡ k = cc in same))
-    of_reading (ClassForm j) read k is = (list_of_reading (ClassForm j) read refl, sym (class_of-class_form s c j read is_scalar) ∙ (let same : j ≡ k = cc in same))
-    of_reading Ignored read k is = absurd (cc)
-    of_reading (SpecialForm j) read k is = absurd (cc)
-    of_reading (TwoCharacters a b) read k is = absurd (cc)
-    of_reading HangulSyllable read k is = absurd (cc)
-    of_reading Fdfa read k is = absurd (cc)
-    of_reading (OneCharacter a) read k is = absurd (cc)
-    of_reading (Listed item low rest) read k is = absurd (cc)
+plain_of : (w : ℕ) → byte_of_word w ≡ 255 → is_plain w ≡ true
+unfolding byte_of_word
+plain_of w is = grind (arith, nat_tests)
 
-    pub of_itself : (k : ℕ) → class_of_itself (reading_of_word s c) ≡ Some k → (list_of s [] c ≡ c ∷ []) × (class_of s c ≡ k)
-    of_itself k is = of_reading (reading_of_word s c) refl k is
+mark_of : (w byte : ℕ) → byte_of_word w ≡ byte → 0 < byte → byte ≢ 255 → (is_ordinary_class_form w ≡ true) × (low_byte w ≡ byte)
+unfolding byte_of_word
+mark_of w byte is some mark = grind (arith, nat_tests)
 
-    -- one that passes with class 0
-    pub CanPassThrough-decomposed : IsPassthroughBelow s bound → decomposed_class ≡ Some 0 → CanPassThrough (reading_by s Dropped []) Decomposing false c
-    CanPassThrough-decomposed passthrough is = elim (cases_lt c bound) [
-      | inl low ↦ let low_starter = passthrough c is_scalar low in CanPassThrough-itself (reading_by s Dropped []) c (low_starter.itself []) low_starter.starter
-      | inr high ↦ let known = of_itself 0 (high_class 0 high is) in CanPassThrough-itself (reading_by s Dropped []) c known.0 known.1
-    ]
-
-    -- and one with another class
-    pub CanFollowMark-decomposed : SuitsForm (reading_by s Dropped []) Decomposing → (k : ℕ) → decomposed_class ≡ Some k → 0 < k → CanFollowMark (reading_by s Dropped []) Decomposing c k
-    CanFollowMark-decomposed suits k is mark = elim (cases_lt c bound) [
-      | inl low ↦ let none : Some 0 ≡ Some k = sym (low_class low) ∙ is in let same : 0 ≡ k = cc in absurd (omega arith)
-      | inr high ↦
-          let known = of_itself k (high_class k high is) in
-          CanFollowMark-itself (reading_by s Dropped []) Decomposing suits c k known.0 known.1 mark (λ no. absurd (cc))
-    ]
+-- the bytes of words, where text is decomposed
+pub AreBytesOf-words : (s : Characters) (b : Bounds) → ServesDecomposing s b → (bytes : List ℕ) → ((n : ℕ) → 0 < byte_of bytes n → byte_of bytes n ≡ byte_of_word (word_of s n))
+    → AreBytesOf (reading_by s Dropped []) Decomposing false bytes
+AreBytesOf-words s b serves bytes say = record {
+  starters = λ c scalar is.
+      let known = of_itself s c scalar 0 (class_of_itself-plain s c (plain_of (word_of s c) (sym (say c (omega (arith, is))) ∙ is))) in
+      CanPassThrough-itself (reading_by s Dropped []) c known.0 known.1;
+  marks = λ c scalar some mark.
+      let known = mark_of (word_of s c) (byte_of bytes c) (sym (say c some)) some mark in
+      CanFollowMark-ordinary s c scalar Decomposing [] (byte_of bytes c) serves.laws.laws known.0 known.1 some (λ no. absurd (cc));
+}
 
 not-true : (b : Bool) → not b ≡ true → b ≡ false
 not-true true h = absurd (cc)
@@ -125,23 +128,23 @@ first_begins d [] starters = tt
 first_begins d (first ∷ others) starters = starters first others refl
 
 -- a character below the bound, or without class form, is normalized apart when text is decomposed
-pub HasBoundaryBefore-decomposed : (s : Characters) (b : Bounds) → ServesDecomposing s b → (c : ℕ) → IsScalar c
-    → (nat_lt c b.decomposition || not (has_class_form s c)) ≡ true → HasBoundaryBefore (reading_by s Dropped []) Decomposing c
+pub HasBoundaryBefore-decomposed : (s : Characters) (b : Bounds) → SuitsLazyReading (has_class_form s) (reading_by s Dropped []) → IsPassthroughBelow s b.decomposition
+    → SuitsTexts (reading_by s Dropped []) Decomposing → (c : ℕ) → IsScalar c → (nat_lt c b.decomposition || not (has_class_form s c)) ≡ true → HasBoundaryBefore (reading_by s Dropped []) Decomposing c
 unfolding normal_form
-HasBoundaryBefore-decomposed s b serves c scalar begins = elim (cases_lt c b.decomposition) [
-  | inl low ↦ let low_starter = serves.passthrough c scalar low in (CanPassThrough-itself (reading_by s Dropped []) c (low_starter.itself []) low_starter.starter).begins
+HasBoundaryBefore-decomposed s b reading passthrough laws c scalar begins = elim (cases_lt c b.decomposition) [
+  | inl low ↦ let low_starter = passthrough c scalar low in (CanPassThrough-itself (reading_by s Dropped []) c (low_starter.itself []) low_starter.starter).begins
   | inr high ↦
       let d = reading_by s Dropped [] in
       let other : not (has_class_form s c) ≡ true = sym (ap (λ l. l || not (has_class_form s c)) (le-ltb c b.decomposition high)) ∙ begins in
       let at_boundary : has_class_form s c ≡ false = not-true (has_class_form s c) other in
       λ front x. nfd-boundary d front (c ∷ x)
-      (BeginsWithStarter-expand d c x (serves.laws.are_nonempty.are_nonempty c) (first_begins d (d.list c) (λ first others is. serves.reading.starters c first others at_boundary is)))
+      (BeginsWithStarter-expand d c x (laws.are_nonempty.are_nonempty c) (first_begins d (d.list c) (λ first others is. reading.starters c first others at_boundary is)))
 ]
 
 -- a character without class form begins a new part where text is decomposed
 pub HasBoundaryBefore-boundary : (s : Characters) (b : Bounds) → ServesDecomposing s b → (c : ℕ) → IsScalar c
     → not (has_class_form s c) ≡ true → HasBoundaryBefore (reading_by s Dropped []) Decomposing c
-HasBoundaryBefore-boundary s b serves c scalar at_boundary = HasBoundaryBefore-decomposed s b serves c scalar (ap (λ k. nat_lt c b.decomposition || k) at_boundary ∙ or-true (nat_lt c b.decomposition))
+HasBoundaryBefore-boundary s b serves c scalar at_boundary = serves.beginnings c scalar (ap (λ k. nat_lt c b.decomposition || k) at_boundary ∙ or-true (nat_lt c b.decomposition))
 
 -- a character that is taken to begin at a boundary begins a new part where text is composed: condition 13
 pub HasBoundaryBefore-taken : (s : Characters) (b : Bounds) (pairs : List Pair) → HasStarterResults (reading_by s Dropped pairs) → AreAcceptedPairs s b pairs
@@ -156,11 +159,6 @@ HasBoundaryBefore-taken s b pairs starters accepted c scalar taken =
 pub form_of_one : (s : Characters) (b : Bounds) → ServesDecomposing s b → (c : ℕ) → IsScalar c → normal_form (reading_by s Dropped []) Decomposing (c ∷ []) ≡ list_of s [] c
 unfolding normal_form nfd expand
 form_of_one s b serves c scalar = ap (order (reading_by s Dropped [])) (append-nil (list_of s [] c)) ∙ serves.ordered c scalar
-
-pub below_is_passed : (s : Characters) (b : Bounds) (c : ℕ) → c < b.composition → is_composing_passthrough s b c ≡ true
-unfolding is_composing_passthrough
-below_is_passed s b c below =
-    ap (λ l. l || (not (is_non_round_trip (word_of s c)) && not (is_backward_combining (word_of s c)))) (lt-ltb c b.composition below)
 
 -- without class form a character is a starter
 class-no_form : (s : Characters) (c : ℕ) → has_class_form s c ≡ false → class_of s c ≡ 0
@@ -181,57 +179,18 @@ CanPassThrough-passed s b pairs suits c scalar passed =
       ends = λ no. absurd (cc);
     }
 
-module _ (s : Characters) (b : Bounds) (pairs : List Pair) (c : ℕ) where
-  class_when : (passed : Bool) (other : Option ℕ) (k : ℕ) → (if passed then Some 0 else other) ≡ Some k → ((k ≡ 0) × (passed ≡ true)) ⊎ (other ≡ Some k)
-  class_when true other k is = inl ((let same : 0 ≡ k = cc in sym same), refl)
-  class_when false other k is = inr is
-
-  -- what it says that a character passes that isn't passed by a composing loop
-  alone : (k : ℕ) → option_and_then (class_if_alone pairs c) (class_of_itself (reading_of_word s c)) ≡ Some k
-      → (class_of_itself (reading_of_word s c) ≡ Some k) × (may_be_second pairs c ≡ false)
-  unfolding class_if_alone
-  alone k is = option_and_then_some (class_if_alone pairs c) (class_of_itself (reading_of_word s c)) k is (λ j own passes. elim (cases_Bool (may_be_second pairs c)) [
-    | inl second ↦ absurd (let none : None ≡ Some k = sym (cond-true (may_be_second pairs c) None (Some j) second) ∙ passes in cc)
-    | inr other ↦ (own ∙ sym (cond-false (may_be_second pairs c) None (Some j) other) ∙ passes, other)
-  ])
-
-  -- a starter that reads as itself and composes with nothing before it
-  CanPassThrough-alone : SuitsLazyComposing s b pairs → IsScalar c → class_of_itself (reading_of_word s c) ≡ Some 0 → may_be_second pairs c ≡ false
-      → CanPassThrough (reading_by s Dropped pairs) Composing true c
-  unfolding normal_form nfc nfd expand order insert compose compose_from visit
-  CanPassThrough-alone suits scalar own other =
-      let d = reading_by s Dropped pairs in
-      let known = of_itself s 0 c scalar 0 own in
-      let itself : d.list c ≡ c ∷ [] = known.0 in
-      record {
-        starter = known.1;
-        own = ap (λ l. compose d (order d (l ++ []))) itself;
-        begins = λ front x. nfc-boundary d suits.starters front (c ∷ x)
-            (BeginsAtBoundary-expand d c x (λ none. let no : [] ≡ c ∷ [] = sym none ∙ itself in cc) (subst (BeginsAtBoundary d) (sym itself) (known.1, pair_of-none pairs c other)));
-        ends = λ no. absurd (cc);
-      }
-
-  pub composed_low_class : c < b.composition → composing_class s b pairs c ≡ Some 0
-  unfolding composing_class
-  composed_low_class low = cond-true (is_composing_passthrough s b c) (Some 0) _ (below_is_passed s b c low)
-
-  pub CanPassThrough-composed : SuitsLazyComposing s b pairs → IsScalar c → composing_class s b pairs c ≡ Some 0 → CanPassThrough (reading_by s Dropped pairs) Composing true c
-  unfolding composing_class
-  CanPassThrough-composed suits scalar is = elim (class_when (is_composing_passthrough s b c) _ 0 is) [
-    | inl passed ↦ CanPassThrough-passed s b pairs suits c scalar passed.1
-    | inr other ↦ let known = alone 0 other in CanPassThrough-alone suits scalar known.0 known.1
-  ]
-
-  pub CanFollowMark-composed : SuitsForm (reading_by s Dropped pairs) Composing → IsScalar c → (k : ℕ) → composing_class s b pairs c ≡ Some k → 0 < k
-      → CanFollowMark (reading_by s Dropped pairs) Composing c k
-  unfolding composing_class
-  CanFollowMark-composed suits scalar k is some = elim (class_when (is_composing_passthrough s b c) _ k is) [
-    | inl passed ↦ absurd (omega (arith, passed.0))
-    | inr mark ↦
-        let known = alone k mark in
-        let itself = of_itself s 0 c scalar k known.0 in
-        CanFollowMark-itself (reading_by s Dropped pairs) Composing suits c k itself.0 itself.1 some (λ _. pair_of-none pairs c known.1)
-  ]
+-- the bytes of a composing form
+pub AreBytesOf-composing : (s : Characters) (b : Bounds) (pairs : List Pair) → ServesComposing s b pairs → (bytes : List ℕ) → AreComposingBytes s pairs bytes
+    → AreBytesOf (reading_by s Dropped pairs) Composing true bytes
+unfolding is_composing_passthrough has_no_flag
+AreBytesOf-composing s b pairs serves bytes say = record {
+  starters = λ c scalar is.
+      CanPassThrough-passed s b pairs serves.composing c scalar
+      (ap (λ l. nat_lt c b.composition || l) ((say c (omega (arith, is))).starter is) ∙ or-true (nat_lt c b.composition));
+  marks = λ c scalar some mark.
+      let known = say c some in
+      CanFollowMark-ordinary s c scalar Composing pairs (byte_of bytes c) serves.laws.laws (known.form mark) (known.class mark) some (λ _. known.no_second mark);
+}
 
 module _ (d : Reading) (form : Form) where
   pub normal_form-nil : (form : Form) → normal_form d form [] ≡ []

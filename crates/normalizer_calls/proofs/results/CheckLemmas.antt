@@ -4,7 +4,7 @@ use Rattle.std.proofs.Common.{refl, sym, ap, subst, ◌∙◌, arith, inl, inr, 
 use Rattle.std.proofs.lemmas.List.{append_cancel_left, take_at}
 use Rattle.std.proofs.Math.Seq.{take-append_seam}
 use Rattle.std.specs.Prelude.{⊤, ◌↔◌, ◌⊎◌, Bool, true, false, not, IsTrue}
-use Rattle.std.specs.Option.{is_some}
+use Rattle.std.specs.Option.{is_some, unwrap_or}
 use Rattle.normal_forms.specs.Reading.{Reading}
 use Rattle.normal_forms.specs.declared.Form.{Form}
 use Rattle.normal_forms.specs.Cut.{IsFront}
@@ -29,7 +29,7 @@ use Rattle.normalizer_text.specs.declared.offence.Offence.{Offence}
 use Rattle.normalizer_text.specs.EncodedForm.{encoded_form, IsEncodedFront}
 use Rattle.normalizer_text.proofs.inputs.EncodedFormLemmas.{is_normalized_iff_encoded_form, form_ends_with_units, longest_encoded_is_cut, offered_is_normalized}
 use Rattle.normalizer_text.proofs.inputs.InputBoundaryLemmas.{boundary_of_front, decoded-parts}
-use Rattle.normalizer_text.proofs.inputs.InputCutLemmas.{front_at_input_cut, input_cut_unique, rest_at_input_cut}
+use Rattle.normalizer_text.proofs.inputs.InputCutLemmas.{front_at_input_cut, input_cut_unique, is_normalized_iff_input_cut, rest_at_input_cut}
 use Rattle.normalizer_text.proofs.inputs.InputOffenceLemmas.{continued_input_offence, input_found_differs, input_offence_exists}
 use Rattle.normalizer_iterators.specs.declared.error.NormalizeError.{NormalizeError}
 use Rattle.normalizer_iterators.specs.declared.error.NormalizeError.TheVariants.{Sink}
@@ -206,3 +206,13 @@ IsSplitAtCut-parts m e units suits place cut = record {
   own = front_at_input_cut e m.reading m.form suits.laws units place cut.qualifies;
   differs = rest_at_input_cut e m.reading m.form units place cut;
 }
+
+-- the cut, which is the end if the units are normalized
+cut_or_length : (e : Encoding) (d : Reading) (form : Form) (units : List ℕ) (o : Option ℕ) → IsCutUnlessNormalized e d form units o → IsInputCut e d form units (unwrap_or o (length units))
+cut_or_length e d form units None own = (is_normalized_iff_input_cut e d form units).0 own
+cut_or_length e d form units (Some place) cut = cut.1
+
+pub cut_or_end : (e : Encoding) (d : Reading) (form : Form) (units : List ℕ) (o : Option ℕ) (place end : ℕ) → IsCutUnlessNormalized e d form units o
+    → place ≡ unwrap_or o end → end ≡ length units → IsInputCut e d form units place
+cut_or_end e d form units o place end cut is len =
+    subst (IsInputCut e d form units) (sym (is ∙ ap (unwrap_or o) len)) (cut_or_length e d form units o cut)

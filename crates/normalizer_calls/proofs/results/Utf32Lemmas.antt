@@ -1,24 +1,16 @@
 -- Text whose units are its characters.
 use Rattle.std.proofs.Common.{◌≡◌, ℕ, ◌<◌, ◌≤◌, ◌==◌, true, length, inl, inr, List, [], ◌∷◌, ◌++◌, append-nil, append_assoc, refl, sym, ap, subst, ◌∙◌, Ok, arith}
-use Rattle.std.proofs.Math.Nat.{eq-zero-or-pos}
 use lib.Utf8.{scalar}
 use Rattle.std.proofs.lemmas.Bool.{cond-true, eqb-true}
 use Rattle.std.proofs.lemmas.List.Elements.{All-append, All-cons, All-head, All-nil, All-tail}
 use Rattle.std.specs.Char.{IsScalar}
 use Rattle.std.specs.Prelude.{All, Bool, Option, Some, None, Result}
-use Rattle.normal_forms.specs.Reading.{Reading}
-use Rattle.normal_forms.specs.declared.Form.{Form}
-use Rattle.normal_forms.specs.Forms.{IsNormalized}
-use Rattle.normal_forms.specs.Order.{EndsUpTo}
 use Rattle.normalizer_text.specs.DecodingSteps.{Spells}
 use Rattle.normalizer_iterators.specs.declared.error.NormalizeError.{NormalizeError}
 use Rattle.normalizer_iterators.specs.declared.error.NormalizeError.TheVariants.{Memory}
 use Rattle.normalizer_iterators.specs.Items.{SpellsUnless}
 use Rattle.normalizer_iterators.proofs.items.ItemLemmas.{SpellsUnless-next}
-use Rattle.normalizer_calls.specs.inner.PassthroughRuns.{class_in_order, CanFollowMark, CanPassThrough}
 use Rattle.normalizer_calls.specs.Utf32.{decoded_unit, decoded_utf32, TakesUnit}
-use Rattle.normalizer_calls.proofs.passthrough.PassthroughLemmas.{EndsUpTo-more, EndsUpTo-none, IsNormalized-mark, IsNormalized-starter, normal_form-nil}
-use Rattle.normalizer_calls.proofs.passthrough.SeenClasses.{rises}
 use Rattle.normalizer_calls.proofs.results.ItemsSoFar.{CameSoFar, CameSoFar-end, CameSoFar-more, CameSoFar-none}
 
 -- an iterator that takes a unit each time yields the characters of all of them
@@ -88,42 +80,6 @@ module _ {I : Type 0} {gives : I → Option (Result ℕ NormalizeError) → I �
 
 -- ---- units that pass
 
--- the units so far are characters, normalized, the last one of a class up to this
-pub record PassSoFar (d : Reading) (form : Form) (x : List ℕ) (last : ℕ) : Type 0 where
-  pub characters : All IsScalar x
-  pub own : IsNormalized d form x
-  pub ends : EndsUpTo d last x
-
-module _ (d : Reading) (form : Form) where
-  pub PassSoFar-none : PassSoFar d form [] 0
-  PassSoFar-none = record { characters = All-nil IsScalar; own = normal_form-nil d form form; ends = EndsUpTo-none d 0 }
-
-  module _ (x : List ℕ) (last c k : ℕ) (so_far : PassSoFar d form x last) (is_scalar : IsScalar c) where
-    characters : All IsScalar (x ++ c ∷ [])
-    characters = All-append IsScalar x (c ∷ []) so_far.characters (All-cons IsScalar c [] is_scalar (All-nil IsScalar))
-
-    pub PassSoFar-starter : (held_back : Bool) → CanPassThrough d form held_back c → PassSoFar d form (x ++ c ∷ []) 0
-    PassSoFar-starter held_back may = record {
-      characters = characters;
-      own = IsNormalized-starter d form x so_far.own c 0 held_back may;
-      ends = EndsUpTo-more d x c 0 may.starter;
-    }
-
-    pub PassSoFar-mark : CanFollowMark d form c k → last ≤ k → PassSoFar d form (x ++ c ∷ []) k
-    PassSoFar-mark may rising = record {
-      characters = characters;
-      own = IsNormalized-mark d form x so_far.own c k may last rising so_far.ends;
-      ends = EndsUpTo-more d x c k may.class;
-    }
-
-  module _ (held_back : Bool) (passed : ℕ → Option ℕ)
-      (apart : (c : ℕ) → IsScalar c → passed c ≡ Some 0 → CanPassThrough d form held_back c)
-      (follow : (c k : ℕ) → IsScalar c → passed c ≡ Some k → 0 < k → CanFollowMark d form c k) where
-    pub PassSoFar-more : (x : List ℕ) (last c k : ℕ) → PassSoFar d form x last → IsScalar c → passed c ≡ Some k → class_in_order last k ≡ Some k → PassSoFar d form (x ++ c ∷ []) k
-    PassSoFar-more x last c k so_far is_scalar is order = elim (eq-zero-or-pos k) [
-      | inl zero ↦ subst (PassSoFar d form (x ++ c ∷ [])) (sym zero) (PassSoFar-starter x last c 0 so_far is_scalar held_back (apart c is_scalar (is ∙ ap (λ n. Some n) zero)))
-      | inr mark ↦ elim (rises last k order) [
-        | inl zero ↦ absurd (omega (arith, mark, zero))
-        | inr rising ↦ PassSoFar-mark x last c k so_far is_scalar (follow c k is_scalar is mark) rising
-      ]
-    ]
+-- the units so far are characters
+pub IsScalar-more : (x : List ℕ) (c : ℕ) → All IsScalar x → IsScalar c → All IsScalar (x ++ c ∷ [])
+IsScalar-more x c all scalar = All-append IsScalar x (c ∷ []) all (All-cons IsScalar c [] scalar (All-nil IsScalar))

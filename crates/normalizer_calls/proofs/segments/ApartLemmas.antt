@@ -19,7 +19,7 @@ use Rattle.normalizer_tables.specs.declared.condition.Bounds.{Bounds}
 use Rattle.normalizer_tables.proofs.composites.SecondLemmas.{pair_of-none}
 use Rattle.normalizer_tables.proofs.lists.ListedLemmas.{drop_member}
 use Rattle.normalizer_tables.proofs.lists.SoundLists.{order-own}
-use Rattle.normalizer_calls.specs.inner.Kept.{HasNoSecond}
+use Rattle.normalizer_calls.specs.inner.FormsLeft.{HasNoSecond}
 use Rattle.normalizer_calls.specs.Serving.{ServesComposing}
 
 module _ (d : Reading) where
@@ -69,30 +69,3 @@ pub compose-apart : (s : Characters) (pairs : List Pair) (x : List ℕ) → HasN
 compose-apart s pairs x apart = compose-none (reading_by s Dropped pairs) x (λ i m at. pair_of-none pairs m (apart i m at))
 
 -- ---- a character after a last starter
-
-module _ (d : Reading) (last c : ℕ) (starter : IsStarter d last) where
-  blocked-last : (x : List ℕ) → is_blocked d (x ++ last ∷ []) c ≡ true
-  unfolding is_blocked
-  blocked-last [] = or_left _ _ (or_left _ _ (is_starter-true d last starter))
-  blocked-last (a ∷ x) = or_right _ _ (blocked-last x)
-
-  joined-before : (a : ℕ) (x : List ℕ) → joined d a (x ++ last ∷ []) c ≡ None
-  unfolding joined
-  joined-before a x =
-      cond-false (is_starter d a && not (is_blocked d (x ++ last ∷ []) c)) (d.pair a c) None (and_right (is_starter d a) _ (not_from_true _ (blocked-last x)))
-
-  joined-last : joined d last [] c ≡ d.pair last c
-  unfolding joined is_blocked
-  joined-last = cond-true (is_starter d last && not (is_blocked d [] c)) (d.pair last c) None (ap (λ b. b && not (is_blocked d [] c)) (is_starter-true d last starter))
-
-  -- it joins the starter
-  pub visit-joins : (composite : ℕ) → d.pair last c ≡ Some composite → (x : List ℕ) → visit d (x ++ last ∷ []) c ≡ x ++ composite ∷ []
-  unfolding visit
-  visit-joins composite pair [] = rw (joined-last ∙ pair, visit) refl
-  visit-joins composite pair (a ∷ x) = rw (joined-before a x, visit) (ap (λ l. a ∷ l) (visit-joins composite pair x))
-
-  -- or stays
-  pub visit-stays : d.pair last c ≡ None → (x : List ℕ) → visit d (x ++ last ∷ []) c ≡ (x ++ last ∷ []) ++ c ∷ []
-  unfolding visit
-  visit-stays none [] = rw (joined-last ∙ none, visit) refl
-  visit-stays none (a ∷ x) = rw (joined-before a x, visit) (ap (λ l. a ∷ l) (visit-stays none x))

@@ -1,13 +1,13 @@
 -- Writing the members of a list, as if from an iterator.
 use Rattle.std.proofs.Common.{◌≡◌, ℕ, zero, suc, ◌+◌, ◌<◌, ◌≤◌, List, [], ◌∷◌, ◌++◌, length, length-take, drop, take, Option, Some, None, Result, Ok, arith, refl, ap, sym, subst, ◌∙◌}
 use Rattle.std.specs.Prelude.{All, IfSome, slice_get}
-use Rattle.std.proofs.lemmas.List.{drop_all, drop-drop}
+use Rattle.std.proofs.lemmas.List.{append_cancel_right, drop_all, drop-drop}
 use Rattle.std.proofs.lemmas.List.Elements.{All-nil, All-cons}
 use Rattle.normalizer_text.specs.declared.decoding_step.Step.{Step}
 use Rattle.normalizer_text.specs.Encodings.{Encoding, first_in, decoded_in}
 use Rattle.normalizer_text.specs.DecodingSteps.{steps, IsBoundary}
-use Rattle.normalizer_text.proofs.steps.StepBoundaries.{boundary-le, steps-take-drop}
-use Rattle.normalizer_text.proofs.steps.StepLemmas.{decoded-nil, decoded-some, steps-some}
+use Rattle.normalizer_text.proofs.steps.StepBoundaries.{boundary-first, boundary-le, decoded-take-drop, steps-take-drop}
+use Rattle.normalizer_text.proofs.steps.StepLemmas.{decoded-some, steps-some}
 use Rattle.normalizer_iterators.specs.declared.error.NormalizeError.{NormalizeError}
 use Rattle.normalizer_iterators.specs.declared.error.NormalizeError.TheVariants.{Memory}
 use Rattle.normalizer_iterators.specs.Items.{Answers, HasEnded, SpellsUnless}
@@ -46,13 +46,13 @@ list_gives-front x rest c is = rw is (refl, refl)
 pub list_gives-none : (x : List ℕ) → x ≡ [] → list_gives x None []
 list_gives-none x is = rw is (refl, refl)
 
--- one step alone
-pub decoded-one : (e : Encoding) (units : List ℕ) (s : Step) → 0 < length units → s ≡ first_in e units → s.width ≡ length units → decoded_in e units ≡ s.character ∷ []
-decoded-one e units s some is whole =
-    decoded-some e units some
-    ∙ ap (λ t. t.character ∷ decoded_in e (drop t.width units)) (sym is)
-    ∙ ap (λ rest. s.character ∷ decoded_in e rest) (drop_all s.width units (omega arith))
-    ∙ ap (λ x. s.character ∷ x) (decoded-nil e)
+-- the first step alone
+pub decoded-front : (e : Encoding) (units : List ℕ) (s : Step) → 0 < length units → s ≡ first_in e units → decoded_in e (take s.width units) ≡ s.character ∷ []
+decoded-front e units s some is =
+    let left = decoded_in e (drop s.width units) in
+    append_cancel_right (decoded_in e (take s.width units)) (s.character ∷ []) left
+    (sym (decoded-take-drop e units s.width (boundary-first e units s (record { some = some; is = is })))
+    ∙ decoded-some e units some ∙ ap (λ t. t.character ∷ decoded_in e (drop t.width units)) (sym is))
 
 -- units that end where a step does begin with the same step
 pub first-take : (e : Encoding) (units : List ℕ) (n : ℕ) → 0 < n → IsBoundary (first_in e) units n → first_in e (take n units) ≡ first_in e units

@@ -10,7 +10,7 @@ use Rattle.normalizer_iterators.specs.declared.error.NormalizeError.{NormalizeEr
 use Rattle.normalizer_iterators.specs.declared.error.NormalizeError.TheVariants.{Memory, Sink}
 use Rattle.normalizer_calls.specs.Forms.{MadeForm, form_in}
 use Rattle.normalizer_calls.specs.Writing.{TookBeginning}
-use Rattle.normalizer_calls.specs.declared.runs.Segment.{Segment}
+use Rattle.normalizer_calls.specs.declared.segment.Segment.{Segment}
 use Rattle.normalizer_calls.specs.inner.PassthroughRuns.{IsFrontSegment, IsPart, StandsInInput}
 
 -- what is said of an output S of pieces of U: what it has taken, what a refused call leaves, what its refusal says,

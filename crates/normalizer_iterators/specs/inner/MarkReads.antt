@@ -1,19 +1,17 @@
 -- Reading a run of marks.
-use Rattle.std.specs.Prelude.{◌≡◌, ℕ, ◌+◌, ◌≤◌, Bool, List, [], ◌∷◌, ◌++◌, Option, Some, None, drop, option_to_list}
+use Rattle.std.specs.Prelude.{◌≡◌, ℕ, ◌+◌, ◌≤◌, Bool, List, [], ◌∷◌, ◌++◌, Option, Some, None, drop}
 use Rattle.std.specs.Prelude.{if◌then◌else◌}
-use Rattle.std.specs.Option.{ForSome}
 use Rattle.normal_forms.specs.Decomposition.{expand}
-use Rattle.normal_forms.specs.Reading.{Reading, IsStarter, is_starter}
+use Rattle.normal_forms.specs.Reading.{Reading, is_starter}
 use Rattle.normal_forms.specs.ShortRuns.{buffer_limit, leading_length}
 use Rattle.normalizer_tables.specs.declared.characters.IgnoredCharacters.{IgnoredCharacters}
 use Rattle.normalizer_tables.specs.Characters.{Characters, has_class_form}
 use Rattle.normalizer_tables.specs.Readings.{reading_by}
 use Rattle.normalizer_text.specs.DecodingSteps.{IsBoundary}
 use Rattle.normalizer_text.specs.Encodings.{Encoding, first_in, decoded_in}
-use Rattle.normalizer_iterators.specs.declared.mark_run.MarkRun.{MarkRun}
 use Rattle.normalizer_iterators.specs.declared.waiting.WaitingList.{WaitingList}
 use Rattle.normalizer_iterators.specs.LazyReading.{SuitsLazyReading}
-use Rattle.normalizer_iterators.specs.WaitingList.{item_count, ordered_text, reordered_text, AgreesWith}
+use Rattle.normalizer_iterators.specs.WaitingList.{item_count, reordered_text, AgreesWith}
 
 -- the first character, if it is a starter
 unfoldable pub starter_of : Reading → List ℕ → Option ℕ
@@ -42,9 +40,3 @@ pub record MarksReadTo (f : ℕ → Bool) (d : Reading) (e : Encoding) (units : 
   pub text : (rest : List ℕ) → reordered_text d old (expand d front ++ rest) ≡ reordered_text d now rest
   pub room : SuitsLazyReading f d → item_count now + leading_length f d (decoded_in e (drop place units))
       ≡ item_count old + leading_length f d (decoded_in e (drop position units))
-
--- a run has the characters of x, of which none is composed yet
-pub record IsUncomposed (d : Reading) (x : List ℕ) (run : MarkRun) : Type 0 where
-  pub whole : x ≡ option_to_list run.starter ++ ordered_text run.waiting
-  pub begins : ForSome run.starter (IsStarter d)
-  pub classes : AgreesWith d run.waiting

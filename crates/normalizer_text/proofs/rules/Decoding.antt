@@ -10,7 +10,9 @@ pub record IsDecoding (e : Encoding) : Type 0 where
   -- a step takes some of the units, and its character is a scalar value
   pub some : (us : List ℕ) → 0 < length us → 0 < (first_in e us).width
   pub fits : (us : List ℕ) → 0 < length us → (first_in e us).width ≤ length us
-  pub scalar : (us : List ℕ) → 0 < length us → IsScalar (first_in e us).character
+  pub scalar : (us : List ℕ) → IsScalar (first_in e us).character
+  -- an error reads as U+FFFD
+  pub error : (us : List ℕ) → (first_in e us).is_error ≡ true → (first_in e us).character ≡ 0xFFFD
   -- it depends on the units that it takes alone, and on the end after them only if it is an error
   pub cut : (us : List ℕ) (n : ℕ) → 0 < length us → (first_in e us).width ≤ n → first_in e (take n us) ≡ first_in e us
   pub extends : (us more : List ℕ) → 0 < length us → (first_in e us).is_error ≡ false → first_in e (us ++ more) ≡ first_in e us

@@ -234,10 +234,6 @@ width_of-right (f ∷ front) (b ∷ before) rest after s e r w =
     let tail : before ++ s ∷ after ≡ front ++ rest = cc in
     omega (arith, width_of-right front before rest after s tail (All-tail IsRight f front r) w, ap (λ s. s.width) k)
 
-error-character : (us : List ℕ) → (first_of_utf8 us).is_error ≡ true → (first_of_utf8 us).character ≡ 0xFFFD
-error-character [] e = refl
-error-character (b ∷ bs) e = by_cases (λ s. s.is_error ≡ true → s.character ≡ 0xFFFD) b bs (λ _ _. refl) (λ r f m e. absurd (false≢true e)) (λ r f m _. refl) e
-
 -- the well-formed front before the first error
 record IsFront (bs : List ℕ) (e : HasError (steps first_of_utf8 bs)) (n : ℕ) : Type 0 where
   front : steps first_of_utf8 (take n bs) ≡ e.before
@@ -315,7 +311,7 @@ decoded-front : (bs : List ℕ) (e : HasError (steps first_of_utf8 bs))
 decoded-front bs e =
     let n = width_of e.before in
     let f = front-IsFront bs e in
-    let character : e.error.character ≡ 0xFFFD = ap (λ s. s.character) (sym f.step) ∙ error-character (drop n bs) (ap (λ s. s.is_error) f.step ∙ e.is) in
+    let character : e.error.character ≡ 0xFFFD = ap (λ s. s.character) (sym f.step) ∙ IsDecoding-utf8.error (drop n bs) (ap (λ s. s.is_error) f.step ∙ e.is) in
     ap (map (λ s. s.character)) e.apart
     ∙ map-append (λ s. s.character) e.before (e.error ∷ e.after)
     ∙ ap (λ x. map (λ s. s.character) x ++ map (λ s. s.character) (e.error ∷ e.after)) (sym f.front)

@@ -3,7 +3,7 @@ use Rattle.std.proofs.Common.{◌≡◌, ℕ, zero, suc, ◌+◌, ◌-◌, ◌/�
 use Rattle.std.specs.Char.{IsScalar}
 use Rattle.std.specs.Char.Escape.{encode_utf16}
 use Rattle.std.specs.Int.{is_in_range}
-use Rattle.std.proofs.lemmas.Bool.{true≢false, cases_Bool, cases_lt, or_cases, and_parts, and_from, and_left, or_from, leb-true, le-leb, lt-ltb, le-ltb, cond-true, cond-false}
+use Rattle.std.proofs.lemmas.Bool.{false≢true, true≢false, cases_Bool, cases_lt, or_cases, and_parts, and_from, and_left, or_from, leb-true, le-leb, lt-ltb, le-ltb, cond-true, cond-false}
 use Rattle.std.proofs.lemmas.Bool.Decides.{nat_tests}
 use Rattle.normalizer_text.specs.declared.decoding_step.Step.{Step}
 use Rattle.normalizer_text.specs.DecodingSteps.{read, replacement_step}
@@ -96,12 +96,20 @@ scalar-unpaired u = unpaired-cases (λ s. IsScalar s.character) u
     (λ e. ⊎_elim (λ l. IsScalar-low u (omega arith)) (λ h. IsScalar-high u (omega arith) (omega arith)) (single-cases u e))
     (λ _. refl)
 
-scalar_utf16 : (us : List ℕ) → 0 < length us → IsScalar (first_of_utf16 us).character
-scalar_utf16 [] h = refl
-scalar_utf16 (u ∷ []) h = scalar-unpaired u
-scalar_utf16 (u ∷ v ∷ us) h = cases (λ s. IsScalar s.character) u v us
+scalar_utf16 : (us : List ℕ) → IsScalar (first_of_utf16 us).character
+scalar_utf16 [] = refl
+scalar_utf16 (u ∷ []) = scalar-unpaired u
+scalar_utf16 (u ∷ v ∷ us) = cases (λ s. IsScalar s.character) u v us
     (λ e. let k = pair-bounds u v e in IsScalar-high (pair_value u v) (omega arith) (omega arith))
     (λ _. scalar-unpaired u)
+
+error-unpaired : (u : ℕ) → (unpaired_step u).is_error ≡ true → (unpaired_step u).character ≡ 0xFFFD
+error-unpaired u e = unpaired-cases (λ s. s.is_error ≡ true → s.character ≡ 0xFFFD) u (λ _ e. absurd (false≢true e)) (λ _ _. refl) e
+
+error_utf16 : (us : List ℕ) → (first_of_utf16 us).is_error ≡ true → (first_of_utf16 us).character ≡ 0xFFFD
+error_utf16 [] e = refl
+error_utf16 (u ∷ []) e = error-unpaired u e
+error_utf16 (u ∷ v ∷ us) e = cases (λ s. s.is_error ≡ true → s.character ≡ 0xFFFD) u v us (λ _ e. absurd (false≢true e)) (λ _ e. error-unpaired u e) e
 
 cut_utf16 : (us : List ℕ) (n : ℕ) → 0 < length us → (first_of_utf16 us).width ≤ n → first_of_utf16 (take n us) ≡ first_of_utf16 us
 cut_utf16 [] n h l = absurd (omega arith)
@@ -121,7 +129,7 @@ extends_utf16 (u ∷ []) (v ∷ more) h e = unpaired-cases (λ s. s.is_error ≡
 extends_utf16 (u ∷ v ∷ us) more h e = refl
 
 pub IsDecoding-utf16 : IsDecoding Encoding.Utf16
-IsDecoding-utf16 = record { some = some_utf16; fits = fits_utf16; scalar = scalar_utf16; cut = cut_utf16; extends = extends_utf16 }
+IsDecoding-utf16 = record { some = some_utf16; fits = fits_utf16; scalar = scalar_utf16; error = error_utf16; cut = cut_utf16; extends = extends_utf16 }
 
 inside_utf16 : (us : List ℕ) (k : ℕ) → 0 < k → k < (first_of_utf16 us).width → is_low (get_or us k 0) ≡ true
 inside_utf16 us zero some h = absurd (omega arith)

@@ -2,7 +2,7 @@
 use Rattle.std.proofs.Common.{◌≡◌, ℕ, zero, suc, ◌<◌, ◌≤◌, ◌⊎◌, inl, inr, true, false, List, [], ◌∷◌, ◌++◌, length, take, get_or, Option, Some, None, arith, refl, ap, sym, subst, ◌∙◌, ⊎_elim}
 use Rattle.std.specs.Char.{IsScalar}
 use Rattle.std.proofs.lemmas.List.{take-take, take-append-le}
-use Rattle.std.proofs.lemmas.Bool.{true≢false, cases_eq, and_from, le-leb}
+use Rattle.std.proofs.lemmas.Bool.{false≢true, true≢false, cases_eq, and_from, le-leb}
 use Rattle.normalizer_text.specs.declared.decoding_step.Step.{Step}
 use Rattle.normalizer_text.specs.DecodingSteps.{read, replacement_step}
 use Rattle.normalizer_text.specs.Utf8.{ByteRange, Row, row_of, continuation, allows, matched_count, scalar_value, first_by_row, first_of_utf8}
@@ -39,9 +39,13 @@ fits_utf8 : (us : List ℕ) → 0 < length us → (first_of_utf8 us).width ≤ l
 fits_utf8 [] h = absurd (omega arith)
 fits_utf8 (b ∷ bs) h = by_cases (λ s. s.width ≤ length (b ∷ bs)) b bs (λ _. omega arith) (λ r e m. let k = matched-le r.trail bs in omega arith) (λ r e m. let k = matched-le r.trail bs in omega arith)
 
-scalar_utf8 : (us : List ℕ) → 0 < length us → IsScalar (first_of_utf8 us).character
-scalar_utf8 [] h = refl
-scalar_utf8 (b ∷ bs) h = by_cases (λ s. IsScalar s.character) b bs (λ _. refl) (λ r e m. scalar_value-IsScalar (b ∷ take (length r.trail) bs) (IsSequence-row b bs r e m)) (λ r e m. refl)
+scalar_utf8 : (us : List ℕ) → IsScalar (first_of_utf8 us).character
+scalar_utf8 [] = refl
+scalar_utf8 (b ∷ bs) = by_cases (λ s. IsScalar s.character) b bs (λ _. refl) (λ r e m. scalar_value-IsScalar (b ∷ take (length r.trail) bs) (IsSequence-row b bs r e m)) (λ r e m. refl)
+
+error_utf8 : (us : List ℕ) → (first_of_utf8 us).is_error ≡ true → (first_of_utf8 us).character ≡ 0xFFFD
+error_utf8 [] e = refl
+error_utf8 (b ∷ bs) e = by_cases (λ s. s.is_error ≡ true → s.character ≡ 0xFFFD) b bs (λ _ _. refl) (λ r f m e. absurd (false≢true e)) (λ r f m _. refl) e
 
 short_utf8 : (us : List ℕ) → (first_of_utf8 us).width ≤ 4
 short_utf8 [] = omega arith
@@ -114,6 +118,7 @@ IsDecoding-utf8 = record {
   some = some_utf8;
   fits = fits_utf8;
   scalar = scalar_utf8;
+  error = error_utf8;
   cut = cut_utf8;
   extends = extends_utf8;
 }

@@ -1,5 +1,5 @@
 -- Units that begin characters below a bound.
-use Rattle.std.proofs.Common.{◌≡◌, ℕ, zero, suc, ◌-◌, ◌*◌, ◌<◌, ◌≤◌, false, List, [], ◌∷◌, length, take, drop, get_or, arith, refl, ap, sym, ◌∙◌}
+use Rattle.std.proofs.Common.{◌≡◌, ℕ, zero, suc, ◌-◌, ◌*◌, ◌<◌, ◌≤◌, false, List, [], ◌∷◌, length, take, drop, arith, refl, ap, sym, ◌∙◌}
 use Rattle.std.specs.Prelude.{All}
 use Rattle.std.proofs.lemmas.Bool.{true≢false}
 use Rattle.std.proofs.lemmas.List.Elements.{All-nil, All-cons, All-head, All-tail, All-same, All-drop}
@@ -17,10 +17,6 @@ use Rattle.normalizer_text.proofs.rules.Utf16Lemmas.{first-single, low-is_single
 pub first-ascii : (b : ℕ) (bs : List ℕ) → b < 0x80 → first_of_utf8 (b ∷ bs) ≡ read b 1
 first-ascii b bs h =
     ap (λ o. first_by_row o b bs) (row-ascii b (omega arith)) ∙ by_row-whole (row (range 0x00 0x7F) []) b bs refl
-
-pub first-ascii_byte : (bytes : List ℕ) → 0 < length bytes → get_or bytes 0 0 < 0x80 → first_of_utf8 bytes ≡ read (get_or bytes 0 0) 1
-first-ascii_byte [] some h = absurd (omega arith)
-first-ascii_byte (b ∷ bs) some h = first-ascii b bs h
 
 pub first-low_unit : (u : ℕ) (us : List ℕ) → u < 0xD800 → first_of_utf16 (u ∷ us) ≡ read u 1
 first-low_unit u us h = first-single u us (low-is_single u h)

@@ -1,22 +1,22 @@
 -- Stretches of units below a bound.
-use Rattle.std.proofs.Common.{◌≡◌, ℕ, zero, suc, ◌+◌, ◌-◌, ◌*◌, ◌/◌, ◌%◌, ◌^◌, ◌<◌, ◌≤◌, ◌⊎◌, Bool, false, not, cond, eqb, leb, ltb, replicate}
+use Rattle.std.proofs.Common.{◌≡◌, ℕ, suc, ◌+◌, ◌-◌, ◌*◌, ◌/◌, ◌%◌, ◌^◌, ◌<◌, ◌≤◌, ◌⊎◌, Bool, false, not, cond, eqb, leb, ltb, replicate}
 use Rattle.std.proofs.Common.{inl, inr, List, [], ◌∷◌, ◌++◌, length, take, drop, get_or, map, arith, refl, ap, sym, subst, ◌∙◌, ⊎_elim}
-use Rattle.std.proofs.Math.Nat.{min-le_left, min-le_right, le-min, le-div_iff_mul-le, mul_comm, pow-suc, zero-div, div-one, div-div-eq-div-mul}
+use Rattle.std.proofs.Math.Nat.{min-le_left, min-le_right, le-min, le-div_iff_mul-le}
 use Rattle.std.specs.Prelude.{All, min, nat_lt, true, if◌then◌else◌}
 use Rattle.std.specs.List.{prefix_len}
 use lib.Count.{count_trailing_zeros}
-use lib.Lanes.{chunk, zip2, mask_l, top}
+use lib.Lanes.{zip2, mask_l, top}
 use mir.Syntax.{Width}
 use mir.Val.{bits, hbits}
 use Rattle.std.proofs.lemmas.Bool.Decides.{nat_tests}
-use Rattle.std.proofs.lemmas.Bool.{cases_lt, ne_eqb, eq-eqb, le-leb, lt-leb, cond-true, cond-false, lt-ltb, le-ltb, true≢false, false_from_ne_true}
-use Rattle.std.proofs.lemmas.List.{append-nil, length-map, take_all, drop-drop, length-drop}
+use Rattle.std.proofs.lemmas.Bool.{cases_lt, ne_eqb, eq-eqb, lt-leb, cond-true, cond-false, lt-ltb, le-ltb, true≢false, false_from_ne_true}
+use Rattle.std.proofs.lemmas.List.{append-nil, length-map}
 use Rattle.std.proofs.lemmas.List.Folds.{prefix_len-append}
-use Rattle.std.proofs.lemmas.Simd.{chunk-drop, length-chunk, tops_compared, zip2_splat_left, mask_l-mod, first_set_mask_l}
-use Rattle.std.proofs.lemmas.List.Sums.{prefix_len-drop_all, prefix_len-le-length, prefix_len_stops}
+use Rattle.std.proofs.lemmas.Simd.{chunk-drop, length-chunk, tops_compared, zip2_splat_left, mask_l-mod, leading_from_mask_l, trailing_mask_l}
+use Rattle.std.proofs.lemmas.List.Sums.{prefix_len-le-length, prefix_len_stops}
 use Rattle.std.proofs.lemmas.List.Elements.{All-nil, All-cons, All-head, All-tail, All-same, All-weaker}
 use Rattle.normalizer_text.specs.Encodings.{Encoding, first_in, decoded_in}
-use Rattle.normalizer_sets.specs.CharacterSets.{low_byte}
+use Rattle.normalizer_passing.specs.LowBounds.{low_byte}
 use Rattle.normalizer_text.specs.Scans.{leading_below, EndsLowCharacters}
 use Rattle.normalizer_text.specs.DecodingSteps.{read, steps, IsWellFormed, IsBoundary}
 use Rattle.normalizer_text.specs.Utf8.{allows, continuation, first_of_utf8, decoded_utf8}
@@ -28,9 +28,6 @@ use Rattle.normalizer_text.proofs.scans.LowLemmas.{first-ascii, first-low_unit, 
 use Rattle.normalizer_text.proofs.sequences.MatchLemmas.{allows-true}
 
 -- ---- one unit after another
-
-pub leading_below-drop_all : (bound : ℕ) (units : List ℕ) (n : ℕ) → length units ≤ n → leading_below bound (drop n units) ≡ 0
-leading_below-drop_all bound units n h = prefix_len-drop_all (λ u. ltb u bound) units n h
 
 pub leading_below-le : (bound : ℕ) (units : List ℕ) → leading_below bound units ≤ length units
 leading_below-le bound units = prefix_len-le-length (λ u. ltb u bound) units
@@ -45,58 +42,6 @@ All-leading_below bound (u ∷ us) =
     All-same P _ (take (suc n) (u ∷ us)) (ap (λ k. take k (u ∷ us)) one) (All-cons P u (take n us) l (All-leading_below bound us)))
     (λ g. All-same P _ [] (ap (λ k. take k (u ∷ us)) (cond-false _ _ _ (le-ltb u bound g))) (All-nil P))
     (cases_lt u bound)
-
--- ---- a vector of units
-
-module _ (bound : ℕ) (units : List ℕ) (at n below : ℕ) (room : at + n ≤ length units) (counted : below ≡ leading_below bound (take n (drop at units))) where
-  apart : leading_below bound (drop at units) ≡ cond (eqb below n) (n + leading_below bound (drop (at + n) units)) below
-  apart =
-      let p = λ (u : ℕ). ltb u bound in
-      let long = length-chunk at n units room in
-      ap (prefix_len p) (chunk-drop at n units) ∙ prefix_len-append p (chunk at n units) (drop (at + n) units)
-      ∙ ap (λ k. cond (eqb (prefix_len p (chunk at n units)) k) (k + leading_below bound (drop (at + n) units)) (prefix_len p (chunk at n units))) long
-      ∙ ap (λ k. cond (eqb k n) (n + leading_below bound (drop (at + n) units)) k) (sym counted)
-
-  -- the first that is not below the bound is among the first n units
-  pub leading_below-within : below < n → leading_below bound (drop at units) ≡ below
-  leading_below-within few = apart ∙ cond-false _ _ _ (ne_eqb below n (λ e. absurd (omega arith)))
-
-  -- or it doesn't
-  pub leading_below-past : n ≤ below → (at + n ≤ length units) × (at + n + leading_below bound (drop (at + n) units) ≡ at + leading_below bound (drop at units))
-  leading_below-past all =
-      let most = leading_below-le bound (take n (drop at units)) in
-      let long = length-chunk at n units room in
-      let whole : below ≡ n = omega arith in
-      let rest = apart ∙ cond-true _ _ _ (eq-eqb below n whole) in
-      (omega arith, omega (arith, rest))
-
--- if not all units of a vector are below the bound, fewer than it holds are
-pub leading_below-few : (bound : ℕ) (units : List ℕ) (at n below : ℕ) → at + n ≤ length units → below ≡ leading_below bound (take n (drop at units)) → (below ≡ n → ⊥) → below < n
-leading_below-few bound units at n below room counted some =
-    let long : length (take n (drop at units)) ≡ n = length-chunk at n units room in
-    let most = leading_below-le bound (take n (drop at units)) in
-    omega arith
-
--- so its end is found
-pub end-within : (bound : ℕ) (units : List ℕ) (at n below : ℕ) → at + n ≤ length units → below ≡ leading_below bound (take n (drop at units)) → (below ≡ n → ⊥)
-    → at + below ≡ at + leading_below bound (drop at units)
-end-within bound units at n below room counted some =
-    omega (arith, leading_below-within bound units at n below room counted (leading_below-few bound units at n below room counted some))
-
--- or it is further on
-pub end-past : (bound : ℕ) (units : List ℕ) (at n below end : ℕ) → at + n ≤ length units → below ≡ leading_below bound (take n (drop at units)) → below ≡ n
-    → end ≡ at + n + leading_below bound (drop (at + n) units) → end ≡ at + leading_below bound (drop at units)
-end-past bound units at n below end room counted all is = omega (arith, is, (leading_below-past bound units at n below room counted (omega arith)).1)
-
-prefix_len-same : (p q : ℕ → Bool) → ((x : ℕ) → p x ≡ q x) → (xs : List ℕ) → prefix_len p xs ≡ prefix_len q xs
-prefix_len-same p q same [] = refl
-prefix_len-same p q same (x ∷ xs) = ap (λ n. cond (p x) (1 + n) 0) (prefix_len-same p q same xs) ∙ ap (λ b. cond b (1 + prefix_len q xs) 0) (same x)
-
-not-leb : (bound x : ℕ) → not (leb bound x) ≡ ltb x bound
-not-leb bound x = ⊎_elim
-    (λ l. ap not (lt-leb bound x l) ∙ sym (lt-ltb x bound l))
-    (λ g. ap not (le-leb bound x g) ∙ sym (le-ltb x bound g))
-    (cases_lt x bound)
 
 -- ---- a mask of the units that reach the bound
 
@@ -114,38 +59,50 @@ reaching-none bound (u ∷ us) low =
     ap (λ b. cond b 1 0 + 2 * mask_l (map (leb bound) us)) (lt-leb bound u (low 0 (omega arith)))
     ∙ omega (arith, reaching-none bound us (λ k h. low (suc k) (omega arith)))
 
--- the first of them
-pub first-reaching : (bound : ℕ) (v : List ℕ) (n : ℕ) → length v ≡ n → n ≤ 64
-    → cond (eqb (mask_l (map (leb bound) v)) 0) n (count_trailing_zeros 64 (mask_l (map (leb bound) v))) ≡ leading_below bound v
-first-reaching bound v n long few =
-    first_set_mask_l (leb bound) v n long few
-    ∙ prefix_len-same (λ x. not (leb bound x)) (λ x. ltb x bound) (not-leb bound) v
+not-leb : (bound x : ℕ) → not (leb bound x) ≡ ltb x bound
+not-leb bound x = grind (arith, nat_tests)
 
--- without the first k units
-half : (b : Bool) (n : ℕ) → (cond b 1 0 + 2 * n) / 2 ≡ n
-half true n = omega arith
-half false n = omega arith
+prefix_len-same : (p q : ℕ → Bool) → ((x : ℕ) → p x ≡ q x) → (xs : List ℕ) → prefix_len p xs ≡ prefix_len q xs
+prefix_len-same p q same [] = refl
+prefix_len-same p q same (x ∷ xs) = ap (λ n. cond (p x) (1 + n) 0) (prefix_len-same p q same xs) ∙ ap (λ b. cond b (1 + prefix_len q xs) 0) (same x)
 
-mask-drop : (p : ℕ → Bool) (k : ℕ) (v : List ℕ) → mask_l (map p v) / 2 ^ k ≡ mask_l (map p (drop k v))
-mask-drop p zero v = div-one (mask_l (map p v))
-mask-drop p (suc k) [] = zero-div (2 ^ suc k)
-mask-drop p (suc k) (x ∷ v) =
-    ap (λ n. mask_l (map p (x ∷ v)) / n) (pow-suc 2 k ∙ mul_comm (2 ^ k) 2) ∙ sym (div-div-eq-div-mul (mask_l (map p (x ∷ v))) 2 (2 ^ k))
-    ∙ ap (λ n. n / 2 ^ k) (half (p x) (mask_l (map p v))) ∙ mask-drop p k v
+below-same : (bound : ℕ) (v : List ℕ) → prefix_len (λ u. not (leb bound u)) v ≡ leading_below bound v
+below-same bound v = prefix_len-same (λ u. not (leb bound u)) (λ u. ltb u bound) (not-leb bound) v
 
--- the first of the last units, by a vector that ends with them
-pub last-reaching : (bound : ℕ) (units : List ℕ) (n at mask : ℕ) → n ≤ 64 → n ≤ length units → length units ≤ at + n → at ≤ length units
-    → mask ≡ mask_l (map (leb bound) (chunk (length units - n) n units)) / 2 ^ (at - (length units - n))
-    → cond (eqb mask 0) (length units - at) (count_trailing_zeros 64 mask) ≡ leading_below bound (drop at units)
-last-reaching bound units n at mask few room last within is =
-    let start = length units - n in
-    let k = at - start in
-    let rest : drop k (chunk start n units) ≡ drop at units =
-    ap (drop k) (take_all n (drop start units) (omega (arith, length-drop start units)))
-    ∙ drop-drop k start units ∙ ap (λ i. drop i units) (let same : start + k ≡ at = omega arith in same) in
-    let whole = is ∙ mask-drop (leb bound) k (chunk start n units) ∙ ap (λ v. mask_l (map (leb bound) v)) rest in
-    ap (λ m. cond (eqb m 0) (length units - at) (count_trailing_zeros 64 m)) whole
-    ∙ first-reaching bound (drop at units) (length units - at) (length-drop at units) (omega arith)
+-- if it isn't empty, one of them does
+reaching-some : (bound : ℕ) (v : List ℕ) → 0 < mask_l (map (leb bound) v) → leading_below bound v < length v
+reaching-some bound [] some = absurd (omega arith)
+reaching-some bound (u ∷ us) some = ⊎_elim
+    (λ l.
+    let more = reaching-some bound us (omega (arith, some, ap (λ b. cond b 1 0 + 2 * mask_l (map (leb bound) us)) (lt-leb bound u l))) in
+    omega (arith, cond-true _ (1 + leading_below bound us) 0 (lt-ltb u bound l)))
+    (λ g. omega (arith, cond-false _ (1 + leading_below bound us) 0 (le-ltb u bound g)))
+    (cases_lt u bound)
+
+module _ (bound : ℕ) (units : List ℕ) (at n mask : ℕ) (room : at + n ≤ length units) (is : mask ≡ mask_l (map (leb bound) (take n (drop at units)))) where
+  long : length (take n (drop at units)) ≡ n
+  long = length-chunk at n units room
+
+  apart : leading_below bound (drop at units)
+      ≡ cond (eqb (leading_below bound (take n (drop at units))) n) (n + leading_below bound (drop (at + n) units)) (leading_below bound (take n (drop at units)))
+  apart =
+      ap (leading_below bound) (chunk-drop at n units) ∙ prefix_len-append (λ u. ltb u bound) (take n (drop at units)) (drop (at + n) units)
+      ∙ ap (λ k. cond (eqb (leading_below bound (take n (drop at units))) k) (k + leading_below bound (drop (at + n) units)) (leading_below bound (take n (drop at units)))) long
+
+  -- the end of the units below the bound is further on
+  pub end-past : mask ≡ 0 → at + n + leading_below bound (drop (at + n) units) ≡ at + leading_below bound (drop at units)
+  end-past none =
+      let all = sym (below-same bound (take n (drop at units))) ∙ leading_from_mask_l (leb bound) (take n (drop at units)) (sym is ∙ none) ∙ long in
+      omega (arith, apart ∙ cond-true _ _ _ (eq-eqb _ n all))
+
+  -- or it is before the first of those that reach it
+  pub end-within : n ≤ 64 → 0 < mask → count_trailing_zeros 64 mask ≡ leading_below bound (drop at units)
+  end-within few some =
+      let v = take n (drop at units) in
+      let some' = subst (λ m. 0 < m) is some in
+      let less = reaching-some bound v some' in
+      ap (count_trailing_zeros 64) is ∙ trailing_mask_l (leb bound) 64 v (omega (arith, long)) some' ∙ below-same bound v
+      ∙ sym (apart ∙ cond-false _ _ _ (ne_eqb (leading_below bound v) n (λ e. absurd (omega (arith, long, less)))))
 
 -- ---- units that are characters by themselves
 

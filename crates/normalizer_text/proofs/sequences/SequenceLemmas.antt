@@ -12,8 +12,6 @@ use Rattle.normalizer_text.specs.MaximalSubparts.{IsWithin, AreWithin}
 use Rattle.normalizer_text.proofs.sequences.RowLemmas.{IsSequence-row, IsWhole, by_row-whole}
 use Rattle.normalizer_text.proofs.sequences.MatchLemmas.{matched-le}
 use Rattle.normalizer_text.specs.Encodings.{Encoding}
-use Rattle.normalizer_text.specs.declared.utf8.Lead.{Lead}
-use Rattle.normalizer_text.specs.inner.Leads.{width_led_by, IsLead}
 use Rattle.normalizer_text.proofs.rules.Decoding.{IsEncoding}
 use Rattle.normalizer_text.proofs.sequences.ScalarLemmas.{encode-scalar_value, Encodes-encode}
 use Rattle.normalizer_text.proofs.steps.StepLemmas.{first-right}
@@ -116,14 +114,6 @@ length-sequence b (c ∷ d ∷ []) s = sym (cond-false _ _ _ (le-ltb b 128 (omeg
 length-sequence b (c ∷ d ∷ e ∷ []) s =
     sym (cond-false _ _ _ (le-ltb b 128 (omega arith)) ∙ cond-false _ _ _ (le-ltb b 224 (omega arith)) ∙ cond-false _ _ _ (le-ltb b 240 (omega arith)))
 length-sequence b (c ∷ d ∷ e ∷ f ∷ bs) s = absurd s
-
-pub length-led : (l : Lead) (b : ℕ) → IsLead l b → width_led_by l ≡ 1 + continuation_len b
-length-led Lead.OfOne b led = ap (λ n. 1 + n) (sym (cond-true _ _ _ (lt-ltb b 128 (omega arith))))
-length-led Lead.OfTwo b led = ap (λ n. 1 + n) (sym (cond-false _ _ _ (le-ltb b 128 (omega arith)) ∙ cond-true _ _ _ (lt-ltb b 224 (omega arith))))
-length-led Lead.OfThree b led =
-    ap (λ n. 1 + n) (sym (cond-false _ _ _ (le-ltb b 128 (omega arith)) ∙ cond-false _ _ _ (le-ltb b 224 (omega arith)) ∙ cond-true _ _ _ (lt-ltb b 240 (omega arith))))
-length-led Lead.OfFour b led =
-    ap (λ n. 1 + n) (sym (cond-false _ _ _ (le-ltb b 128 (omega arith)) ∙ cond-false _ _ _ (le-ltb b 224 (omega arith)) ∙ cond-false _ _ _ (le-ltb b 240 (omega arith))))
 
 pub whole-well_formed : (bytes : List ℕ) → 0 < length bytes → IsWellFormed first_of_utf8 bytes → IsWhole bytes (continuation_len (get_or bytes 0 0))
 whole-well_formed [] h w = absurd (omega arith)

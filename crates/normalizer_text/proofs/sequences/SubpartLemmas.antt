@@ -12,7 +12,9 @@ use Rattle.normalizer_text.proofs.sequences.MatchLemmas.{allows-true, matched-le
 use Rattle.normalizer_text.proofs.sequences.RowLemmas.{Each, find-Each, row_of-IsRow, by_row-whole}
 use Rattle.normalizer_text.proofs.sequences.SequenceLemmas.{row-ascii, row-two, row-E0, row-E1, row-ED, row-EE, row-F0, row-F1, row-F4, allows_from, matched-AreWithin}
 use Rattle.normalizer_text.proofs.sequences.SequenceLemmas.{HasRow-sequence, first-sequence}
-use Rattle.normalizer_text.specs.inner.Trails.{BeginsWithSequence, LeadsFour, LeadsThree}
+use Rattle.normalizer_passing.specs.PassBytes.{byte_of}
+use Rattle.normalizer_text.specs.Passing.{PassesBy}
+use Rattle.normalizer_text.specs.inner.Trails.{IsFirstSequence, LeadsFour, LeadsThree}
 use Rattle.normalizer_text.proofs.sequences.Sequences.{IsSequence}
 use Rattle.normalizer_text.proofs.rules.Utf8Lemmas.{by_cases}
 
@@ -79,41 +81,57 @@ sequence_of_bounds (b ∷ bs) s =
     let k = HasRow-sequence b bs s in
     record { row = k.r; listed = (row_of-IsTableRow b k.r k.is).listed; within = (lead-IsWithin b k.r k.is, k.within) }
 
--- ---- sequences in front
+-- ---- a sequence of each length
 
-pub BeginsWithSequence-two : (bytes : List ℕ) → 1 < length bytes → 0xC2 ≤ get_or bytes 0 0 → get_or bytes 0 0 ≤ 0xDF → allows continuation (get_or bytes 1 0) ≡ true
-    → BeginsWithSequence bytes 2
-BeginsWithSequence-two [] more = absurd (omega arith)
-BeginsWithSequence-two (a ∷ []) more = absurd (omega arith)
-BeginsWithSequence-two (a ∷ b ∷ bs) more = λ least greatest second.
-    let s = allows-true continuation b second in (omega arith, sequence_of_bounds (a ∷ b ∷ []) (least, greatest, s.0, s.1))
+pub sequence-one : (bytes : List ℕ) → length bytes ≡ 1 → get_or bytes 0 0 ≤ 0x7F → IsWellFormedSequence bytes
+sequence-one [] long = absurd (omega arith)
+sequence-one (a ∷ []) long = λ low. sequence_of_bounds (a ∷ []) (omega arith)
+sequence-one (a ∷ b ∷ bs) long = absurd (omega arith)
 
-pub BeginsWithSequence-three : (bytes : List ℕ) → 2 < length bytes → LeadsThree (get_or bytes 0 0) (get_or bytes 1 0) → allows continuation (get_or bytes 2 0) ≡ true
-    → BeginsWithSequence bytes 3
-BeginsWithSequence-three [] more = absurd (omega arith)
-BeginsWithSequence-three (a ∷ []) more = absurd (omega arith)
-BeginsWithSequence-three (a ∷ b ∷ []) more = absurd (omega arith)
-BeginsWithSequence-three (a ∷ b ∷ c ∷ bs) more = λ leads third.
+pub sequence-two : (bytes : List ℕ) → length bytes ≡ 2 → 0xC2 ≤ get_or bytes 0 0 → get_or bytes 0 0 ≤ 0xDF → allows continuation (get_or bytes 1 0) ≡ true → IsWellFormedSequence bytes
+sequence-two [] long = absurd (omega arith)
+sequence-two (a ∷ []) long = absurd (omega arith)
+sequence-two (a ∷ b ∷ []) long = λ least greatest second. let s = allows-true continuation b second in sequence_of_bounds (a ∷ b ∷ []) (least, greatest, s.0, s.1)
+sequence-two (a ∷ b ∷ c ∷ bs) long = absurd (omega arith)
+
+pub sequence-three : (bytes : List ℕ) → length bytes ≡ 3 → LeadsThree (get_or bytes 0 0) (get_or bytes 1 0) → allows continuation (get_or bytes 2 0) ≡ true → IsWellFormedSequence bytes
+sequence-three [] long = absurd (omega arith)
+sequence-three (a ∷ []) long = absurd (omega arith)
+sequence-three (a ∷ b ∷ []) long = absurd (omega arith)
+sequence-three (a ∷ b ∷ c ∷ []) long = λ leads third.
     let t = allows-true continuation c third in
-    (omega arith, sequence_of_bounds (a ∷ b ∷ c ∷ []) (leads.0, leads.1, leads.2, leads.3, leads.4, leads.5, t.0, t.1))
+    sequence_of_bounds (a ∷ b ∷ c ∷ []) (leads.0, leads.1, leads.2, leads.3, leads.4, leads.5, t.0, t.1)
+sequence-three (a ∷ b ∷ c ∷ d ∷ bs) long = absurd (omega arith)
 
-pub BeginsWithSequence-four : (bytes : List ℕ) → 3 < length bytes → LeadsFour (get_or bytes 0 0) (get_or bytes 1 0) → allows continuation (get_or bytes 2 0) ≡ true
-    → allows continuation (get_or bytes 3 0) ≡ true → BeginsWithSequence bytes 4
-BeginsWithSequence-four [] more = absurd (omega arith)
-BeginsWithSequence-four (a ∷ []) more = absurd (omega arith)
-BeginsWithSequence-four (a ∷ b ∷ []) more = absurd (omega arith)
-BeginsWithSequence-four (a ∷ b ∷ c ∷ []) more = absurd (omega arith)
-BeginsWithSequence-four (a ∷ b ∷ c ∷ e ∷ bs) more = λ leads third fourth.
+pub sequence-four : (bytes : List ℕ) → length bytes ≡ 4 → LeadsFour (get_or bytes 0 0) (get_or bytes 1 0) → allows continuation (get_or bytes 2 0) ≡ true
+    → allows continuation (get_or bytes 3 0) ≡ true → IsWellFormedSequence bytes
+sequence-four [] long = absurd (omega arith)
+sequence-four (a ∷ []) long = absurd (omega arith)
+sequence-four (a ∷ b ∷ []) long = absurd (omega arith)
+sequence-four (a ∷ b ∷ c ∷ []) long = absurd (omega arith)
+sequence-four (a ∷ b ∷ c ∷ d ∷ []) long = λ leads third fourth.
     let t = allows-true continuation c third in
-    let f = allows-true continuation e fourth in
-    (omega arith, sequence_of_bounds (a ∷ b ∷ c ∷ e ∷ []) (leads.0, leads.1, leads.2, leads.3, leads.4, leads.5, t.0, t.1, f.0, f.1))
+    let f = allows-true continuation d fourth in
+    sequence_of_bounds (a ∷ b ∷ c ∷ d ∷ []) (leads.0, leads.1, leads.2, leads.3, leads.4, leads.5, t.0, t.1, f.0, f.1)
+sequence-four (a ∷ b ∷ c ∷ d ∷ e ∷ bs) long = absurd (omega arith)
 
--- the step in front of bytes that begin with a sequence
-pub first-begins : (bytes : List ℕ) (n : ℕ) → BeginsWithSequence bytes n → read (scalar_value (take n bytes)) n ≡ first_of_utf8 bytes
-first-begins bytes n s =
-    ap (λ k. read (scalar_value (take n bytes)) k) (sym (length-take-le n bytes s.0))
-    ∙ sym (first-sequence (take n bytes) (drop n bytes) (bounds_of_sequence (take n bytes) s.1))
-    ∙ ap first_of_utf8 (take-append-drop n bytes)
+-- ---- a sequence in front
+
+-- the first bytes are it
+pub IsFirstSequence-take : (bytes : List ℕ) (n : ℕ) → n ≤ length bytes → IsWellFormedSequence (take n bytes) → IsFirstSequence bytes (take n bytes)
+IsFirstSequence-take bytes n within s = (ap (λ k. take k bytes) (sym (length-take-le n bytes within)), s)
+
+-- the step there is that of its character
+pub first-begins : (bytes sequence : List ℕ) → IsFirstSequence bytes sequence → read (scalar_value sequence) (length sequence) ≡ first_of_utf8 bytes
+first-begins bytes sequence s =
+    sym (first-sequence sequence (drop (length sequence) bytes) (bounds_of_sequence sequence s.1))
+    ∙ ap first_of_utf8 (ap (λ l. l ++ drop (length sequence) bytes) s.0 ∙ take-append-drop (length sequence) bytes)
+
+-- it has the byte of its value
+pub PassesBy-begins : (bytes text sequence : List ℕ) (byte : ℕ) → IsFirstSequence text sequence → byte ≡ byte_of bytes (scalar_value sequence)
+    → PassesBy bytes (first_of_utf8 text) byte (length sequence)
+PassesBy-begins bytes text sequence byte s is =
+    subst (λ t. PassesBy bytes t byte (length sequence)) (first-begins text sequence s) (λ _. (refl, refl, sym is))
 
 -- ---- beginnings of a sequence
 

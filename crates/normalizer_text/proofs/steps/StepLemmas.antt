@@ -3,7 +3,7 @@ use Rattle.std.proofs.Common.{◌≡◌, subst, ℕ, zero, suc, ◌+◌, ◌-◌
 use Rattle.std.specs.Prelude.{◌↔◌, All}
 use Rattle.std.specs.Char.{IsScalar}
 use Rattle.std.proofs.lemmas.List.{drop-drop, drop-take, drop-append-le, map-append}
-use Rattle.std.proofs.lemmas.List.Elements.{All-nil, All-cons, All-head, All-tail, All-same}
+use Rattle.std.proofs.lemmas.List.Elements.{All-nil, All-cons, All-head, All-map, All-tail, All-same}
 use Rattle.normalizer_text.specs.declared.decoding_step.Step.{Step}
 use Rattle.normalizer_text.specs.DecodingSteps.{steps_past, steps, decoded_text, Decodes, IsWellFormed, width_of, TakesFirst, Spells}
 use Rattle.normalizer_text.specs.Encodings.{Encoding, first_in}
@@ -85,16 +85,19 @@ module _ (e : Encoding) where
   decoded_from_Decodes Decodes.nothing = sym decoded-nil
   decoded_from_Decodes (Decodes.step u us x h) = ap (λ y. (first (u ∷ us)).character ∷ y) (decoded_from_Decodes h) ∙ sym (decoded-some (u ∷ us) (omega arith))
 
-  -- ---- each decoded character is a scalar value
+  -- ---- what holds of each first step
+
+  pub All-steps : (P : Step → Type 0) → ((us : List ℕ) → P (first us)) → (us : List ℕ) → All P (steps first us)
+  All-steps P holds us = by (length us) us (omega arith)
+    where
+      by : (n : ℕ) (us : List ℕ) → length us ≤ n → All P (steps first us)
+      by n [] h = All-same P _ _ steps-nil (All-nil P)
+      by zero (u ∷ us) h = absurd (omega arith)
+      by (suc n) (u ∷ us) h = All-same P _ _ (steps-some (u ∷ us) (omega arith))
+          (All-cons P _ _ (holds (u ∷ us)) (by n (drop (first (u ∷ us)).width (u ∷ us)) (rest-shorter (u ∷ us) n (omega arith) h)))
 
   pub decoded-IsText : (us : List ℕ) → All IsScalar (decoded_text first us)
-  decoded-IsText us = by (length us) us (omega arith)
-    where
-      by : (n : ℕ) (us : List ℕ) → length us ≤ n → All IsScalar (decoded_text first us)
-      by n [] h = All-same IsScalar _ _ decoded-nil (All-nil IsScalar)
-      by zero (u ∷ us) h = absurd (omega arith)
-      by (suc n) (u ∷ us) h = All-same IsScalar _ _ (decoded-some (u ∷ us) (omega arith))
-          (All-cons IsScalar _ _ (d.scalar (u ∷ us) (omega arith)) (by n (drop (first (u ∷ us)).width (u ∷ us)) (rest-shorter (u ∷ us) n (omega arith) h)))
+  decoded-IsText us = All-map IsScalar (λ s. s.character) (steps first us) (All-steps (λ s. IsScalar s.character) d.scalar us)
 
   -- ---- what is well-formed
 

@@ -8,9 +8,9 @@ use Rattle.normalizer_text.specs.MaximalSubparts.{IsWellFormedSequence}
 abbrev pub trail_ranges : Trail → List ByteRange
 trail_ranges t = if t.length == 0 then [] else range t.least t.greatest ∷ replicate (t.length - 1) continuation
 
--- the first n bytes are a well-formed sequence
-abbrev pub BeginsWithSequence : List ℕ → ℕ → Type 0
-BeginsWithSequence bytes n = (n ≤ length bytes) × IsWellFormedSequence (take n bytes)
+-- the bytes begin with a well-formed sequence
+abbrev pub IsFirstSequence : (bytes sequence : List ℕ) → Type 0
+IsFirstSequence bytes sequence = (sequence ≡ take (length sequence) bytes) × IsWellFormedSequence sequence
 
 -- the two bytes begin a well-formed sequence of three
 abbrev pub LeadsThree : ℕ → ℕ → Type 0

@@ -1,4 +1,3 @@
-use Rattle.std.proofs.Common.{lit≤}
 use Rattle.normalizer_text.proofs.scans.ScanLemmas.{All-leading_below, boundary-ascii, boundary-low_units, boundary-low_bytes, text-low_bytes}
 use Rattle.normalizer_text.proofs.laws.step_ends_with_low_units.Goals as goal
 
@@ -14,8 +13,5 @@ returns-clause-units c = boundary-low_units
 pub returns-clause-bytes : goal.returns-clause-bytes
 returns-clause-bytes c = boundary-low_bytes
 
-pub returns-clause-text_below_C0 : goal.returns-clause-text_below_C0
-returns-clause-text_below_C0 c = text-low_bytes 0xC3 (lit≤ tt) (lit≤ tt)
-
-pub returns-clause-text_below_300 : goal.returns-clause-text_below_300
-returns-clause-text_below_300 c = text-low_bytes 0xCC (lit≤ tt) (lit≤ tt)
+pub returns-clause-text : goal.returns-clause-text
+returns-clause-text c = text-low_bytes

@@ -1,8 +1,8 @@
-use Rattle.std.proofs.Common.{◌∙◌, sym, ap}
+use Rattle.std.proofs.Common.{◌∙◌, length, ap}
 use Rattle.normalizer_text.specs.DecodingSteps.{read}
-use Rattle.normalizer_text.proofs.scans.LowLemmas.{first-ascii_byte}
+use Rattle.normalizer_text.proofs.sequences.SubpartLemmas.{first-begins}
 use Rattle.normalizer_text.proofs.utf8.first_step.Goals as goal
 
-pub returns-then-lead-lt128 : goal.returns-then-lead-lt128
-returns-then-lead-lt128 c =
-    c.read.ensures ∙ ap (λ v. read v 1) c.from.ensures ∙ sym (first-ascii_byte c.args.bytes.now c.requires c.if-lead-lt128.true)
+pub returns-in-Some : goal.returns-in-Some
+returns-in-Some c =
+    c.read.ensures ∙ ap (λ v. read v (length c.in-Some.sequence.now)) c.character_of.ensures ∙ first-begins c.args.bytes.now c.in-Some.sequence.now c.in-Some.ensures

@@ -12,13 +12,10 @@ met : (c : In_ok-check) → SuitsComposing (characters_owned c.args.characters f
 met c = let h = c.in_ok-check.ensures.ok.0 refl in rw (c.composing_conditions.ensures, c.new-loaded.ensures, c.of_cap-bounds.ensures, c.cap.ensures, c.as_borrowed-borrowed.ensures) at h
 
 pub invariant_of-decomposing : goal.invariant_of-decomposing
-invariant_of-decomposing c = record { bounded = rw (c.of_cap-bounds.ensures, c.cap.ensures, c.as_borrowed-borrowed.ensures) refl; serves = ServesDecomposing-met _ refl (parts_met _ _ (met c)).0 }
-
-pub classes_over-requires : goal.classes_over-requires
-classes_over-requires c = ServesComposing-met _ _ refl (met (goal.at.classes_over-requires c).In_ok-check)
+invariant_of-decomposing c = record { bounded = rw (c.of_cap-bounds.ensures, c.cap.ensures, c.as_borrowed-borrowed.ensures) refl; serves = ServesDecomposing-met _ refl (parts_met _ _ (met (goal.at.invariant_of-decomposing c).In_ok-check)).0 }
 
 pub invariant_of-result : goal.invariant_of-result
-invariant_of-result c = record { says = c.in-Ok.ensures; serves = ServesComposing-met _ _ refl (met (goal.at.invariant_of-result c).In_ok-check) }
+invariant_of-result c = record { passing = rw c.as_borrowed-held.ensures at c.in-Ok.ensures; serves = ServesComposing-met _ _ refl (met (goal.at.invariant_of-result c).In_ok-check) }
 
 pub returns-clause-ok : goal.returns-clause-ok
 returns-clause-ok c = (refl, met (goal.at.returns-clause-ok c).In_ok-check)

@@ -1,4 +1,4 @@
-use Rattle.std.proofs.Common.{◌≡◌, ◌∙◌, All, List, sym, subst}
+use Rattle.std.proofs.Common.{◌≡◌, All, List, sym, subst}
 use Rattle.std.proofs.lemmas.Result.{IfOk-weaker}
 use Rattle.normalizer_tables.specs.Characters.{Characters}
 use Rattle.normalizer_tables.specs.Ignored.{ignored_list}
@@ -15,4 +15,4 @@ results_by s t pairs others same same_pairs h =
 pub returns-clause-results : goal.returns-clause-results
 unfolding HasOrderedLists
 returns-clause-results g c =
-    IfOk-weaker c.composed.result _ _ (λ it kept. results_by _ _ _ _ (kept.0 ∙ c.copied-characters.ensures) kept.1 c.args.self.now.form.serves.results) c.composed.ensures.kept
+    IfOk-weaker c.items.result _ _ (λ it kept. results_by _ _ _ _ kept.0 kept.1 c.args.self.now.form.serves.results) c.items.ensures.kept

@@ -1,0 +1,3 @@
+pub mod BlockLemmas
+pub mod ByteLemmas
+pub mod UnitLemmas

@@ -1,0 +1,3 @@
+pub mod LowBounds
+pub mod PassBytes
+pub mod inner

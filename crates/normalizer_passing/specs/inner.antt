@@ -1,0 +1,2 @@
+-- What the contracts of private functions alone cite.
+pub mod Kept

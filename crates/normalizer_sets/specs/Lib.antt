@@ -1,2 +1,0 @@
-pub mod CharacterSets
-pub mod inner

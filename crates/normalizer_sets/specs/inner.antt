@@ -1,2 +1,0 @@
--- What the contracts of private functions alone cite.
-pub mod Bits
