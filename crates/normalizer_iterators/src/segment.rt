@@ -182,6 +182,15 @@ fn push_after_starter(
     ensures succeeds { let d = reading_by characters.now ignored [] in
         item_count waiting.old + length (after_starter d (d.list read.character)) ≤ buffer_limit → IsOk result }
 {
+    // Most characters are their own lists.
+    match read.class_of_itself(characters) {
+        Some(0) => return Ok(Some(read.character)),
+        Some(class) => {
+            waiting.push_mark(read.character, class)?;
+            return Ok(None);
+        }
+        None => {}
+    }
     let members = read.members(characters, ignored);
     let Some(first) = members.get(0) else {
         return Ok(None);

@@ -1,5 +1,5 @@
 //! Passing over units in groups, as many at a time as a vector holds.
-ghost use Rattle.std.specs.Prelude.{◌≡◌, ◌+◌, ◌<◌, ◌≤◌, length, drop, take, All, IfSome, IsTrue};
+ghost use Rattle.std.specs.Prelude.{◌≡◌, ◌+◌, ◌<◌, ◌≤◌, length, IfSome};
 ghost use Rattle.normalizer_text.specs.Encodings.{Encoding};
 ghost use Rattle.normalizer_text.specs.Passing.{PassesTo};
 ghost use Rattle.normalizer_text.specs.inner.Groups.{ArePaired};
@@ -18,11 +18,11 @@ const GROUP: usize = 8;
 pub(crate) fn passed_in_groups(units: &[u16], bytes: &PassBytes) -> (usize, u8)
     ensures { PassesTo Encoding.Utf16 bytes.now units.now result.0 result.1 }
 {
-    let low = bytes.low().number;
+    let low = bytes.low();
     let (mut end, mut least) = (0, 1);
     while units.len() - end >= GROUP {
-        if are_below(units, end, low) {
-            (end, least) = (end + GROUP, 1);
+        if let Some(next) = units.end_of_low(end, low) {
+            (end, least) = (next, 1);
             continue;
         }
         let Some(width) = paired_width(units, end) else {
@@ -35,16 +35,6 @@ pub(crate) fn passed_in_groups(units: &[u16], bytes: &PassBytes) -> (usize, u8)
         }
     }
     (end, least)
-}
-
-/// Returns whether the 8 units at a position are all below a bound.
-#[inline(always)]
-fn are_below(units: &[u16], position: usize, bound: u16) -> bool
-    requires { position + GROUP ≤ length units.now }
-    ensures { IsTrue result → All (λ unit. unit < bound) (take GROUP (drop position units.now)) }
-{
-    let group = Simd::<u16, GROUP>::from_slice(&units[position..]);
-    group.simd_ge(Simd::splat(bound)).to_bitmask() == 0
 }
 
 /// Returns how many of the 8 units at a position are whole characters: all of them, or all but a high surrogate at the

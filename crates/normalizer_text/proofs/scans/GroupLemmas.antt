@@ -1,11 +1,9 @@
 -- Passing over a group of 16-bit units, in which surrogates are pairs.
-use Rattle.std.proofs.Common.{◌≡◌, ℕ, zero, suc, ◌+◌, ◌-◌, ◌*◌, ◌<◌, ◌≤◌, ◌⊎◌, inl, inr, true, false, List, [], ◌∷◌, length, length-drop, get_or, take, drop, arith, refl, ap, subst, sym, ◌∙◌, ⊎_elim}
-use Rattle.std.specs.Prelude.{All}
+use Rattle.std.proofs.Common.{◌≡◌, ℕ, suc, ◌+◌, ◌-◌, ◌*◌, ◌<◌, ◌≤◌, ◌⊎◌, inl, inr, true, false, List, [], ◌∷◌, length, length-drop, get_or, drop, arith, refl, ap, subst, sym, ◌∙◌, ⊎_elim}
 use Rattle.std.proofs.Math.Seq.{drop-cons}
 use Rattle.std.proofs.lemmas.Bool.{and_from, and_parts, cases_Bool, cases_lt, leb-true, true≢false}
 use Rattle.std.proofs.lemmas.Bool.Decides.{nat_tests}
 use Rattle.std.proofs.lemmas.List.{get_or-drop}
-use Rattle.std.proofs.lemmas.List.Elements.{All-head, All-same, All-tail}
 use Rattle.normalizer_passing.specs.PassBytes.{byte_of, least_after, IsByteOfUnit}
 use Rattle.normalizer_text.specs.DecodingSteps.{read}
 use Rattle.normalizer_text.specs.Encodings.{Encoding}
@@ -65,36 +63,6 @@ last-no_high (u ∷ v ∷ us) n some right is = cases (λ s. s.is_error ≡ fals
     (λ pair right is. let one : n ≡ 1 = omega arith in ap (λ i. is_high (get_or (u ∷ v ∷ us) i 0)) one ∙ no_high-low v (and_parts _ _ pair).1)
     (λ other. last-unpaired u (v ∷ us) n)
     right is
-
--- ---- units below a bound
-
-module _ (bytes units : List ℕ) (bound : ℕ) (low : bound ≤ 0xD800) (starters : (n : ℕ) → n < bound → byte_of bytes n ≡ 255) where
-  abbrev IsBelow : ℕ → Type 0
-  IsBelow u = u < bound
-
-  below-more : (n end least : ℕ) → PassesTo Encoding.Utf16 bytes units end least → least ≤ 255 → end < length units → All IsBelow (take (suc n) (drop end units))
-      → PassesTo Encoding.Utf16 bytes units (end + 1) 1 × All IsBelow (take n (drop (end + 1) units))
-  below-more n end least passes one_byte inside all =
-      let u = get_or units end 0 in
-      let rest = take n (drop (end + 1) units) in
-      let next : suc end ≡ end + 1 = omega arith in
-      let apart = ap (take (suc n)) (drop-cons units end 0 inside) ∙ ap (λ i. u ∷ take n (drop i units)) next in
-      let both : All IsBelow (u ∷ rest) = All-same IsBelow _ _ (sym apart) all in
-      let below : u < bound = All-head IsBelow u rest both in
-      let first = first-alone units end inside (low-is_single u (omega arith)) in (
-        subst (PassesTo Encoding.Utf16 bytes units (end + 1)) after_starter
-            (PassesTo-more Encoding.Utf16 bytes units end least 255 1 passes inside one_byte
-            (λ _. (ap (λ s. s.is_error) first, ap (λ s. s.width) first, ap (λ s. byte_of bytes s.character) first ∙ starters u below))),
-        All-tail IsBelow u rest both,
-      )
-
-  pub PassesTo-below : (n end least : ℕ) → PassesTo Encoding.Utf16 bytes units end least → least ≤ 255 → end + suc n ≤ length units → All IsBelow (take (suc n) (drop end units))
-      → PassesTo Encoding.Utf16 bytes units (end + suc n) 1
-  PassesTo-below zero end least passes one_byte room all = (below-more 0 end least passes one_byte (omega arith) all).0
-  PassesTo-below (suc n) end least passes one_byte room all =
-      let more = below-more (suc n) end least passes one_byte (omega arith) all in
-      let place : end + 1 + suc n ≡ end + suc (suc n) = omega arith in
-      subst (λ i. PassesTo Encoding.Utf16 bytes units i 1) place (PassesTo-below n (end + 1) 1 more.0 (omega arith) (omega arith) more.1)
 
 -- ---- within a group
 
