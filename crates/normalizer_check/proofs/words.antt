@@ -1,2 +1,3 @@
 -- Words and what they say.
 pub mod FdfaWords
+pub mod DisallowedWords

@@ -1,5 +1,5 @@
 //! The complete check of what was loaded: the first of the written conditions that it breaks.
-ghost use Rattle.std.specs.Prelude.{◌≡◌, ◌↔◌, ◌≤◌, IsTrue, IsOk, IfErr, All};
+ghost use Rattle.std.specs.Prelude.{◌≡◌, ◌↔◌, ◌≤◌, Bool, IsTrue, IsOk, IfErr, All};
 ghost use Rattle.std.specs.Char.{IsScalar};
 ghost use Rattle.std.specs.List.{Contains};
 ghost use Rattle.normalizer_tables.specs.conditions.Conditions.{IsFirstFailing, IsMet, says};
@@ -13,10 +13,11 @@ ghost use Rattle.normalizer_check.specs.inner.Walk.{IsPlaceOfFirstFailing};
 use crate::check::met::{is_met_at, is_met_before};
 use crate::loaded::LoadedData;
 use crate::refusal::refusal_of;
-use normalizer_tables::characters::CODE_POINTS;
+use normalizer_tables::characters::{CODE_POINTS, CharacterData};
 use normalizer_tables::condition::Condition;
 use normalizer_tables::hangul::{N_COUNT, S_BASE, is_hangul_syllable};
 use normalizer_tables::read::read_by_word;
+use normalizer_tables::word::DISALLOWED_WORD;
 use normalizer_tables::{DataError, DataMarkerInfo};
 
 pub mod breaking;
@@ -56,7 +57,7 @@ pub fn first_failing(data: &LoadedData<'_>, conditions: &[Condition]) -> Option<
     while from < CODE_POINTS && asked < failing {
         let (number, word) = data.characters.next_with_word(from);
         failing = asked + first_failing_at(data, &conditions[asked..failing], number, word);
-        from = end_of_equal_words(number, hangul_is_sound);
+        from = end_of_equal_words(&data.characters, number, word, hangul_is_sound);
     }
     conditions.get(failing).copied()
 }
@@ -89,14 +90,39 @@ fn is_asked_of_words(condition: Condition) -> bool
 }
 
 /// The end of the numbers for which it suffices to check this one. If Hangul is sound, that is all syllables after it
-/// with the same leading consonant.
+/// with the same leading consonant; if it is disallowed, all disallowed characters right after it.
 #[tactic(auto, unfolding(normalizer_tables::specs::Hangul::is_hangul_syllable, normalizer_tables::specs::Table::code_points))]
-fn end_of_equal_words(number: u32, hangul_is_sound: bool) -> u32
-    requires { number ≤ code_points }
-    ensures { IsEndOfEqualWords hangul_is_sound number result }
+fn end_of_equal_words(
+    data: &CharacterData<'_>,
+    number: u32,
+    word: u32,
+    hangul_is_sound: bool,
+) -> u32
+    requires place { number ≤ code_points }
+    requires word { word ≡ word_of data.now number }
+    ensures { IsEndOfEqualWords data.now hangul_is_sound number result }
 {
     if hangul_is_sound && is_hangul_syllable(number) {
         S_BASE + ((number - S_BASE) / N_COUNT + 1) * N_COUNT
+    } else if word == DISALLOWED_WORD {
+        end_of_disallowed(data, number)
+    } else {
+        number + 1
+    }
+}
+
+/// The same of a number with the word of a disallowed character. Below U+E000 there are few of them, and U+FFFD doesn't
+/// map to another character.
+#[tactic(auto, unfolding(normalizer_tables::specs::Table::code_points))]
+fn end_of_disallowed(data: &CharacterData<'_>, number: u32) -> u32
+    requires place { number ≤ code_points }
+    requires word { word_of data.now number ≡ 0x4000FFFD }
+    ensures { (hangul_is_sound : Bool) → IsEndOfEqualWords data.now hangul_is_sound number result }
+{
+    if 0xFFFD < number && number < CODE_POINTS {
+        data.end_of_disallowed(number)
+    } else if 0xE000 <= number && number < 0xFFFD {
+        data.end_of_disallowed(number).min(0xFFFD)
     } else {
         number + 1
     }

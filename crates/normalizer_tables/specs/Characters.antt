@@ -12,7 +12,7 @@ use Rattle.normalizer_tables.specs.Table.{word_at, code_points}
 use Rattle.normalizer_tables.specs.Data.{Decompositions, Lists, lists_or_none}
 use Rattle.normalizer_tables.specs.Hangul.{hangul_decomposition}
 use Rattle.normalizer_tables.specs.SpecialLists.{fixed_list_of, fdfa_list}
-use Rattle.normalizer_tables.specs.Words.{read, class_of_word, is_class_form, is_plain}
+use Rattle.normalizer_tables.specs.Words.{read, class_of_word, is_class_form, is_disallowed, is_plain}
 
 -- decomposition data, the tables that their words point into, one after another, and whether they are the mapper's
 pub record Characters : Type 0 where
@@ -108,3 +108,11 @@ pub record IsNextWord (s : Characters) (from n : ℕ) : Type 0 where
   pub within : n ≤ code_points
   pub between : (m : ℕ) → from ≤ m → m < n → is_plain (word_of s m) ≡ true
   pub found : n < code_points → is_plain (word_of s n) ≡ false
+
+-- `end` is the first number from `from` on that hasn't the word of a disallowed character, or the first past the code
+-- points
+pub record IsEndOfDisallowed (s : Characters) (from end : ℕ) : Type 0 where
+  pub least : from ≤ end
+  pub within : end ≤ code_points
+  pub between : (m : ℕ) → from ≤ m → m < end → is_disallowed (word_of s m) ≡ true
+  pub found : end < code_points → is_disallowed (word_of s end) ≡ false

@@ -2,7 +2,6 @@
 use Rattle.std.specs.Prelude.{◌≡◌, ◌≢◌, ℕ, ◌<◌, ◌≤◌, List, Option, Some, None, slice_index_or, bit_and}
 use Rattle.std.specs.Prelude.{◌*◌, map, nat_eq, slice_index}
 use Rattle.std.specs.Cmp.Lexicographic.{pointwise}
-use Rattle.std.specs.Int.{w32, bit_not}
 use Rattle.std.specs.List.{range_with_len}
 use Rattle.std.specs.Set.{distinct_count}
 
@@ -19,19 +18,15 @@ word_at t n = slice_index_or t.words n t.past
 unfoldable pub code_points : ℕ
 code_points = 0x110000
 
--- a word without the bits of `flags`
-unfoldable pub without_flags : ℕ → ℕ → ℕ
-without_flags flags word = bit_and word (bit_not w32 flags)
+-- of the bits of `mask`, the words of the code points from `from` on and below `to` have these
+unfoldable pub HaveBits : Table → ℕ → ℕ → ℕ → ℕ → Type 0
+HaveBits t mask bits from to = (n : ℕ) → from ≤ n → n < to → bit_and (word_at t n) mask ≡ bits
 
--- the code points from `from` on and below `to` have no word but flags
-unfoldable pub HaveNoWord : Table → ℕ → ℕ → ℕ → Type 0
-HaveNoWord t flags from to = (n : ℕ) → from ≤ n → n < to → without_flags flags (word_at t n) ≡ 0
-
--- the least code point from `from` on that has a word besides flags, with its word, or that none has
-unfoldable pub IsNextWithWord : Table → ℕ → ℕ → Option (ℕ × ℕ) → Type 0
-IsNextWithWord t flags from (Some (n, w)) =
-    (from ≤ n) × (n < code_points) × (word_at t n ≡ w) × (without_flags flags w ≢ 0) × HaveNoWord t flags from n
-IsNextWithWord t flags from None = HaveNoWord t flags from code_points
+-- the least code point from `from` on whose word has others, with its word, or that none has others
+unfoldable pub IsNextOther : Table → ℕ → ℕ → ℕ → Option (ℕ × ℕ) → Type 0
+IsNextOther t mask bits from (Some (n, w)) =
+    (from ≤ n) × (n < code_points) × (word_at t n ≡ w) × (bit_and w mask ≢ bits) × HaveBits t mask bits from n
+IsNextOther t mask bits from None = HaveBits t mask bits from code_points
 
 -- the words of 64 code points
 abbrev pub Block : Type 0

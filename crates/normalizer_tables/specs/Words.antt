@@ -10,6 +10,10 @@ use Rattle.normalizer_tables.specs.Hangul.{is_hangul_syllable}
 abbrev pub ignored_marker : ℕ
 ignored_marker = 0xFFFFFFFF
 
+-- the word of a character that the mapper disallows: U+FFFD, with NON_ROUND_TRIP
+unfoldable pub is_disallowed : ℕ → Bool
+is_disallowed w = bit_and w 0xFFFFFFFF == 0x4000FFFD
+
 -- bit 30, NON_ROUND_TRIP: the list doesn't compose to the character alone
 unfoldable pub is_non_round_trip : ℕ → Bool
 is_non_round_trip w = not (bit_and w 0x40000000 == 0)

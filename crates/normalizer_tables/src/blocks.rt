@@ -6,7 +6,7 @@ ghost use Rattle.normalizer_tables.specs.inner.Blocks.{AreFrom, AreLeft, AreNumb
 ghost use Rattle.normalizer_passing.specs.PassBytes.{byte_of};
 ghost use Rattle.normalizer_tables.specs.inner.PassingWords.{byte_without, AreBytesWithout, HasBytesWithout};
 ghost use Rattle.normalizer_tables.specs.Ranges.{word_in, words_of, IsRangeList};
-ghost use Rattle.normalizer_tables.specs.Table.{code_points, IsNextWithWord};
+ghost use Rattle.normalizer_tables.specs.Table.{code_points, IsNextOther};
 
 use crate::characters::CODE_POINTS;
 use crate::word::{is_ordinary_class_form, low_byte};
@@ -84,10 +84,9 @@ impl Blocks {
         self.blocks.len()
     }
 
-    /// The least code point from a number on whose word, without the bits of `flags`, isn't 0, and its word.
-    #[tactic(auto, unfolding(crate::specs::Table::without_flags))]
-    pub(crate) fn next_with_word(&self, from: u32, flags: u32) -> Option<(u32, u32)>
-        ensures { (above : ℕ) → IsNextWithWord (record { words = self.now; past = above }) flags from result }
+    /// The least code point from a number on whose word has other bits of the mask than these, and its word.
+    pub(crate) fn next_other(&self, from: u32, mask: u32, bits: u32) -> Option<(u32, u32)>
+        ensures { (above : ℕ) → IsNextOther (record { words = self.now; past = above }) mask bits from result }
     {
         let mut passed = None;
         for place in from / BLOCK..PLACES {
@@ -99,7 +98,7 @@ impl Blocks {
             let block = &self.blocks[number as usize];
             for offset in from.saturating_sub(start)..BLOCK {
                 let word = block[offset as usize];
-                if word & !flags != 0 {
+                if word & mask != bits {
                     return Some((start + offset, word));
                 }
             }

@@ -25,7 +25,7 @@ ghost use Rattle.normalizer_tables.specs.Purposes.{is_mapping};
 ghost use Rattle.normalizer_tables.specs.Ranges.{IsComplete};
 ghost use Rattle.normalizer_tables.specs.Table.{code_points};
 ghost use Rattle.normalizer_tables.specs.Passthrough.{IsPassthroughBelow, IsPassthrough};
-ghost use Rattle.normalizer_tables.specs.Characters.{IsNextWord};
+ghost use Rattle.normalizer_tables.specs.Characters.{IsEndOfDisallowed, IsNextWord};
 ghost use Rattle.normalizer_tables.specs.Readings.{reading_by};
 
 use crate::hangul::{decompose_hangul, is_hangul_syllable};
@@ -35,7 +35,9 @@ use crate::provider::{DecompositionData, DecompositionTables};
 use crate::scalars::Scalars16;
 use crate::short_list::ShortList;
 use crate::special::fixed_list_of;
-use crate::word::{FLAGS, HANGUL_WORD, WordReading, class_of_word, is_class_form, is_plain, read};
+use crate::word::{
+    DISALLOWED_WORD, FLAGS, HANGUL_WORD, WordReading, class_of_word, is_class_form, is_plain, read,
+};
 use normalizer_passing::PassBytes;
 use std::alloc::{AllocError, Global};
 use std::marker::Model;
@@ -188,9 +190,25 @@ impl<'a> CharacterData<'a> {
         ensures word { result.1 ≡ word_of self.now result.0 }
     {
         let decompositions = self.parts.decompositions;
-        match decompositions.table.next_with_word(from, FLAGS) {
+        match decompositions.table.next_other(from, !FLAGS, 0) {
             Some(next) => next,
             None => (CODE_POINTS, self.word_of_number(CODE_POINTS)),
+        }
+    }
+
+    /// Returns the first number from this one on that hasn't the word of a disallowed character, or the first past the
+    /// code points.
+    pub fn end_of_disallowed(&self, from: u32) -> u32
+        requires { from ≤ code_points }
+        ensures { IsEndOfDisallowed self.now from result }
+    {
+        let decompositions = self.parts.decompositions;
+        match decompositions
+            .table
+            .next_other(from, u32::MAX, DISALLOWED_WORD)
+        {
+            Some((next, _)) => next,
+            None => CODE_POINTS,
         }
     }
 

@@ -7,7 +7,7 @@ ghost use Rattle.normalizer_tables.specs.Table.{block_count};
 ghost use Rattle.normalizer_tables.specs.Ranges.{IsComplete, IsRangeList, IsTableOf};
 ghost use Rattle.normalizer_tables.specs.inner.Blocks.{is_range};
 ghost use Rattle.std.specs.List.{list_all};
-ghost use Rattle.normalizer_tables.specs.Table.{word_at, code_points, IsNextWithWord};
+ghost use Rattle.normalizer_tables.specs.Table.{word_at, code_points, IsNextOther};
 
 use crate::blocks::Blocks;
 use crate::characters::CODE_POINTS;
@@ -145,11 +145,11 @@ impl CodePointTable {
         let _ = &self.words;
     }
 
-    /// The least code point from `from` on whose word has bits other than those of `flags`, and its word.
-    pub(crate) fn next_with_word(&self, from: u32, flags: u32) -> Option<(u32, u32)>
-        ensures { IsNextWithWord self.now flags from result }
+    /// The least code point from `from` on whose word has other bits of the mask than these, and its word.
+    pub(crate) fn next_other(&self, from: u32, mask: u32, bits: u32) -> Option<(u32, u32)>
+        ensures { IsNextOther self.now mask bits from result }
     {
-        self.words.next_with_word(from, flags)
+        self.words.next_other(from, mask, bits)
     }
 }
 

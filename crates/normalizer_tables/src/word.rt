@@ -22,6 +22,9 @@ pub const IGNORED_MARKER: u32 = 0xFFFF_FFFF;
 /// The word of a surrogate, with its flags.
 pub const SURROGATE_WORD: u32 = 0xC000_FFFD;
 
+/// The word of a character that the mapper disallows: U+FFFD, with NON_ROUND_TRIP.
+pub const DISALLOWED_WORD: u32 = 0x4000_FFFD;
+
 /// The word of a Hangul syllable.
 pub const HANGUL_WORD: u32 = 1;
 

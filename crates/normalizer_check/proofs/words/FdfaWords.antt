@@ -17,9 +17,9 @@ use Rattle.normalizer_tables.specs.conditions.CharacterConditions.{is_surrogate}
 use Rattle.normalizer_tables.proofs.conditions.ConditionLemmas.{no_scalar}
 use Rattle.normalizer_tables.proofs.code_points.Tables.{word_at-past}
 
--- a mask within the bits beside the flags sees what it sees of the word without flags
-masked : (w m : ℕ) → bit_and 0x3FFFFFFF m ≡ m → bit_and w m ≡ bit_and (bit_and w 0x3FFFFFFF) m
-masked w m within = sym (ap (bit_and w) within) ∙ sym (and_assoc m w 0x3FFFFFFF)
+-- a mask within others sees what it sees of the bits of those
+pub masked : (w all m : ℕ) → bit_and all m ≡ m → bit_and w m ≡ bit_and (bit_and w all) m
+masked w all m within = sym (ap (bit_and w) within) ∙ sym (and_assoc m w all)
 
 -- flags aside, such a word is 1
 read-fdfa : (c w : ℕ) (is_mapper : Bool) → read c w is_mapper ≡ Fdfa → (is_hangul_syllable c ≡ false) × (bit_and w 0x3FFFFFFF ≡ 1)
@@ -36,9 +36,9 @@ read-fdfa c w is_mapper e = (
 read-one : (c w : ℕ) (is_mapper : Bool) → is_hangul_syllable c ≡ false → bit_and w 0x3FFFFFFF ≡ 1 → read c w is_mapper ≡ Fdfa
 unfolding read read_low is_plain is_ordinary_class_form is_special_class_form has_high_zeros
 read-one c w is_mapper other one =
-    let forms : bit_and w 0x3FFFFF00 ≡ bit_and (bit_and w 0x3FFFFFFF) 0x3FFFFF00 = masked w 0x3FFFFF00 refl in
-    let high : bit_and w 0x3FFF0000 ≡ bit_and (bit_and w 0x3FFFFFFF) 0x3FFF0000 = masked w 0x3FFF0000 refl in
-    let low : bit_and w 0xFFFF ≡ bit_and (bit_and w 0x3FFFFFFF) 0xFFFF = masked w 0xFFFF refl in
+    let forms : bit_and w 0x3FFFFF00 ≡ bit_and (bit_and w 0x3FFFFFFF) 0x3FFFFF00 = masked w 0x3FFFFFFF 0x3FFFFF00 refl in
+    let high : bit_and w 0x3FFF0000 ≡ bit_and (bit_and w 0x3FFFFFFF) 0x3FFF0000 = masked w 0x3FFFFFFF 0x3FFF0000 refl in
+    let low : bit_and w 0xFFFF ≡ bit_and (bit_and w 0x3FFFFFFF) 0xFFFF = masked w 0x3FFFFFFF 0xFFFF refl in
     grind arith
 
 -- the word of a Hangul syllable never has the form

@@ -1,5 +1,6 @@
 -- How the check goes over the numbers, from one word that isn't 0 to the next, and what it checks of all others before.
-use Rattle.std.specs.Prelude.{◌≡◌, ℕ, ◌+◌, ◌-◌, ◌/◌, ◌<◌, ◌≤◌, nat_le, Bool, true, false, List, Some, length, slice_get}
+use Rattle.std.specs.Prelude.{◌≡◌, ◌≢◌, ◌⊎◌, ℕ, ◌+◌, ◌-◌, ◌/◌, ◌<◌, ◌≤◌, nat_le, Bool, true, false, List, Some}
+use Rattle.std.specs.Prelude.{length, slice_get}
 use Rattle.std.specs.List.{AllWithin}
 use Rattle.std.specs.Char.{IsScalar}
 use Rattle.normalizer_tables.specs.declared.condition.Bounds.{Bounds}
@@ -12,7 +13,7 @@ use Rattle.normalizer_tables.specs.conditions.Loaded.{Loaded}
 use Rattle.normalizer_tables.specs.conditions.PairConditions.{KeepsBoundary}
 use Rattle.normalizer_tables.specs.Pairs.{Pair}
 use Rattle.normalizer_tables.specs.Table.{code_points}
-use Rattle.normalizer_tables.specs.Words.{is_plain}
+use Rattle.normalizer_tables.specs.Words.{is_disallowed, is_plain}
 
 -- two syllables, the second not before the first, with the same leading consonant
 pub record IsSyllableAfter (m n : ℕ) : Type 0 where
@@ -21,11 +22,18 @@ pub record IsSyllableAfter (m n : ℕ) : Type 0 where
   pub behind : m ≤ n
   pub leading : (m - s_base) / n_count ≡ (n - s_base) / n_count
 
--- the numbers after n and before `end`, of which there are some only if Hangul is sound, are syllables after it
-pub record IsEndOfEqualWords (hangul_is_sound : Bool) (n end : ℕ) : Type 0 where
+-- a character that has the word of a disallowed one, and so maps to another
+pub record IsDisallowed (s : Characters) (n : ℕ) : Type 0 where
+  pub character : IsScalar n
+  pub other : (is_hangul_syllable n ≡ false) × (n ≢ 0xFFFD)
+  pub word : is_disallowed (word_of s n) ≡ true
+
+-- the numbers after n and before `end` are syllables after it, and then Hangul is sound, or disallowed as it is
+pub record IsEndOfEqualWords (s : Characters) (hangul_is_sound : Bool) (n end : ℕ) : Type 0 where
   pub above : n < end
   pub within : n ≤ code_points → end ≤ code_points + 1
-  pub alike : (m : ℕ) → n < m → m < end → (hangul_is_sound ≡ true) × IsSyllableAfter n m
+  pub alike : (m : ℕ) → n < m → m < end
+      → ((hangul_is_sound ≡ true) × IsSyllableAfter n m) ⊎ (IsDisallowed s n × IsDisallowed s m)
 
 -- a character has another word than 0, or nothing composes across its beginning if a composing loop relies on it
 unfoldable pub KeepsPlainBoundary : Characters → Bounds → List Pair → ℕ → Type 0

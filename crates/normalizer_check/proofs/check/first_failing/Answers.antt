@@ -1,6 +1,7 @@
 use Rattle.std.proofs.Common.{◌+◌, ◌∙◌, subst, arith}
 use Rattle.normalizer_tables.specs.Characters.{IsNextWord}
 use Rattle.normalizer_tables.specs.Table.{code_points}
+use Rattle.normalizer_check.specs.inner.Walk.{IsEndOfEqualWords}
 use Rattle.normalizer_check.proofs.conditions.FirstFailing.{FailsFirst-all, copied_slice_get, FailsFirst-step, FirstFailing-asked, has_sound_hangul, unasked}
 use Rattle.normalizer_check.proofs.conditions.EachCondition.{of_each-unasked}
 use Rattle.normalizer_check.proofs.conditions.LoadedLemmas.{IsMet-parts}
@@ -26,15 +27,16 @@ unfolding code_points
 loop-from-preserved c =
     let front = c.first_failing_before-failing.ensures in
     let next = subst (λ d. IsNextWord d.characters c.loop-from.from c.next_with_word-number.result.0) c.data.view_is c.next_with_word-number.ensures.next in
+    let end = subst (λ d. IsEndOfEqualWords d.characters c.asks_hangul-hangul_is_sound.result c.next_with_word-number.result.0 c.end_of_equal_words-from.result) c.data.view_is c.end_of_equal_words-from.ensures in
     record {
-      within = c.end_of_equal_words-from.ensures.within next.within;
+      within = end.within next.within;
       first =
           FailsFirst-step c.args.data.now c.args.conditions.now c.loop-from.from c.next_with_word-number.result.0 c.end_of_equal_words-from.result c.loop-from.failing
           (c.first_asked_of_words-asked.result + c.first_failing_at.result)
           c.loop-from.invariant.first
           (of_each-answered c.args.data.now c.asks_hangul-hangul_is_sound.result
           (λ asked. has_sound_hangul c.args.data.now c.args.conditions.now c.first_failing_before-failing.result front (c.asks_hangul-hangul_is_sound.ensures.0 asked)) c.loop-from.from
-          c.next_with_word-number.result.0 c.end_of_equal_words-from.result next c.end_of_equal_words-from.ensures)
+          c.next_with_word-number.result.0 c.end_of_equal_words-from.result next end)
           (FirstFailing-asked _ c.args.conditions.now c.first_asked_of_words-asked.result c.loop-from.failing c.first_failing_at.result (omega arith) c.loop-from.invariant.first.within
           (λ k none is. of_each-unasked c.args.data.now k none c.next_with_word-number.result.0) c.first_asked_of_words-asked.ensures c.first_failing_at.ensures);
     }
