@@ -28,7 +28,10 @@ Ill-formed bytes are in no form, a mismatch, where U+FFFD is found, and a place 
 
 `map` maps by Unicode Technical Standard #46 and normalizes to NFC: ignored characters are dropped, disallowed ones
 become U+FFFD. Mapped text is valid only if `validate` leaves it unchanged. A `LookupError` says that the data have no
-mapper, as those of the package: a `Normalizer` of files with IdnaMappingTable.txt has one.
+mapper, as a `Normalizer` of files without IdnaMappingTable.txt.
+
+>>> icu_normalizer.map("B\u00fccher.DE")
+'bücher.de'
 
 The functions use the data of the package, of the version of Unicode `unidata_version`. `Normalizer` uses those of other
 files. Each may be called in any thread, but not in a forked child of a process with threads. While a text of 65536

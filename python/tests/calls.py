@@ -244,6 +244,8 @@ def other_data():
             with open(f"{folder}/{name}", "w") as file:
                 file.write(content)
         small = icu_normalizer.Normalizer(pathlib.Path(folder))
+        for call in (small.map, small.validate):
+            refused(LookupError, "the data have no mapper", call, "a")
         for form in FORMS:
             assert small.normalize(form, "xA") == "xB" and small.normalize(form, 70000 * "A") == 70000 * "B"
             assert not small.is_normalized(form, "A") and icu_normalizer.normalize(form, "xA") == "xA"
@@ -260,8 +262,8 @@ def mapping():
                 assert call(text + "\uD83D\uDE00") == call(text) + "\uFFFD\uFFFD"
             assert call(b"A\xFF", errors="replace") == call("A\uFFFD").encode()
             refused(UnicodeDecodeError, "position 1", call, b"A\xFF")
-    for call in (icu_normalizer.map, icu_normalizer.validate):
-        refused(LookupError, "the data have no mapper", call, "a")
+    assert icu_normalizer.map("Fa\xDF.DE\u3002") == "fa\xDF.de." == icu_normalizer.validate("fa\xDF.de.")
+    assert icu_normalizer.map("\uE000") == "\uFFFD" != icu_normalizer.map("\xAD") == ""
     for limit, form in ((0, "\x80"), (1, "\uFFFD"), (2**32 - 1, "\uFFFD")):
         assert icu_normalizer.Normalizer(SMALL, limit).map("\x80") == form
 
