@@ -1,8 +1,11 @@
-//! Handles of the library, each used by one call at a time.
-use crate::ffi::{self, Handle, Maps, Reports, Writes};
+//! Handles of the library, each used by one call at a time. No code of a caller of this crate runs during a call.
+use crate::error::Error;
+use crate::ffi::{self, Handle, Maps, Reports};
+use crate::unit::Unit;
 use std::alloc::{handle_alloc_error, Layout};
-use std::cell::RefCell;
+use std::cell::Cell;
 use std::fmt;
+use std::mem::size_of;
 use std::sync::{Mutex, OnceLock, PoisonError};
 
 /// The bytes of a file of the data of this crate.
@@ -12,142 +15,35 @@ macro_rules! own_file {
     };
 }
 
-/// The first place where a text differs from its form.
+/// A form, with its number in the library.
 #[derive(Clone, Copy, Debug, PartialEq, Eq)]
-pub struct Mismatch {
-    /// How many bytes come before it.
-    pub offset: usize,
-    /// The character found there.
-    pub found: char,
-    /// The character that the form has there.
-    pub expected: char,
-}
-
-impl Mismatch {
-    pub(crate) fn of(told: ffi::Mismatch) -> Option<Mismatch> {
-        let character = |code| char::from_u32(code).unwrap_or(char::REPLACEMENT_CHARACTER);
-        told.exists.then(|| Mismatch {
-            offset: told.offset,
-            found: character(told.found),
-            expected: character(told.expected),
-        })
-    }
-}
-
-/// What is wrong with data.
-#[derive(Clone, Copy, Debug, PartialEq, Eq)]
-pub enum Error {
-    /// A line of a file is wrong. The header of the library names the reasons.
-    Line {
-        /// The file.
-        file: &'static str,
-        /// The line, from 1.
-        line: usize,
-        /// The number of the reason.
-        reason: u32,
-    },
-    /// The lines, together, can't be built into tables.
-    Records {
-        /// The line that states the first record at fault, if one does.
-        line: Option<(&'static str, usize)>,
-        /// The character of that record, if there is one.
-        character: Option<char>,
-        /// The number of the reason.
-        reason: u32,
-        /// The written condition that the tables break, or 0.
-        condition: u32,
-    },
-    /// A file of prepared data is wrong.
-    Prepared {
-        /// How many bytes come before the first fault.
-        offset: usize,
-        /// The number of the reason.
-        reason: u32,
-        /// The written condition that its data break, or 0.
-        condition: u32,
-    },
-}
-
-impl fmt::Display for Error {
-    fn fmt(&self, f: &mut fmt::Formatter<'_>) -> fmt::Result {
-        match self {
-            Error::Line { file, line, reason } => write!(f, "{file}:{line}: the line is wrong, by reason {reason}"),
-            Error::Records {
-                line,
-                character,
-                reason,
-                condition,
-            } => {
-                if let Some((file, line)) = line {
-                    write!(f, "{file}:{line}: ")?;
-                }
-                if let Some(character) = character {
-                    write!(f, "U+{:04X}: ", *character as u32)?;
-                }
-                write!(
-                    f,
-                    "the records can't be built into tables, by reason {reason}, condition {condition}"
-                )
-            }
-            Error::Prepared {
-                offset,
-                reason,
-                condition,
-            } => {
-                write!(
-                    f,
-                    "byte {offset}: the file is wrong, by reason {reason}, condition {condition}"
-                )
-            }
-        }
-    }
-}
-
-impl std::error::Error for Error {}
-
-const FILES: [&str; 3] = ["UnicodeData.txt", "CompositionExclusions.txt", "IdnaMappingTable.txt"];
-
-impl Error {
-    /// What is wrong, if it isn't memory.
-    fn of(status: u32, defect: ffi::Defect) -> Option<Error> {
-        let (reason, condition) = (defect.reason, defect.condition);
-        let file = FILES.get(defect.source as usize).copied();
-        match status {
-            ffi::WRONG_LINE => Some(Error::Line {
-                file: file.unwrap_or(""),
-                line: defect.place,
-                reason,
-            }),
-            ffi::WRONG_RECORDS => {
-                let line = file.map(|file| (file, defect.place));
-                Some(Error::Records {
-                    line,
-                    character: char::from_u32(defect.character),
-                    reason,
-                    condition,
-                })
-            }
-            ffi::WRONG_PREPARED => Some(Error::Prepared {
-                offset: defect.place,
-                reason,
-                condition,
-            }),
-            _ => None,
-        }
-    }
+#[repr(u32)]
+pub(crate) enum Form {
+    Nfd = 0,
+    Nfc = 1,
+    Nfkd = 2,
+    Nfkc = 3,
 }
 
 fn out_of_memory(room: usize) -> ! {
     handle_alloc_error(Layout::from_size_align(room.max(1), 1).unwrap_or(Layout::new::<u8>()))
 }
 
-/// A handle that is open. It may go to another thread: its data are counted atomically.
+/// A handle that is open.
 pub(crate) struct OpenHandle(Handle);
 
+// Safety: a handle may go to another thread. Its data are counted atomically.
 unsafe impl Send for OpenHandle {}
+
+impl fmt::Debug for OpenHandle {
+    fn fmt(&self, f: &mut fmt::Formatter<'_>) -> fmt::Result {
+        f.debug_struct("OpenHandle").finish_non_exhaustive()
+    }
+}
 
 impl Drop for OpenHandle {
     fn drop(&mut self) {
+        // Safety: the handle began as a closed one, and only the library changes it.
         unsafe { ffi::icu_normalizer_close(&mut self.0) }
     }
 }
@@ -156,6 +52,7 @@ impl OpenHandle {
     fn open(unicode_data: &[u8], exclusions: &[u8], idna_table: &[u8], limit: u32) -> Result<OpenHandle, Error> {
         let mut open = OpenHandle(Handle::CLOSED);
         let mut defect = ffi::Defect::default();
+        // Safety: each pointer with its length is a slice, and nothing overlaps the handle or the defect.
         let status = unsafe {
             ffi::icu_normalizer_open_files(
                 &mut open.0,
@@ -175,6 +72,7 @@ impl OpenHandle {
     fn open_prepared(prepared: &[u8]) -> Result<OpenHandle, Error> {
         let mut open = OpenHandle(Handle::CLOSED);
         let mut defect = ffi::Defect::default();
+        // Safety: as for `open`.
         let status =
             unsafe { ffi::icu_normalizer_open_prepared(&mut open.0, prepared.as_ptr(), prepared.len(), &mut defect) };
         open.unless(status, defect, prepared.len())
@@ -189,88 +87,87 @@ impl OpenHandle {
 
     fn shared(&mut self) -> OpenHandle {
         let mut open = OpenHandle(Handle::CLOSED);
+        // Safety: these are two handles.
         match unsafe { ffi::icu_normalizer_share(&mut self.0, &mut open.0) } {
             ffi::OK => open,
-            _ => out_of_memory(std::mem::size_of::<usize>()),
+            _ => out_of_memory(size_of::<usize>()),
         }
     }
 
-    pub(crate) fn reported<U, R: Default>(&mut self, call: Reports<U, R>, form: u32, units: &[U]) -> R {
-        let mut told = R::default();
-        match unsafe { call(&mut self.0, form, units.as_ptr(), units.len(), &mut told) } {
-            ffi::OK => told,
-            _ => out_of_memory(units.len()),
+    /// What a call reports.
+    fn report<R: Default>(&mut self, call: impl FnOnce(*mut Handle, &mut R) -> u32) -> R {
+        let mut reported = R::default();
+        match call(&mut self.0, &mut reported) {
+            ffi::OK => reported,
+            ffi::OUT_OF_MEMORY => out_of_memory(size_of::<R>()),
+            status => unreachable!("status {status}"),
         }
     }
 
-    /// The form of UTF-8, or `None` if that is well-formed and normalized.
-    pub(crate) fn form_of_utf8(&mut self, form: u32, bytes: &[u8]) -> Option<String> {
-        let cut = self.reported(ffi::icu_normalizer_split_utf8, form, bytes);
-        let made = self.form_from(ffi::icu_normalizer_normalize_utf8, form, bytes, cut)?;
-        // A form is well-formed, and so is what comes before the cut.
-        Some(unsafe { String::from_utf8_unchecked(made) })
+    /// What a call reports of units.
+    pub(crate) fn reported<U, R: Default>(&mut self, call: Reports<U, R>, form: Form, units: &[U]) -> R {
+        // Safety: the units are a slice, and overlap neither the handle nor what is reported.
+        self.report(|handle, to| unsafe { call(handle, form as u32, units.as_ptr(), units.len(), to) })
     }
 
-    /// The form of UTF-16, or `None` if that is well-formed and normalized.
-    pub(crate) fn form_of_utf16(&mut self, form: u32, units: &[u16]) -> Option<Vec<u16>> {
-        let cut = self.reported(ffi::icu_normalizer_split_utf16, form, units);
-        self.form_from(ffi::icu_normalizer_normalize_utf16, form, units, cut)
+    /// How many of the first units the form begins with, followed by the form of the others.
+    pub(crate) fn cut<U: Unit>(&mut self, form: Form, units: &[U]) -> usize {
+        self.reported(U::SPLIT, form, units)
     }
 
-    fn form_from<U: Copy>(&mut self, call: Writes<U>, form: u32, units: &[U], cut: usize) -> Option<Vec<U>> {
-        let (prefix, rest) = units.split_at(cut);
+    /// The form of units, or `None` if they are well-formed and normalized.
+    pub(crate) fn form_of<U: Unit>(&mut self, form: Form, units: &[U]) -> Option<Vec<U>> {
+        let (normalized, rest) = units.split_at(self.cut(form, units));
         if rest.is_empty() {
             return None;
         }
-        let handle = &mut self.0;
-        let write = |input: *const U, length, output, room, needed| unsafe {
-            call(handle, form, input, length, output, room, needed)
-        };
-        written(write, prefix, rest)
+        let mut made = Vec::with_capacity(units.len() + rest.len() / 8 + 16);
+        made.extend_from_slice(normalized);
+        self.append_form(form, rest, &mut made);
+        Some(made)
     }
 
-    /// What a text is mapped to, or `None` if there is no mapper.
-    pub(crate) fn mapped(&mut self, call: Maps<u8>, text: &str) -> Option<String> {
+    /// Appends the form of units.
+    pub(crate) fn append_form<U: Unit>(&mut self, form: Form, units: &[U], made: &mut Vec<U>) {
         let handle = &mut self.0;
-        let write = |input: *const u8, length, output, room, needed| unsafe {
-            call(handle, input, length, output, room, needed)
-        };
-        written(write, &[], text.as_bytes()).map(|it| unsafe { String::from_utf8_unchecked(it) })
+        append(made, units.len(), |output, room, needed| {
+            // Safety: the units are a slice, and overlap neither the handle nor the room, which isn't part of `made`.
+            unsafe { U::NORMALIZE(handle, form as u32, units.as_ptr(), units.len(), output, room, needed) }
+        });
+    }
+
+    /// Appends what a text is mapped to. Returns whether there is a mapper.
+    pub(crate) fn append_mapped(&mut self, call: Maps<u8>, text: &str, made: &mut Vec<u8>) -> bool {
+        let handle = &mut self.0;
+        append(made, text.len(), |output, room, needed| {
+            // Safety: as for `append_form`.
+            unsafe { call(handle, text.as_ptr(), text.len(), output, room, needed) }
+        })
     }
 }
 
-/// What a call writes after a prefix, or `None` if there is no mapper.
-fn written<U: Copy>(
-    mut call: impl FnMut(*const U, usize, *mut U, usize, *mut usize) -> u32,
-    prefix: &[U],
-    rest: &[U],
-) -> Option<Vec<U>> {
-    let mut made = Vec::with_capacity(prefix.len() + rest.len() + rest.len() / 8 + 16);
-    made.extend_from_slice(prefix);
+/// Appends what a call writes. Returns whether there is a mapper, if the call needs one.
+fn append<U: Copy>(made: &mut Vec<U>, expected: usize, mut call: impl FnMut(*mut U, usize, &mut usize) -> u32) -> bool {
+    made.reserve(expected);
     loop {
         let mut needed = 0;
         let spare = made.spare_capacity_mut();
-        match call(
-            rest.as_ptr(),
-            rest.len(),
-            spare.as_mut_ptr().cast(),
-            spare.len(),
-            &mut needed,
-        ) {
+        match call(spare.as_mut_ptr().cast(), spare.len(), &mut needed) {
             ffi::OK => {
-                // The call wrote so many units.
-                unsafe { made.set_len(prefix.len() + needed) };
-                return Some(made);
+                // Safety: the call wrote so many units after those that were there.
+                unsafe { made.set_len(made.len() + needed) };
+                return true;
             }
             ffi::BUFFER_TOO_SMALL => made.reserve_exact(needed),
-            ffi::NO_MAPPER => return None,
-            ffi::OUT_OF_MEMORY => out_of_memory(rest.len()),
+            ffi::NO_MAPPER => return false,
+            ffi::OUT_OF_MEMORY => out_of_memory(expected),
             status => unreachable!("status {status}"),
         }
     }
 }
 
-/// A handle that several threads may use, one at a time.
+/// A handle that several threads may use, one at a time. A clone shares the data.
+#[derive(Debug)]
 pub(crate) struct SharedHandle(Mutex<OpenHandle>);
 
 impl SharedHandle {
@@ -282,7 +179,7 @@ impl SharedHandle {
         OpenHandle::open_prepared(prepared).map(|open| SharedHandle(Mutex::new(open)))
     }
 
-    pub(crate) fn with<R>(&self, call: impl FnOnce(&mut OpenHandle) -> R) -> R {
+    fn with<R>(&self, call: impl FnOnce(&mut OpenHandle) -> R) -> R {
         call(&mut self.0.lock().unwrap_or_else(PoisonError::into_inner))
     }
 }
@@ -290,6 +187,50 @@ impl SharedHandle {
 impl Clone for SharedHandle {
     fn clone(&self) -> Self {
         SharedHandle(Mutex::new(self.with(OpenHandle::shared)))
+    }
+}
+
+/// The data of this crate, or others.
+#[derive(Clone, Debug)]
+pub(crate) enum Data {
+    Own,
+    Others(SharedHandle),
+}
+
+impl Data {
+    pub(crate) fn prepared(prepared: &[u8]) -> Result<Self, Error> {
+        SharedHandle::open_prepared(prepared).map(Data::Others)
+    }
+
+    pub(crate) fn as_borrowed(&self) -> Borrowed<'_> {
+        match self {
+            Data::Own => Borrowed::Own,
+            Data::Others(shared) => Borrowed::Others(shared),
+        }
+    }
+}
+
+/// The data of this crate, or others that are borrowed.
+#[derive(Clone, Copy, Debug)]
+pub(crate) enum Borrowed<'data> {
+    Own,
+    Others(&'data SharedHandle),
+}
+
+impl Borrowed<'_> {
+    pub(crate) fn to_owned(self) -> Data {
+        match self {
+            Borrowed::Own => Data::Own,
+            Borrowed::Others(shared) => Data::Others(shared.clone()),
+        }
+    }
+
+    /// Calls with a handle over these data.
+    pub(crate) fn with<R>(self, call: impl FnOnce(&mut OpenHandle) -> R) -> R {
+        match self {
+            Borrowed::Own => with_own(call),
+            Borrowed::Others(shared) => shared.with(call),
+        }
     }
 }
 
@@ -306,12 +247,17 @@ fn open_own() -> Result<SharedHandle, Error> {
     )
 }
 
-/// Calls with this thread's handle over the data of this crate.
-pub(crate) fn with_own<R>(call: impl FnOnce(&mut OpenHandle) -> R) -> R {
+/// Calls with a handle over the data of this crate: that of this thread, or at the thread's end a new one.
+fn with_own<R>(call: impl FnOnce(&mut OpenHandle) -> R) -> R {
     static FIRST: OnceLock<SharedHandle> = OnceLock::new();
     thread_local! {
-        static OWN: RefCell<Option<OpenHandle>> = const { RefCell::new(None) };
+        static OWN: Cell<Option<OpenHandle>> = const { Cell::new(None) };
     }
     let first = || FIRST.get_or_init(|| open_own().expect("the data of this crate are right"));
-    OWN.with(|own| call(own.borrow_mut().get_or_insert_with(|| first().with(OpenHandle::shared))))
+    let kept = OWN.try_with(Cell::take).ok().flatten();
+    let mut own = kept.unwrap_or_else(|| first().with(OpenHandle::shared));
+    let result = call(&mut own);
+    // At the thread's end the handle has no place, and is closed.
+    let _ = OWN.try_with(|place| place.set(Some(own)));
+    result
 }

@@ -1,8 +1,11 @@
 //! Calls whose results are known from outside.
 use icu_normalizer_proved::{
-    version, ComposingNormalizerBorrowed, DecomposingNormalizerBorrowed, Mismatch, Normalizers,
+    reason, version, ComposingNormalizer, ComposingNormalizerBorrowed, DecomposingNormalizer,
+    DecomposingNormalizerBorrowed, Error, Mismatch, Normalizers,
 };
 use std::borrow::Cow;
+use std::cell::Cell;
+use std::sync::mpsc;
 use std::thread;
 
 const NFC: ComposingNormalizerBorrowed = ComposingNormalizerBorrowed::new_nfc();
@@ -80,8 +83,71 @@ fn prepared_data() {
 
 #[test]
 fn wrong_data_are_refused() {
-    let error = Normalizers::try_new(b"0041;A\n# EOF\n", b"# EOF\n").err().unwrap();
-    assert!(error.to_string().starts_with("UnicodeData.txt:1: "), "{error}");
+    let error = Normalizers::try_new(b"0041;A\n# EOF\n", b"# EOF\n").unwrap_err();
+    assert_eq!(error.to_string(), "UnicodeData.txt:1: the line has too few fields");
+    let (file, line, reason) = ("UnicodeData.txt", 1, reason::TOO_FEW_FIELDS);
+    assert_eq!(error, Error::Line { file, line, reason });
+    let data = b"0041;;;0;;;;;;;;;;;\n\n0040;;;0;;;;;;;;;;;\n# EOF\n";
+    let error = Normalizers::try_new(data, b"# EOF\n").unwrap_err();
+    assert_eq!(
+        error.to_string(),
+        "UnicodeData.txt:3: the code points don't strictly rise"
+    );
+    let read = |name| read("data/unicode", name);
+    let (unicode_data, exclusions) = (read("UnicodeData.txt"), read("CompositionExclusions.txt"));
+    let table = b"0000..0040 ; valid\n0041 ; mapped ; 0061\n0042..10FFFF ; valid\n";
+    let error = Normalizers::try_new_with_mapper(&unicode_data, &exclusions, table, 0).unwrap_err();
+    let expected = "IdnaMappingTable.txt:3: U+00C0: the data break a written condition, number 8";
+    assert_eq!(error.to_string(), expected);
+}
+
+#[test]
+fn reasons_are_those_of_the_header() {
+    let header = String::from_utf8(read("crates/icu_normalizer_c/include", "icu_normalizer.h")).unwrap();
+    let (_, reasons) = header.split_once("icu_normalizer_reason_text(").unwrap();
+    let (reasons, _) = reasons.split_once("\n}").unwrap();
+    let mut count = 0;
+    for line in reasons.lines().filter_map(|it| it.trim().strip_prefix("case ")) {
+        let (number, text) = line.split_once(": return ").unwrap();
+        // Reason 9 is that of a record, which this crate doesn't pass.
+        if number != "9" {
+            assert_eq!(format!("\"{}\";", reason::text(number.parse().unwrap())), text);
+            count += 1;
+        }
+    }
+    assert_eq!(
+        count,
+        (0..100)
+            .filter(|it| reason::text(*it) != reason::text(u32::MAX))
+            .count()
+    );
+}
+
+#[test]
+fn a_thread_may_normalize_at_its_end() {
+    struct AtTheEnd(mpsc::Sender<String>);
+    impl Drop for AtTheEnd {
+        fn drop(&mut self) {
+            self.0.send(NFC.normalize("u\u{308}").into_owned()).unwrap();
+        }
+    }
+    thread_local! {
+        static LAST: Cell<Option<AtTheEnd>> = const { Cell::new(None) };
+    }
+    let (sender, receiver) = mpsc::channel();
+    for is_first in [false, true] {
+        let last = AtTheEnd(sender.clone());
+        thread::spawn(move || {
+            if is_first {
+                NFC.normalize("u\u{308}");
+            }
+            LAST.with(|it| it.set(Some(last)));
+            NFC.normalize("u\u{308}");
+        })
+        .join()
+        .unwrap();
+        assert_eq!(receiver.recv().unwrap(), "\u{FC}");
+    }
 }
 
 #[test]
@@ -102,4 +168,22 @@ fn threads_share_data() {
             });
         }
     });
+}
+
+#[test]
+fn owned_normalizers() {
+    let data = read("data/unicode", "prepared");
+    let nfc = ComposingNormalizer::try_new_nfc_prepared(&data).unwrap();
+    let nfkc = ComposingNormalizer::try_new_nfkc_prepared(&data).unwrap();
+    let nfd = DecomposingNormalizer::try_new_nfd_prepared(&data).unwrap();
+    let nfkd = DecomposingNormalizer::try_new_nfkd_prepared(&data).unwrap();
+    let own = ComposingNormalizer::new_nfkc().static_to_owned();
+    assert_eq!(nfc.as_borrowed().normalize("o\u{302}\u{FB01}"), "\u{F4}\u{FB01}");
+    assert_eq!(nfkc.as_borrowed().normalize("o\u{302}\u{FB01}"), "\u{F4}fi");
+    assert_eq!(own.clone().as_borrowed().normalize("o\u{302}\u{FB01}"), "\u{F4}fi");
+    assert_eq!(nfd.as_borrowed().normalize("\u{F4}\u{FB01}"), "o\u{302}\u{FB01}");
+    assert_eq!(nfkd.clone().as_borrowed().normalize("\u{F4}\u{FB01}"), "o\u{302}fi");
+    assert_eq!(DecomposingNormalizer::new_nfd().normalize("\u{F4}"), "o\u{302}");
+    assert!(format!("{nfc:?}").starts_with("ComposingNormalizer"));
+    assert!(ComposingNormalizer::try_new_nfc_prepared(b"").is_err());
 }
