@@ -89,6 +89,8 @@ pub enum Error {
         /// The written condition that its data break, or 0.
         condition: u32,
     },
+    /// The data are right, but have no mapper, though one is required.
+    NoMapper,
 }
 
 /// A reason in words, with the number of a condition unless that is 0.
@@ -129,6 +131,7 @@ impl fmt::Display for Error {
                 write!(f, "byte {offset}: ")?;
                 write_reason(f, reason, condition)
             }
+            Error::NoMapper => f.write_str("the data have no mapper"),
         }
     }
 }

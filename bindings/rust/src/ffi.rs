@@ -5,7 +5,7 @@ use std::ffi::c_void;
 pub struct Handle {
     normalizers: *mut c_void,
     is_open: bool,
-    is_in_use: bool,
+    is_in_use: usize,
 }
 
 #[repr(C)]
@@ -104,10 +104,19 @@ extern "C" {
     ) -> u32;
 }
 
+// In place of a character that isn't there, these write 0x110000, which no character has.
+extern "C" {
+    pub fn icu_normalizer_combining_class(handle: *mut Handle, character: u32, combining_class: *mut u8) -> u32;
+    pub fn icu_normalizer_compose(handle: *mut Handle, first: u32, second: u32, composite: *mut u32) -> u32;
+    pub fn icu_normalizer_decompose(handle: *mut Handle, character: u32, first: *mut u32, second: *mut u32) -> u32;
+    pub fn icu_normalizer_has_boundary_before(h: *mut Handle, form: u32, character: u32, has: *mut bool) -> u32;
+    pub fn icu_normalizer_unicode_version(handle: *mut Handle, version: *mut u32) -> u32;
+}
+
 impl Handle {
     pub const CLOSED: Handle = Handle {
         normalizers: std::ptr::null_mut(),
         is_open: false,
-        is_in_use: false,
+        is_in_use: 0,
     };
 }

@@ -110,6 +110,41 @@ impl OpenHandle {
         self.report(|handle, to| unsafe { call(handle, form as u32, units.as_ptr(), units.len(), to) })
     }
 
+    pub(crate) fn combining_class(&mut self, character: char) -> u8 {
+        // Safety: the handle overlaps nothing that is reported.
+        self.report(|handle, to| unsafe { ffi::icu_normalizer_combining_class(handle, character.into(), to) })
+    }
+
+    pub(crate) fn compose(&mut self, first: char, second: char) -> Option<char> {
+        // Safety: as for `combining_class`.
+        let call = |handle, to: &mut _| unsafe { ffi::icu_normalizer_compose(handle, first.into(), second.into(), to) };
+        char::from_u32(self.report(call))
+    }
+
+    /// The one or two characters of a canonical mapping, if there is one.
+    pub(crate) fn decompose(&mut self, character: char) -> (Option<char>, Option<char>) {
+        // Safety: as for `combining_class`.
+        let call = |handle, (first, second): &mut (u32, u32)| unsafe {
+            ffi::icu_normalizer_decompose(handle, character.into(), first, second)
+        };
+        let (first, second) = self.report(call);
+        (char::from_u32(first), char::from_u32(second))
+    }
+
+    /// Whether the form of each text is that of what comes before this character and that of the rest.
+    pub(crate) fn has_boundary_before(&mut self, form: Form, character: char) -> bool {
+        let (call, form) = (ffi::icu_normalizer_has_boundary_before, form as u32);
+        // Safety: as for `combining_class`.
+        self.report(|handle, to| unsafe { call(handle, form, character.into(), to) })
+    }
+
+    pub(crate) fn unicode_version(&mut self) -> [u8; 3] {
+        // Safety: as for `combining_class`.
+        let version = self.report(|handle, to| unsafe { ffi::icu_normalizer_unicode_version(handle, to) });
+        let [_, version @ ..] = u32::to_be_bytes(version);
+        version
+    }
+
     /// How many of the first units the form begins with, followed by the form of the others.
     pub(crate) fn cut<U: Unit>(&mut self, form: Form, units: &[U]) -> usize {
         self.reported(U::SPLIT, form, units)
@@ -134,6 +169,10 @@ impl OpenHandle {
             // Safety: the units are a slice, and overlap neither the handle nor the room, which isn't part of `made`.
             unsafe { U::NORMALIZE(handle, form as u32, units.as_ptr(), units.len(), output, room, needed) }
         });
+    }
+
+    pub(crate) fn has_mapper(&mut self) -> bool {
+        self.append_mapped(ffi::icu_normalizer_map_utf8, "", &mut Vec::new())
     }
 
     /// Appends what a text is mapped to. Returns whether there is a mapper.

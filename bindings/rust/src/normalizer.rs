@@ -2,6 +2,7 @@
 use crate::error::Error;
 use crate::ffi;
 use crate::handle::{Borrowed, Data, Form};
+use crate::iterators::{Composition, Decomposition, Segments};
 use crate::mismatch::Mismatch;
 use crate::sink::{self, Write16};
 use std::borrow::Cow;
@@ -10,7 +11,7 @@ use std::fmt;
 /// Defines an owned and a borrowed normalizer to one of two forms.
 macro_rules! normalizers {
     (
-        $forms:literal: $owned:ident, $borrowed:ident;
+        $forms:literal: $owned:ident, $borrowed:ident, $iterator:ident;
         $canonical:expr, $new:ident, $try_new:ident;
         $compatibility:expr, $new_compatibility:ident, $try_new_compatibility:ident;
     ) => {
@@ -86,6 +87,11 @@ macro_rules! normalizers {
         impl<'data> $borrowed<'data> {
             pub(crate) const fn over(data: Borrowed<'data>, form: Form) -> Self {
                 $borrowed { data, form }
+            }
+
+            /// Returns the characters of the form of a text, lazily.
+            pub fn normalize_iter<I: Iterator<Item = char>>(&self, iter: I) -> $iterator<'data, I> {
+                $iterator(Segments::new(self.data, self.form, iter))
             }
 
             /// Returns the form of a text, borrowed if the text is already normalized.
@@ -187,13 +193,13 @@ macro_rules! normalizers {
 }
 
 normalizers! {
-    "NFC or NFKC": ComposingNormalizer, ComposingNormalizerBorrowed;
+    "NFC or NFKC": ComposingNormalizer, ComposingNormalizerBorrowed, Composition;
     Form::Nfc, new_nfc, try_new_nfc_prepared;
     Form::Nfkc, new_nfkc, try_new_nfkc_prepared;
 }
 
 normalizers! {
-    "NFD or NFKD": DecomposingNormalizer, DecomposingNormalizerBorrowed;
+    "NFD or NFKD": DecomposingNormalizer, DecomposingNormalizerBorrowed, Decomposition;
     Form::Nfd, new_nfd, try_new_nfd_prepared;
     Form::Nfkd, new_nfkd, try_new_nfkd_prepared;
 }

@@ -2,6 +2,10 @@
 use crate::error::Error;
 use crate::ffi::{self, Maps};
 use crate::handle::{Borrowed, Form, SharedHandle};
+use crate::properties::{
+    CanonicalCombiningClassMapBorrowed, CanonicalCompositionBorrowed, CanonicalDecompositionBorrowed,
+};
+use crate::uts46::Uts46MapperBorrowed;
 use crate::{ComposingNormalizerBorrowed, DecomposingNormalizerBorrowed};
 
 /// Normalizers to the four forms, and perhaps a mapper, over the data of Unicode's files.
@@ -76,6 +80,33 @@ impl Normalizers {
     /// Returns the normalizer to NFKD.
     pub fn nfkd(&self) -> DecomposingNormalizerBorrowed<'_> {
         DecomposingNormalizerBorrowed::over(self.data(), Form::Nfkd)
+    }
+
+    /// Returns what pairs of characters compose to.
+    pub fn composition(&self) -> CanonicalCompositionBorrowed<'_> {
+        CanonicalCompositionBorrowed(self.data())
+    }
+
+    /// Returns the canonical mappings of characters.
+    pub fn decomposition(&self) -> CanonicalDecompositionBorrowed<'_> {
+        CanonicalDecompositionBorrowed(self.data())
+    }
+
+    /// Returns the canonical combining classes of characters.
+    pub fn combining_classes(&self) -> CanonicalCombiningClassMapBorrowed<'_> {
+        CanonicalCombiningClassMapBorrowed(self.data())
+    }
+
+    /// Returns the mapper, if there is one.
+    pub fn mapper(&self) -> Option<Uts46MapperBorrowed<'_>> {
+        let data = self.data();
+        data.with(|handle| handle.has_mapper())
+            .then_some(Uts46MapperBorrowed(data))
+    }
+
+    /// Returns the version of Unicode that the data state, as `[major, minor, update]`, or zeros if they state none.
+    pub fn unicode_version(&self) -> [u8; 3] {
+        self.data().with(|handle| handle.unicode_version())
     }
 
     /// Returns a text mapped by Unicode Technical Standard #46 and in NFC: ignored characters are dropped, disallowed

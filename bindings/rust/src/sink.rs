@@ -1,5 +1,5 @@
 //! Sinks, to which forms are written piece by piece.
-use crate::handle::{Borrowed, Form};
+use crate::handle::{Borrowed, Form, OpenHandle};
 use crate::unit::Unit;
 use std::fmt;
 
@@ -41,20 +41,38 @@ impl Write16 for Vec<u16> {
     }
 }
 
-/// Writes the form of units: what is normalized as it is, then the form of the rest.
+/// How many units a piece has at least, unless it is the last.
+const PIECE: usize = 4096;
+
+/// How many of the units are the first piece. The form of the units is that of this piece and that of the others.
+fn piece_length<U: Unit>(handle: &mut OpenHandle, form: Form, units: &[U]) -> usize {
+    let mut ends = PIECE..units.len();
+    let end = ends.find(|&end| U::first(&units[end..]).is_some_and(|next| handle.has_boundary_before(form, next)));
+    end.unwrap_or(units.len())
+}
+
+/// Writes the form of units, piece by piece: what is normalized as it is, and the form of the rest of the piece.
 fn write_form<U: Unit>(
     data: Borrowed<'_>,
     form: Form,
-    units: &[U],
+    mut units: &[U],
     mut write: impl FnMut(&[U]) -> fmt::Result,
 ) -> fmt::Result {
-    let (normalized, rest) = units.split_at(data.with(|handle| handle.cut(form, units)));
     let mut made = Vec::new();
-    data.with(|handle| handle.append_form(form, rest, &mut made));
-    for written in [normalized, &made] {
-        if !written.is_empty() {
-            write(written)?;
+    while !units.is_empty() {
+        let (length, cut) = data.with(|handle| {
+            let length = piece_length(handle, form, units);
+            let cut = handle.cut(form, &units[..length]);
+            made.clear();
+            handle.append_form(form, &units[cut..length], &mut made);
+            (length, cut)
+        });
+        for written in [&units[..cut], &made] {
+            if !written.is_empty() {
+                write(written)?;
+            }
         }
+        units = &units[length..];
     }
     Ok(())
 }
