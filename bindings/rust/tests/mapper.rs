@@ -78,6 +78,18 @@ fn data_may_be_without_a_mapper() {
 }
 
 #[test]
+fn the_data_of_this_crate_have_a_mapper() {
+    let given = Uts46Mapper::try_new_prepared(&read("data/unicode/prepared")).unwrap();
+    let own = Uts46Mapper::default();
+    for mapper in [Uts46MapperBorrowed::new(), given.as_borrowed(), own.as_borrowed()] {
+        let given = "Stra\u{DF}e\u{3002}\u{FF21}\u{AD}U\u{308}\u{202A}";
+        assert_eq!(text(mapper.map_normalize(given.chars())), "stra\u{DF}e.a\u{FC}\u{FFFD}");
+        assert_eq!(text(mapper.normalize_validate("x\u{AD}".chars())), "x\u{FFFD}");
+        assert!(mapper.is_virama('\u{94D}') && !mapper.is_virama('\u{93C}') && !mapper.is_virama('V'));
+    }
+}
+
+#[test]
 fn mappers_may_be_shared() {
     fn may<T: Send + Sync>() {}
     may::<Uts46Mapper>();
