@@ -90,7 +90,8 @@ fn is_asked_of_words(condition: Condition) -> bool
 }
 
 /// The end of the numbers for which it suffices to check this one. If Hangul is sound, that is all syllables after it
-/// with the same leading consonant; if it is disallowed, all disallowed characters right after it.
+/// with the same leading consonant; if it is disallowed, all disallowed characters right after it. Surrogates are no
+/// characters.
 #[tactic(auto, unfolding(normalizer_tables::specs::Hangul::is_hangul_syllable, normalizer_tables::specs::Table::code_points))]
 fn end_of_equal_words(
     data: &CharacterData<'_>,
@@ -104,6 +105,8 @@ fn end_of_equal_words(
 {
     if hangul_is_sound && is_hangul_syllable(number) {
         S_BASE + ((number - S_BASE) / N_COUNT + 1) * N_COUNT
+    } else if 0xD800 <= number && number < 0xE000 {
+        0xE000
     } else if word == DISALLOWED_WORD {
         end_of_disallowed(data, number)
     } else {
@@ -111,8 +114,8 @@ fn end_of_equal_words(
     }
 }
 
-/// The same of a number with the word of a disallowed character. Below U+E000 there are few of them, and U+FFFD doesn't
-/// map to another character.
+/// The same of a number with the word of a disallowed character. Of a Hangul syllable the word says something else, and
+/// U+FFFD doesn't map to another character.
 #[tactic(auto, unfolding(normalizer_tables::specs::Table::code_points))]
 fn end_of_disallowed(data: &CharacterData<'_>, number: u32) -> u32
     requires place { number ≤ code_points }
@@ -123,6 +126,8 @@ fn end_of_disallowed(data: &CharacterData<'_>, number: u32) -> u32
         data.end_of_disallowed(number)
     } else if 0xE000 <= number && number < 0xFFFD {
         data.end_of_disallowed(number).min(0xFFFD)
+    } else if number < S_BASE {
+        data.end_of_disallowed(number).min(S_BASE)
     } else {
         number + 1
     }

@@ -28,7 +28,7 @@ pub of_each-answered : (d : Loaded) (hangul_is_sound : Bool) → (hangul_is_soun
 of_each-answered d hangul_is_sound sound from number end next behind c before met n low high is = elim (cases_order n number) [
   | inl same ↦ subst (λ m. (says d c).of_each m) (sym same) (met (subst IsScalar same is))
   | inr (inl under) ↦ before.1 n is (next.between n low under)
-  | inr (inr after) ↦ elim (behind.alike n after high) [
+  | inr (inr after) ↦ elim (behind.alike n after high is) [
     | inl syllable ↦ of_each-syllable_behind d (sound syllable.0) c number n syllable.1 (met (syllable-scalar number syllable.1.first))
     | inr disallowed ↦ of_each-disallowed_behind d number n after disallowed.0 disallowed.1 c (met disallowed.0.character)
   ]
@@ -55,8 +55,14 @@ module _ (s : Characters) (n end top : ℕ) (is : word_of s n ≡ 0x4000FFFD) (e
   IsEndOfEqualWords-top hangul_is_sound = record {
     above = omega (arith, beyond);
     within = λ _. omega arith;
-    alike = λ m after before. inr (disallowed_at n (omega arith) (omega (arith, beyond)), disallowed_at m (omega arith) before);
+    alike = λ m after before is. inr (disallowed_at n (omega arith) (omega (arith, beyond)), disallowed_at m (omega arith) before);
   }
+
+pub IsEndOfEqualWords-low : (s : Characters) (n end : ℕ) → n < 0xAC00 → word_of s n ≡ 0x4000FFFD → IsEndOfDisallowed s n end →
+    (hangul_is_sound : Bool) → IsEndOfEqualWords s hangul_is_sound n (min end 0xAC00)
+unfolding is_hangul_syllable
+IsEndOfEqualWords-low s n end low is ends = IsEndOfEqualWords-top s n end 0xAC00 is ends low (omega arith)
+    (λ m from to. (grind (arith, nat_tests), grind (arith, nat_tests), λ e. absurd (omega arith)))
 
 pub IsEndOfEqualWords-below : (s : Characters) (n end : ℕ) → 0xE000 ≤ n → n ≤ 0xFFFC → word_of s n ≡ 0x4000FFFD → IsEndOfDisallowed s n end →
     (hangul_is_sound : Bool) → IsEndOfEqualWords s hangul_is_sound n (min end 0xFFFD)

@@ -28,11 +28,11 @@ pub record IsDisallowed (s : Characters) (n : ℕ) : Type 0 where
   pub other : (is_hangul_syllable n ≡ false) × (n ≢ 0xFFFD)
   pub word : is_disallowed (word_of s n) ≡ true
 
--- the numbers after n and before `end` are syllables after it, and then Hangul is sound, or disallowed as it is
+-- the characters after n and before `end` are syllables after it, and then Hangul is sound, or disallowed as it is
 pub record IsEndOfEqualWords (s : Characters) (hangul_is_sound : Bool) (n end : ℕ) : Type 0 where
   pub above : n < end
   pub within : n ≤ code_points → end ≤ code_points + 1
-  pub alike : (m : ℕ) → n < m → m < end
+  pub alike : (m : ℕ) → n < m → m < end → IsScalar m
       → ((hangul_is_sound ≡ true) × IsSyllableAfter n m) ⊎ (IsDisallowed s n × IsDisallowed s m)
 
 -- a character has another word than 0, or nothing composes across its beginning if a composing loop relies on it
