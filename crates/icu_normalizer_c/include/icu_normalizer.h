@@ -8,18 +8,20 @@
    `tools/install PREFIX` installs the library: `cc prog.c $(pkg-config --cflags --libs icu_normalizer)`. The header
    needs C99 or C++11.
 
+   Threads may use one handle: a call takes it by an atomic exchange, and while it runs each other call with the handle
+   returns IN_USE and does nothing else. To work at the same time, give each thread a handle by icu_normalizer_share:
+   they use the same data.
+
    A pointer with a length is an array of that many units: bytes, or units of 16 or 32 bits in the order of the machine.
    For an array of none it may be null. Nothing is read or written outside the arrays.
 
    What the library can't see, the program must establish:
    - Other pointers are never null. Each pointer is aligned for its type, and an array has at most PTRDIFF_MAX bytes.
-   - What a call may write to, a handle among it, overlaps nothing else that is passed, and nothing of what is passed is
-     changed while the call runs.
+   - What a call may write to overlaps nothing else that is passed, and nothing of what is passed is changed while the
+     call runs, but that other calls may be given the handle.
    - A `bool` is 0 or 1.
-   - A handle begins as ICU_NORMALIZER_CLOSED. A program may move it, but changes nothing in it, and uses one copy.
-   - A handle is given to one call at a time. With two at once anything may happen; mostly the second returns IN_USE.
-     For several threads, give each a handle by icu_normalizer_share: they use the same data, at the same time.
-   - A handle goes from one thread to another by a thread's start or join, a lock, or a sequentially consistent atomic.
+   - A handle begins as ICU_NORMALIZER_CLOSED. A program may move it while no call has it, but changes nothing in it,
+     and uses one copy.
    - No call is made in a signal handler, nor in the forked child of a process with threads.
    - The program's malloc, realloc and free come from one allocator, and align a block of each size to each power of
      two up to 16 that divides the size. */
@@ -45,11 +47,11 @@ extern "C" {
 typedef struct icu_normalizer {
     void *normalizers;
     bool is_open;
-    bool is_in_use;
+    size_t is_in_use; /* 1 while a call has the handle */
 } icu_normalizer;
 
 /* A handle that has no normalizers, to initialize one. */
-#define ICU_NORMALIZER_CLOSED {NULL, false, false}
+#define ICU_NORMALIZER_CLOSED {NULL, false, 0}
 
 /* The four forms (Unicode Standard Annex #15, section 1.2). */
 typedef uint32_t icu_normalizer_form;
@@ -75,9 +77,7 @@ typedef uint32_t icu_normalizer_status;
 #define ICU_NORMALIZER_WRONG_RECORDS 6u
 /* The handle has no mapper. */
 #define ICU_NORMALIZER_NO_MAPPER 7u
-/* A record is wrong by itself. */
-#define ICU_NORMALIZER_WRONG_RECORD 8u
-/* Another call has the handle, which the program must not do. */
+/* Another call has the handle. */
 #define ICU_NORMALIZER_IN_USE 9u
 /* A file of prepared data is wrong. */
 #define ICU_NORMALIZER_WRONG_PREPARED 10u
@@ -93,7 +93,6 @@ static inline const char *icu_normalizer_status_text(icu_normalizer_status statu
         case ICU_NORMALIZER_WRONG_LINE: return "a line of a data file is wrong";
         case ICU_NORMALIZER_WRONG_RECORDS: return "the records can't be built into tables";
         case ICU_NORMALIZER_NO_MAPPER: return "the normalizer has no mapper";
-        case ICU_NORMALIZER_WRONG_RECORD: return "a record is wrong";
         case ICU_NORMALIZER_IN_USE: return "another call uses the normalizer";
         case ICU_NORMALIZER_WRONG_PREPARED: return "the file of prepared data is wrong";
         default: return "no status has this number";
@@ -108,51 +107,22 @@ typedef struct icu_normalizer_mismatch {
     bool exists;       /* whether there is a mismatch */
 } icu_normalizer_mismatch;
 
-/* A record of one character: its class and its mapping, as in a line of UnicodeData.txt. The mapping is a part of an
-   array of code points that is passed with the records, not replaced further. Of length 0 it is none, and the two flags
-   are then ignored. */
-typedef struct icu_normalizer_record {
-    size_t mapping_start;  /* where the mapping begins in the array */
-    size_t mapping_length; /* how many code points it has */
-    uint32_t character;
-    uint8_t combining_class; /* the canonical combining class */
-    bool is_compatibility;   /* whether the mapping is a compatibility mapping */
-    bool is_excluded;        /* whether the character is excluded from composition */
-} icu_normalizer_record;
-
-/* What a mapper does with a character (Unicode Technical Standard #46, section 4). */
-#define ICU_NORMALIZER_MAPPED 0u     /* it is mapped to the mapping, of at least one character */
-#define ICU_NORMALIZER_IGNORED 1u    /* it is dropped */
-#define ICU_NORMALIZER_DISALLOWED 2u /* it becomes U+FFFD */
-
-/* A record of one character for the mapper. The mapping is a part of the same array, mapped fully; unless the status is
-   MAPPED it is best of length 0, and isn't used. */
-typedef struct icu_normalizer_mapper_record {
-    size_t mapping_start;  /* where the mapping begins in the array */
-    size_t mapping_length; /* how many code points it has */
-    uint32_t character;
-    uint32_t status; /* what the mapper does with it */
-} icu_normalizer_mapper_record;
-
-/* Where data are wrong, and why. It is written on four statuses only:
+/* Where data are wrong, and why. It is written on three statuses only:
    - WRONG_LINE: the first line that is wrong, of CompositionExclusions.txt, then of UnicodeData.txt, then of
      IdnaMappingTable.txt. Files that are cut off or state different versions are refused before lines are read.
-   - WRONG_RECORD: the first record that is wrong by itself, whatever the others are, of those of characters, then of
-     those of the mapper.
-   - WRONG_RECORDS: each record is right by itself, but all can't be built into tables. The reason is the first of 10
-     to 16 that is so, else 18 or 17. The place is that of the first record at fault, those of the mapper after the
-     others: the line that states it, or how many records come before it. `character` is its character. If no single
-     record is at fault, as with reason 18, the source is ALL_RECORDS, and the place 0.
+   - WRONG_RECORDS: each line is right by itself, but what all say can't be built into tables. The reason is the first
+     of 10 to 16 that is so, else 18 or 17. The place is the line that states the first record at fault, those of
+     IdnaMappingTable.txt after the others. `character` is its character. If no single record is at fault, as with
+     reason 18, the source is ALL_RECORDS, and the place 0.
    - WRONG_PREPARED: the first fault of the file, or with reason 17 the condition that its data break.
 
-   With reason 17, `condition` is the number of the first written condition that the tables break
-   (docs/CONDITIONS.md).
+   With reason 17, `condition` is the number of the first written condition that the tables break (docs/CONDITIONS.md).
 
-   Records of the mapper may be wrong only together with those of characters. With Unicode's own data, to map U+0041
-   alone, to U+0061, is refused with reason 17 and condition 8: a member of a list must read to itself, but the list of
-   U+00C0 has U+0041. IdnaMappingTable.txt maps U+00C0 and all others whose lists have U+0041 too. */
+   A table may be wrong only together with UnicodeData.txt. With Unicode's own data, to map U+0041 alone, to U+0061,
+   is refused with reason 17 and condition 8: a member of a list must read to itself, but the list of U+00C0 has
+   U+0041. IdnaMappingTable.txt maps U+00C0 and all others whose lists have U+0041 too. */
 typedef struct icu_normalizer_defect {
-    size_t place; /* the line of a file, from 1; how many records, or bytes of a prepared file, come before; or 0 */
+    size_t place; /* the line of a file, from 1; how many bytes of a prepared file come before; or 0 */
     uint32_t source;    /* which data */
     uint32_t reason;    /* what is wrong */
     uint32_t character; /* the character of the record at fault, or NO_CHARACTER */
@@ -162,17 +132,15 @@ typedef struct icu_normalizer_defect {
 /* No character. */
 #define ICU_NORMALIZER_NO_CHARACTER 0x110000u
 
-/* Which data. The records together may also be those that files say. */
+/* Which data. */
 #define ICU_NORMALIZER_UNICODE_DATA 0u
 #define ICU_NORMALIZER_COMPOSITION_EXCLUSIONS 1u
 #define ICU_NORMALIZER_IDNA_MAPPING_TABLE 2u
-#define ICU_NORMALIZER_ONE_RECORD 3u
 #define ICU_NORMALIZER_ALL_RECORDS 4u
-#define ICU_NORMALIZER_ONE_MAPPER_RECORD 5u
 #define ICU_NORMALIZER_PREPARED 6u
 
-/* Returns what the reason of a defect means, in English: 1 to 8 and 19 to 24 are of lines, 9 is of one record, 10 to 18
-   are of the records together, 25 to 33 of a file of prepared data, of which 17 may be too. */
+/* Returns what the reason of a defect means, in English: 1 to 8 and 19 to 24 are of lines, 10 to 18 of the records that
+   lines state together, 25 to 33 of a file of prepared data, of which 17 may be too. */
 static inline const char *icu_normalizer_reason_text(uint32_t reason) {
     switch (reason) {
         case 1: return "the line has too few fields";
@@ -183,7 +151,6 @@ static inline const char *icu_normalizer_reason_text(uint32_t reason) {
         case 6: return "the code points don't strictly rise";
         case 7: return "a range of code points is not closed";
         case 8: return "a class or a mapping of what is not one character";
-        case 9: return "the code point is no character, no status has the number, or the mapping is not of the array";
         case 10: return "the records don't strictly rise by character";
         case 11: return "a record of U+FFFD, a conjoining jamo or a Hangul syllable";
         case 12: return "a class of 255, or a list that begins with a mark";
@@ -216,33 +183,12 @@ uint32_t icu_normalizer_version(void);
 
 /* Opens `to` by the data of `from`, which both then share: nothing is read or copied. What `to` had is closed. Each is
    closed by itself, in any order and on any thread; the last one frees the data. Opening `from` again leaves `to` as it
-   is. On an error `to` keeps what it had: NOT_OPEN or IN_USE of `from`, IN_USE of `to`, OUT_OF_MEMORY. */
+   is. On an error `to` keeps what it had: IN_USE of either, NOT_OPEN of `from`, OUT_OF_MEMORY. */
 icu_normalizer_status icu_normalizer_share(icu_normalizer *from, icu_normalizer *to);
 
-/* Closes the handle, which then has no normalizers. A closed handle stays closed; null is ignored. */
+/* Closes the handle, which then has no normalizers. A closed handle stays closed, and one that another call has
+   stays as it is; null is ignored. */
 void icu_normalizer_close(icu_normalizer *normalizer);
-
-/* Returns the version of Unicode that the first line of CompositionExclusions.txt or IdnaMappingTable.txt names, as
-   0x0F0000 for 15.0.0, or 0 if it names none. */
-static inline uint32_t icu_normalizer_unicode_version(const uint8_t *file, size_t length) {
-    uint32_t version = 0, number = 0, parts = 0;
-    bool is_number = false;
-    for (size_t place = 0; place < length && file[place] != '\n'; place++) {
-        uint8_t unit = file[place];
-        bool is_digit = '0' <= unit && unit <= '9';
-        if (is_digit) {
-            number = (is_number ? 10 * number : 0) + unit - '0';
-            if (number > 255) return 0;
-        } else if (is_number) {
-            version = version << 8 | number;
-            parts++;
-            if (parts == 3) return version;
-            if (unit != '.') version = parts = 0;
-        }
-        is_number = is_digit;
-    }
-    return parts == 2 && is_number ? version << 8 | number : 0;
-}
 
 /* Opens normalizers by the bytes of UnicodeData.txt and CompositionExclusions.txt, of any version of Unicode, without a
    mapper. What the handle had is closed. On an error the handle keeps what it had: WRONG_LINE, WRONG_RECORDS,
@@ -259,27 +205,24 @@ icu_normalizer_status icu_normalizer_open_files(icu_normalizer *normalizer,
     const uint8_t *unicode_data, size_t unicode_data_length, const uint8_t *exclusions, size_t exclusions_length,
     const uint8_t *idna_table, size_t idna_table_length, uint32_t disallowed_limit, icu_normalizer_defect *defect);
 
-/* The same, with records in place of the files: those of characters, which without a class and a mapping need none, and
-   those of the mapper, which is left out if there are none. Both rise by character, and `codes` has the code points of
-   all mappings. On WRONG_RECORD and WRONG_RECORDS `*defect` says which is wrong, or why; else it is unchanged. */
-icu_normalizer_status icu_normalizer_open_records(icu_normalizer *normalizer,
-    const icu_normalizer_record *records, size_t records_length,
-    const icu_normalizer_mapper_record *mapper_records, size_t mapper_records_length,
-    const uint32_t *codes, size_t codes_length, icu_normalizer_defect *defect);
-
-/* The same by the bytes of a file of prepared data (docs/FORMAT.md), which `uninorm prepare` makes of Unicode's files:
-   the file is smaller, and is opened in less time. It needs no trust: each byte is checked, and the data meet the same
-   conditions as records. There is a mapper if its data aren't the canonical ones. On WRONG_PREPARED `*defect` says what
-   is wrong; else it is unchanged. */
+/* The same by the bytes of a file of prepared data (docs/FORMAT.md), which `uninorm prepare` makes of Unicode's
+   files: the file is smaller, and is opened in less time. It needs no trust: each byte is checked, and the data meet
+   the same conditions as those of files. There is a mapper if its data aren't the canonical ones. On WRONG_PREPARED
+   `*defect` says what is wrong; else it is unchanged. */
 icu_normalizer_status icu_normalizer_open_prepared(icu_normalizer *normalizer,
     const uint8_t *prepared, size_t prepared_length, icu_normalizer_defect *defect);
 
-/* Each call below ends with NOT_OPEN if the handle has no normalizers, else with UNKNOWN_FORM if no form has the
-   number. OUT_OF_MEMORY comes only if an allocation failed. On any error, nothing is written but what is said.
-   Nothing is allocated, unless more than 17 characters are buffered at a time, as in a longer run of marks.
+/* Sets `*version` to the version of Unicode that the data state, 0x120000 for 18.0.0: a file of prepared data, or else
+   CompositionExclusions.txt. It is 0 if they state none, or a number above 255. The error is NOT_OPEN or IN_USE. */
+icu_normalizer_status icu_normalizer_unicode_version(icu_normalizer *normalizer, uint32_t *version);
 
-   With Unicode's own data a form in UTF-8 has at most 3 times the bytes of the input for NFC and NFD, and 11 times for
-   NFKC and NFKD; in UTF-16 and UTF-32 3 times the units for NFC, 4 times for NFD and 18 times for NFKC and NFKD. */
+/* Each call below ends with IN_USE if another call has the handle, else with NOT_OPEN if it has no normalizers, else
+   with UNKNOWN_FORM if no form has the number. OUT_OF_MEMORY comes only if an allocation failed. On any error, nothing
+   is written but what is said. Nothing is allocated, unless more than 17 characters are buffered at a time, as in a
+   longer run of marks.
+
+   With Unicode's own data a form in UTF-8 has at most 3 times the bytes of the input for NFC and NFD, and 11 times
+   for NFKC and NFKD; in UTF-16 and UTF-32 3 times the units for NFC, 4 times for NFD and 18 times for NFKC and NFKD. */
 
 /* Writes the form of `input` to `output`, as it is made. Each maximal ill-formed subpart of UTF-8, and each unpaired
    surrogate of UTF-16, reads as U+FFFD. `*needed` is how many units the form has: on success, and on BUFFER_TOO_SMALL.
@@ -322,9 +265,32 @@ icu_normalizer_status icu_normalizer_first_mismatch_utf8(icu_normalizer *normali
 icu_normalizer_status icu_normalizer_first_mismatch_utf16(icu_normalizer *normalizer,
     icu_normalizer_form form, const uint16_t *input, size_t input_length, icu_normalizer_mismatch *mismatch);
 
-/* The calls below use the mapper (Unicode Technical Standard #46, section 4). Each ends with NOT_OPEN if the handle has
-   no normalizers, else with NO_MAPPER if it has no mapper. `*needed` is how many units are written: on success, and on
-   BUFFER_TOO_SMALL. STD3 rules, Punycode and the other steps of the standard are left to the caller. */
+/* The calls below are on characters. Nothing is allocated. A number that isn't a Unicode scalar value reads as
+   U+FFFD: by Unicode's own data its class is 0, it has no composite and no mapping, and a boundary before it. */
+
+/* Sets `*has_boundary` to whether a text may be divided before this character: then the form is that of what comes
+   before, followed by that of the rest. It may be false though all texts may be divided there. */
+icu_normalizer_status icu_normalizer_has_boundary_before(icu_normalizer *normalizer, icu_normalizer_form form,
+    uint32_t character, bool *has_boundary);
+
+/* Sets `*combining_class` to the canonical combining class of a character, 0 of a starter. */
+icu_normalizer_status icu_normalizer_combining_class(icu_normalizer *normalizer, uint32_t character,
+    uint8_t *combining_class);
+
+/* Sets `*composite` to what two characters compose to, Hangul syllables included, or to NO_CHARACTER. */
+icu_normalizer_status icu_normalizer_compose(icu_normalizer *normalizer, uint32_t first, uint32_t second,
+    uint32_t *composite);
+
+/* Sets `*first` and `*second` to the canonical mapping of a character, one step of its decomposition. If that is one
+   character, `*second` is NO_CHARACTER, and if it has none, both are. A Hangul syllable of three jamo maps to one of
+   two and the third. */
+icu_normalizer_status icu_normalizer_decompose(icu_normalizer *normalizer, uint32_t character,
+    uint32_t *first, uint32_t *second);
+
+/* The calls below use the mapper (Unicode Technical Standard #46, section 4). Each ends with IN_USE if another call
+   has the handle, else with NOT_OPEN if it has no normalizers, else with NO_MAPPER if it has no mapper. `*needed` is
+   how many units are written: on success, and on BUFFER_TOO_SMALL. STD3 rules, Punycode and the other steps of the
+   standard are left to the caller. */
 
 /* Writes `input` mapped and in NFC to `output`: ignored characters are dropped, disallowed ones become U+FFFD. On any
    error `output` is unchanged. What is written is first made in memory that is allocated. */

@@ -1,8 +1,9 @@
 -- What the calls of C do.
 use Rattle.std.specs.Prelude.{◌≡◌, ◌⊎◌, ◌↔◌, ℕ, ◌<◌, ◌-◌, ◌^◌, Bool, List, length, ⊤, Result, Ok, Err, Option, Some}
-use Rattle.std.specs.Prelude.{None, IsTrue}
+use Rattle.std.specs.Prelude.{None, IsTrue, true, false}
 use Rattle.icu_normalizer.specs.ShortRuns.{HasShortRuns}
 use Rattle.icu_normalizer.specs.IgnoredCharacters.{IgnoredCharacters}
+use Rattle.icu_normalizer.specs.IgnoredCharacters.TheVariants.{Dropped, Replaced}
 use Rattle.icu_normalizer.specs.Encodings.{Encoding, encoded_in, decoded_in}
 use Rattle.icu_normalizer.specs.EncodedForm.{encoded_form}
 use Rattle.icu_normalizer.specs.InputCut.{IsInputCut, IsInputNormalized}
@@ -15,7 +16,7 @@ use Rattle.icu_normalizer.specs.Mappers.{mapper_data_of}
 use Rattle.icu_normalizer.specs.Utf32.{decoded_utf32}
 use Rattle.icu_normalizer.specs.Uts46.{MapperData}
 use Rattle.normalizer_handles.specs.declared.fault.Fault.{Fault}
-use Rattle.normalizer_handles.specs.declared.fault.Fault.TheVariants.{UnknownForm, NoMapper}
+use Rattle.normalizer_handles.specs.declared.fault.Fault.TheVariants.{NoMapper, NotOpen, UnknownForm}
 use Rattle.icu_normalizer_c.specs.declared.mismatch.Mismatch.{Mismatch}
 use Rattle.normalizer_handles.specs.declared.normalizers.Normalizers.{Normalizers}
 use Rattle.icu_normalizer_c.specs.Buffers.{LeavesAll, LeavesBeginning, Reports, Writes}
@@ -30,16 +31,20 @@ AtForm n number Unchanged Is outcome =
     ((last_form < number) × (outcome ≡ Err UnknownForm) × Unchanged)
     ⊎ ((m : MadeForm) × IsNumbered n number m × Is m outcome)
 
--- a call at the normalizers of a handle, or the fault of a handle that has none
-abbrev pub OverHeld : Result Normalizers Fault → (Unchanged : Type 0) → (Normalizers → Result ⊤ Fault → Type 0)
+-- a call at the normalizers of a handle, if it has some
+abbrev pub OverHeld : Option Normalizers → (Unchanged : Type 0) → (Normalizers → Result ⊤ Fault → Type 0)
     → Result ⊤ Fault → Type 0
-OverHeld (Err fault) Unchanged Is outcome = (outcome ≡ Err fault) × Unchanged
-OverHeld (Ok n) Unchanged Is outcome = Is n outcome
+OverHeld None Unchanged Is outcome = (outcome ≡ Err NotOpen) × Unchanged
+OverHeld (Some n) Unchanged Is outcome = Is n outcome
 
--- a call at a form of the normalizers of a handle, or the fault of a handle that has none
-abbrev pub Over : Result Normalizers Fault → (number : ℕ) → (Unchanged : Type 0) → (MadeForm → Result ⊤ Fault → Type 0)
+-- a call at a form of the normalizers of a handle, if it has some
+abbrev pub Over : Option Normalizers → (number : ℕ) → (Unchanged : Type 0) → (MadeForm → Result ⊤ Fault → Type 0)
     → Result ⊤ Fault → Type 0
 Over h number Unchanged Is outcome = OverHeld h Unchanged (λ n. AtForm n number Unchanged Is) outcome
+
+-- the call succeeds, and this holds
+abbrev pub Tells : Type 0 → Result ⊤ Fault → Type 0
+Tells Is outcome = (outcome ≡ Ok tt) × Is
 
 -- the input needs no memory: it has short runs, and the units of its form can be counted in 64 bits
 abbrev pub NeedsNoMemory : Encoding → (input : List ℕ) → MadeForm → Type 0
@@ -99,9 +104,14 @@ AtMapper None Unchanged Is outcome = (outcome ≡ Err NoMapper) × Unchanged
 AtMapper (Some m) Unchanged Is outcome = Is (mapper_data_of m) outcome
 
 -- a call at the mapper of a handle, unless it has no normalizers or no mapper
-abbrev pub OverMapper : Result Normalizers Fault → (Unchanged : Type 0) → (MapperData → Result ⊤ Fault → Type 0)
+abbrev pub OverMapper : Option Normalizers → (Unchanged : Type 0) → (MapperData → Result ⊤ Fault → Type 0)
     → Result ⊤ Fault → Type 0
 OverMapper h Unchanged Is outcome = OverHeld h Unchanged (λ n. AtMapper n.mapper Unchanged Is) outcome
+
+-- ignored characters are replaced, or dropped
+abbrev pub treatment : (are_replaced : Bool) → IgnoredCharacters
+treatment true = Replaced
+treatment false = Dropped
 
 -- what the input is mapped to goes to the buffer, encoded as it is, its ignored characters dropped or replaced
 abbrev pub WritesMapped : Encoding → IgnoredCharacters → (input before after : List ℕ) → (count_before count : ℕ)

@@ -85,7 +85,7 @@ impl<'a> Question for Cut<&'a [u16]> {
 /// Reports whether `input` is well-formed UTF-8 and normalized.
 ///
 /// # Errors
-/// `NotOpen`, `InUse`, `UnknownForm`, or `Memory`, which never comes over short runs. `reported` is then unchanged.
+/// `NotOpen`, `UnknownForm`, or `Memory`, which never comes over short runs. `reported` is then unchanged.
 #[unsafe(no_mangle)]
 pub extern "C" fn icu_normalizer_is_normalized_utf8_nonnull(
     alloc: Global,
@@ -104,7 +104,7 @@ pub extern "C" fn icu_normalizer_is_normalized_utf8_nonnull(
 /// Reports whether `input` is well-formed UTF-16 and normalized.
 ///
 /// # Errors
-/// `NotOpen`, `InUse`, `UnknownForm`, or `Memory`, which never comes over short runs. `reported` is then unchanged.
+/// `NotOpen`, `UnknownForm`, or `Memory`, which never comes over short runs. `reported` is then unchanged.
 #[unsafe(no_mangle)]
 pub extern "C" fn icu_normalizer_is_normalized_utf16_nonnull(
     alloc: Global,
@@ -123,7 +123,7 @@ pub extern "C" fn icu_normalizer_is_normalized_utf16_nonnull(
 /// Reports whether the units of `input` are characters, as UTF-32 encodes them, and the text of them is normalized.
 ///
 /// # Errors
-/// `NotOpen`, `InUse`, `UnknownForm`, or `Memory`, which never comes over short runs. `reported` is then unchanged.
+/// `NotOpen`, `UnknownForm`, or `Memory`, which never comes over short runs. `reported` is then unchanged.
 #[unsafe(no_mangle)]
 pub extern "C" fn icu_normalizer_is_normalized_utf32_nonnull(
     alloc: Global,
@@ -143,7 +143,7 @@ pub extern "C" fn icu_normalizer_is_normalized_utf32_nonnull(
 /// with, followed by the form of the rest.
 ///
 /// # Errors
-/// `NotOpen`, `InUse`, `UnknownForm`, or `Memory`, which never comes over short runs. `reported` is then unchanged.
+/// `NotOpen`, `UnknownForm`, or `Memory`, which never comes over short runs. `reported` is then unchanged.
 #[unsafe(no_mangle)]
 pub extern "C" fn icu_normalizer_split_utf8_nonnull(
     alloc: Global,
@@ -163,7 +163,7 @@ pub extern "C" fn icu_normalizer_split_utf8_nonnull(
 /// with, followed by the form of the rest.
 ///
 /// # Errors
-/// `NotOpen`, `InUse`, `UnknownForm`, or `Memory`, which never comes over short runs. `reported` is then unchanged.
+/// `NotOpen`, `UnknownForm`, or `Memory`, which never comes over short runs. `reported` is then unchanged.
 #[unsafe(no_mangle)]
 pub extern "C" fn icu_normalizer_split_utf16_nonnull(
     alloc: Global,

@@ -9,6 +9,7 @@ mod mismatch;
 mod opening;
 mod overwrite;
 mod piece;
+mod property;
 mod question;
 mod sink;
 mod text;

@@ -5,7 +5,7 @@ ghost use Rattle.icu_normalizer.specs.Encodings.{Encoding, decoded_in, encoded_i
 ghost use Rattle.icu_normalizer.specs.Utf16.{encode_utf16_all};
 ghost use Rattle.icu_normalizer.specs.Mapping.{mapped_in};
 ghost use Rattle.icu_normalizer_c.specs.Buffers.{LeavesAll};
-ghost use Rattle.icu_normalizer_c.specs.Calls.{AtMapper, OverMapper, WritesMapped};
+ghost use Rattle.icu_normalizer_c.specs.Calls.{treatment, AtMapper, OverMapper, WritesMapped};
 ghost use Rattle.normalizer_handles.specs.Handles.{held_normalizers};
 ghost use Rattle.normalizer_handles.specs.Status.{IsStatus};
 
@@ -69,96 +69,64 @@ impl<'a> Text for Mapped<&'a [u16]> {
     }
 }
 
-/// Writes what `input` decodes to, mapped and in NFC, in UTF-8. Ignored characters are dropped, and disallowed ones
-/// become U+FFFD. `needed` is then how many units there are.
+/// What is done with ignored characters.
+fn treatment(are_replaced: bool) -> IgnoredCharacters
+    ensures { result ≡ treatment are_replaced }
+{
+    if are_replaced {
+        IgnoredCharacters::Replaced
+    } else {
+        IgnoredCharacters::Dropped
+    }
+}
+
+/// Writes what `input` decodes to, mapped and in NFC, in UTF-8. Disallowed characters become U+FFFD, and ignored ones
+/// too if `are_replaced`; if not, they are dropped. `needed` is then how many units there are. Mapped text is valid only
+/// if this leaves it unchanged with `are_replaced`.
 ///
 /// # Errors
-/// `NotOpen`, `InUse`, `NoMapper`, `Memory`, or `BufferTooSmall`, after which `needed` is how many units there are.
-/// `output` is then unchanged.
+/// `NotOpen`, `NoMapper`, `Memory`, or `BufferTooSmall`, after which `needed` is how many units there are. `output` is
+/// then unchanged.
 #[unsafe(no_mangle)]
 pub extern "C" fn icu_normalizer_map_utf8_nonnull(
     alloc: Global,
     handle: &mut Handle,
+    are_replaced: bool,
     input: &[u8],
     output: &mut [u8],
     needed: &mut usize,
 ) -> u32
     ensures status { IsStatus result (OverMapper (held_normalizers handle.old)
         ((output.new ≡ output.old) × (needed.new ≡ needed.old))
-        (WritesMapped Encoding.Utf8 IgnoredCharacters.Dropped input.now output.old output.new needed.old needed.new)) }
+        (WritesMapped Encoding.Utf8 (treatment are_replaced) input.now output.old output.new needed.old needed.new)) }
     ensures kept { held_normalizers handle.new ≡ held_normalizers handle.old }
 {
-    let ignored = IgnoredCharacters::Dropped;
+    let ignored = treatment(are_replaced);
     write(alloc, handle, &Mapped { ignored, input }, output, needed)
 }
 
-/// Writes what `input` decodes to, mapped and in NFC, in UTF-8. Ignored and disallowed characters become U+FFFD.
-/// `needed` is then how many units there are. Mapped text is valid only if this leaves it unchanged.
+/// Writes what `input` decodes to, mapped and in NFC, in UTF-16. Disallowed characters become U+FFFD, and ignored ones
+/// too if `are_replaced`; if not, they are dropped. `needed` is then how many units there are. Mapped text is valid only
+/// if this leaves it unchanged with `are_replaced`.
 ///
 /// # Errors
-/// `NotOpen`, `InUse`, `NoMapper`, `Memory`, or `BufferTooSmall`, after which `needed` is how many units there are.
-/// `output` is then unchanged.
-#[unsafe(no_mangle)]
-pub extern "C" fn icu_normalizer_validate_utf8_nonnull(
-    alloc: Global,
-    handle: &mut Handle,
-    input: &[u8],
-    output: &mut [u8],
-    needed: &mut usize,
-) -> u32
-    ensures status { IsStatus result (OverMapper (held_normalizers handle.old)
-        ((output.new ≡ output.old) × (needed.new ≡ needed.old))
-        (WritesMapped Encoding.Utf8 IgnoredCharacters.Replaced input.now output.old output.new needed.old needed.new)) }
-    ensures kept { held_normalizers handle.new ≡ held_normalizers handle.old }
-{
-    let ignored = IgnoredCharacters::Replaced;
-    write(alloc, handle, &Mapped { ignored, input }, output, needed)
-}
-
-/// Writes what `input` decodes to, mapped and in NFC, in UTF-16. Ignored characters are dropped, and disallowed ones
-/// become U+FFFD. `needed` is then how many units there are.
-///
-/// # Errors
-/// `NotOpen`, `InUse`, `NoMapper`, `Memory`, or `BufferTooSmall`, after which `needed` is how many units there are.
-/// `output` is then unchanged.
+/// `NotOpen`, `NoMapper`, `Memory`, or `BufferTooSmall`, after which `needed` is how many units there are. `output` is
+/// then unchanged.
 #[unsafe(no_mangle)]
 pub extern "C" fn icu_normalizer_map_utf16_nonnull(
     alloc: Global,
     handle: &mut Handle,
+    are_replaced: bool,
     input: &[u16],
     output: &mut [u16],
     needed: &mut usize,
 ) -> u32
     ensures status { IsStatus result (OverMapper (held_normalizers handle.old)
         ((output.new ≡ output.old) × (needed.new ≡ needed.old))
-        (WritesMapped Encoding.Utf16 IgnoredCharacters.Dropped input.now output.old output.new needed.old needed.new)) }
+        (WritesMapped Encoding.Utf16 (treatment are_replaced) input.now output.old output.new needed.old needed.new)) }
     ensures kept { held_normalizers handle.new ≡ held_normalizers handle.old }
 {
-    let ignored = IgnoredCharacters::Dropped;
-    write(alloc, handle, &Mapped { ignored, input }, output, needed)
-}
-
-/// Writes what `input` decodes to, mapped and in NFC, in UTF-16. Ignored and disallowed characters become U+FFFD.
-/// `needed` is then how many units there are. Mapped text is valid only if this leaves it unchanged.
-///
-/// # Errors
-/// `NotOpen`, `InUse`, `NoMapper`, `Memory`, or `BufferTooSmall`, after which `needed` is how many units there are.
-/// `output` is then unchanged.
-#[unsafe(no_mangle)]
-pub extern "C" fn icu_normalizer_validate_utf16_nonnull(
-    alloc: Global,
-    handle: &mut Handle,
-    input: &[u16],
-    output: &mut [u16],
-    needed: &mut usize,
-) -> u32
-    ensures status { IsStatus result (OverMapper (held_normalizers handle.old)
-        ((output.new ≡ output.old) × (needed.new ≡ needed.old))
-        (WritesMapped Encoding.Utf16 IgnoredCharacters.Replaced input.now output.old output.new
-        needed.old needed.new)) }
-    ensures kept { held_normalizers handle.new ≡ held_normalizers handle.old }
-{
-    let ignored = IgnoredCharacters::Replaced;
+    let ignored = treatment(are_replaced);
     write(alloc, handle, &Mapped { ignored, input }, output, needed)
 }
 

@@ -85,7 +85,7 @@ impl<'a> Question for FirstMismatch<&'a [u16]> {
 /// character found there and the one expected. At an ill-formed sequence, U+FFFD is found.
 ///
 /// # Errors
-/// `NotOpen`, `InUse`, `UnknownForm`, or `Memory`, which never comes over short runs. `reported` is then unchanged.
+/// `NotOpen`, `UnknownForm`, or `Memory`, which never comes over short runs. `reported` is then unchanged.
 #[unsafe(no_mangle)]
 pub extern "C" fn icu_normalizer_first_mismatch_utf8_nonnull(
     alloc: Global,
@@ -105,7 +105,7 @@ pub extern "C" fn icu_normalizer_first_mismatch_utf8_nonnull(
 /// character found there and the one expected. At an ill-formed sequence, U+FFFD is found.
 ///
 /// # Errors
-/// `NotOpen`, `InUse`, `UnknownForm`, or `Memory`, which never comes over short runs. `reported` is then unchanged.
+/// `NotOpen`, `UnknownForm`, or `Memory`, which never comes over short runs. `reported` is then unchanged.
 #[unsafe(no_mangle)]
 pub extern "C" fn icu_normalizer_first_mismatch_utf16_nonnull(
     alloc: Global,

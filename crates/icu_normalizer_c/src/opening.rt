@@ -1,50 +1,26 @@
 //! Opening and closing.
-ghost use Rattle.std.specs.Prelude.{◌≡◌, [], List, Ok};
+ghost use Rattle.std.specs.Prelude.{◌≡◌, List, None};
 ghost use Rattle.icu_normalizer.specs.Building.{Builds};
 ghost use Rattle.icu_normalizer.specs.Packed.{Packed};
 ghost use Rattle.icu_normalizer.specs.RecordValue.{RecordValue, Uts46RecordValue};
 ghost use Rattle.normalizer_handles.specs.Defects.{IsStatusReporting};
-ghost use Rattle.normalizer_handles.specs.Handles.{held_normalizers, Closes, Shares};
+ghost use Rattle.normalizer_handles.specs.Handles.{held_normalizers, Shares};
 ghost use Rattle.normalizer_handles.specs.Made.{AreReadBy};
-ghost use Rattle.normalizer_handles.specs.Opening.{both, indices_of, lines_of, of_idna_table, of_unicode_data};
-ghost use Rattle.normalizer_handles.specs.Opening.{Opens, OpensTo};
-ghost use Rattle.normalizer_handles.specs.PlainRecords.{entries_of, mapper_entries_of};
+ghost use Rattle.normalizer_handles.specs.Opening.{Holds, Opens};
 ghost use Rattle.normalizer_handles.specs.Prepared.{AreOfFile, IsFaultOfFile};
 ghost use Rattle.normalizer_prepared.specs.Prepared.{IsFileOf};
 ghost use Rattle.normalizer_handles.specs.Status.{IsStatus};
 ghost use Rattle.normalizer_handles.specs.declared.fault.Fault.TheVariants.{Memory};
 
-use normalizer_handles::{
-    Defect, Handle, PlainMapperRecord, PlainRecord, open_files, open_prepared, open_records,
-    open_unicode_data, status, status_reporting,
-};
+use normalizer_handles::{Defect, Handle, open_files, open_prepared, status, status_reporting};
 use std::alloc::Global;
-
-/// Opens normalizers by the bytes of `UnicodeData.txt` and `CompositionExclusions.txt`, with no mapper. What the handle
-/// had is closed.
-///
-/// # Errors
-/// `InUse`, `Line`, `Records` or `Memory`. The handle then has what it had.
-#[unsafe(no_mangle)]
-pub extern "C" fn icu_normalizer_open_unicode_data_nonnull(
-    alloc: Global,
-    handle: &mut Handle,
-    unicode_data: &[u8],
-    exclusions: &[u8],
-) -> u32
-    ensures { IsStatus result (Opens (lines_of unicode_data.now [])
-        (both (of_unicode_data unicode_data.now exclusions.now) (Ok []))
-        (held_normalizers handle.old) (held_normalizers handle.new)) }
-{
-    status(open_unicode_data(alloc, handle, unicode_data, exclusions))
-}
 
 /// Opens normalizers by the bytes of `UnicodeData.txt` and `CompositionExclusions.txt`, and their mapper by those of
 /// `IdnaMappingTable.txt`, without its disallowed ranges of more than `disallowed_limit` code points. If nothing is
 /// mapped, or there are no bytes, the handle has no mapper. What the handle had is closed.
 ///
 /// # Errors
-/// `InUse`, `Line`, `Records` or `Memory`. The handle then has what it had. `defect` says where a file is wrong, or
+/// `Line`, `Records` or `Memory`. The handle then has what it had. `defect` says where a file is wrong, or
 /// which line states the first record at fault.
 #[unsafe(no_mangle)]
 pub extern "C" fn icu_normalizer_open_files_nonnull(
@@ -56,9 +32,8 @@ pub extern "C" fn icu_normalizer_open_files_nonnull(
     disallowed_limit: u32,
     defect: &mut Defect,
 ) -> u32
-    ensures { IsStatusReporting result defect.old defect.new (Opens (lines_of unicode_data.now idna_table.now)
-        (both (of_unicode_data unicode_data.now exclusions.now)
-        (of_idna_table exclusions.now idna_table.now disallowed_limit))
+    ensures { IsStatusReporting result defect.old defect.new
+        (Opens unicode_data.now exclusions.now idna_table.now disallowed_limit
         (held_normalizers handle.old) (held_normalizers handle.new)) }
 {
     let outcome = open_files(
@@ -72,34 +47,11 @@ pub extern "C" fn icu_normalizer_open_files_nonnull(
     status_reporting(outcome, defect)
 }
 
-/// Opens normalizers from records of characters, and their mapper from records of the mapper. Mappings are parts of
-/// `codes`. Without records of the mapper there is none. What the handle had is closed.
-///
-/// # Errors
-/// `InUse`, `Record`, `MapperRecord`, `Records` or `Memory`. The handle then has what it had. `defect` says which
-/// record is wrong.
-#[unsafe(no_mangle)]
-pub extern "C" fn icu_normalizer_open_records_nonnull(
-    alloc: Global,
-    handle: &mut Handle,
-    records: &[PlainRecord],
-    mapper_records: &[PlainMapperRecord],
-    codes: &[u32],
-    defect: &mut Defect,
-) -> u32
-    ensures { IsStatusReporting result defect.old defect.new (Opens indices_of
-        (both (entries_of codes.now records.now) (mapper_entries_of codes.now mapper_records.now))
-        (held_normalizers handle.old) (held_normalizers handle.new)) }
-{
-    let outcome = open_records(alloc, handle, records, mapper_records, codes);
-    status_reporting(outcome, defect)
-}
-
 /// Opens normalizers by the bytes of a file of prepared data, and their mapper if its data aren't the canonical ones.
 /// What the handle had is closed.
 ///
 /// # Errors
-/// `InUse`, `Prepared`, `Unfit` or `Memory`. The handle then has what it had. `defect` says where the file is wrong, or
+/// `Prepared`, `Unfit` or `Memory`. The handle then has what it had. `defect` says where the file is wrong, or
 /// which condition its data break.
 #[unsafe(no_mangle)]
 pub extern "C" fn icu_normalizer_open_prepared_nonnull(
@@ -109,11 +61,11 @@ pub extern "C" fn icu_normalizer_open_prepared_nonnull(
     defect: &mut Defect,
 ) -> u32
     ensures file { IsStatusReporting result defect.old defect.new
-        (OpensTo (AreOfFile prepared.now) (IsFaultOfFile prepared.now)
+        (Holds (AreOfFile prepared.now) (IsFaultOfFile prepared.now)
         (held_normalizers handle.old) (held_normalizers handle.new)) }
     ensures records { (records : List RecordValue) (mapper : List Uts46RecordValue) (p : Packed) →
         Builds records mapper p → IsFileOf prepared.now p →
-        IsStatus result (OpensTo (AreReadBy records mapper) (λ fault. fault ≡ Memory)
+        IsStatus result (Holds (AreReadBy records mapper) (λ fault. fault ≡ Memory)
         (held_normalizers handle.old) (held_normalizers handle.new)) }
 {
     status_reporting(open_prepared(alloc, handle, prepared), defect)
@@ -122,7 +74,7 @@ pub extern "C" fn icu_normalizer_open_prepared_nonnull(
 /// Opens `to` by the data of `from`, which both then share: nothing is read or copied. What `to` had is closed.
 ///
 /// # Errors
-/// `NotOpen` or `InUse` of `from`, `InUse` of `to`, or `Memory`. `to` then has what it had.
+/// `NotOpen` or `Memory`. `to` then has what it had.
 #[unsafe(no_mangle)]
 pub extern "C" fn icu_normalizer_share_nonnull(
     alloc: Global,
@@ -136,11 +88,10 @@ pub extern "C" fn icu_normalizer_share_nonnull(
     status(from.share(alloc, to))
 }
 
-/// Closes the handle, which then has no normalizers. The last handle over the same data frees them. A handle that
-/// another call has in use is unchanged.
+/// Closes the handle, which then has no normalizers. The last handle over the same data frees them.
 #[unsafe(no_mangle)]
 pub extern "C" fn icu_normalizer_close_nonnull(alloc: Global, handle: &mut Handle)
-    ensures { Closes (held_normalizers handle.old) (held_normalizers handle.new) }
+    ensures { held_normalizers handle.new ≡ None }
 {
     handle.close(alloc);
 }

@@ -225,7 +225,7 @@ where
 /// Writes the form of what `input` decodes to, in UTF-8. `needed` is then how many units the form has.
 ///
 /// # Errors
-/// `NotOpen`, `InUse`, `UnknownForm`, `Memory`, which never comes over short runs, or `BufferTooSmall`, after which
+/// `NotOpen`, `UnknownForm`, `Memory`, which never comes over short runs, or `BufferTooSmall`, after which
 /// `needed` is how many units the form has. After the last two the beginning of `output` has a beginning of the form.
 #[unsafe(no_mangle)]
 pub extern "C" fn icu_normalizer_normalize_utf8_nonnull(
@@ -247,7 +247,7 @@ pub extern "C" fn icu_normalizer_normalize_utf8_nonnull(
 /// Writes the form of what `input` decodes to, in UTF-16. `needed` is then how many units the form has.
 ///
 /// # Errors
-/// `NotOpen`, `InUse`, `UnknownForm`, `Memory`, which never comes over short runs, or `BufferTooSmall`, after which
+/// `NotOpen`, `UnknownForm`, `Memory`, which never comes over short runs, or `BufferTooSmall`, after which
 /// `needed` is how many units the form has. After the last two the beginning of `output` has a beginning of the form.
 #[unsafe(no_mangle)]
 pub extern "C" fn icu_normalizer_normalize_utf16_nonnull(
@@ -270,7 +270,7 @@ pub extern "C" fn icu_normalizer_normalize_utf16_nonnull(
 /// `needed` is then how many units the form has.
 ///
 /// # Errors
-/// `NotOpen`, `InUse`, `UnknownForm`, `Memory`, which never comes over short runs, or `BufferTooSmall`, after which
+/// `NotOpen`, `UnknownForm`, `Memory`, which never comes over short runs, or `BufferTooSmall`, after which
 /// `needed` is how many units the form has. After the last two the beginning of `output` has a beginning of the form.
 #[unsafe(no_mangle)]
 pub extern "C" fn icu_normalizer_normalize_utf32_nonnull(

@@ -19,9 +19,10 @@ use Rattle.normalizer_handles.specs.declared.fault.Fault.{Fault}
 use Rattle.normalizer_handles.specs.declared.fault.Fault.TheVariants as faults
 use Rattle.normalizer_handles.specs.declared.normalizers.Normalizers.{Normalizers}
 use Rattle.normalizer_handles.specs.Made.{AreReadBy, MakeOver, MapOver}
-use Rattle.normalizer_handles.specs.Opening.{Holds, OpensTo}
-use Rattle.normalizer_prepared.specs.Prepared.{IsFileOf}
+use Rattle.normalizer_handles.specs.Opening.{Holds}
+use Rattle.normalizer_prepared.specs.Prepared.{prepared_in, IsFileOf}
 use Rattle.normalizer_handles.specs.Prepared.{forms, held_by, AreOfFile, IsFaultOfFile, Refuses}
+use Rattle.normalizer_handles.specs.Properties.{AreOver, RefusesProperties}
 
 module _ (records : List RecordValue) (mapper : List Uts46RecordValue) (p : Packed) (builds : Builds records mapper p)
     (bytes : List ℕ) (file : IsFileOf bytes p) where
@@ -31,17 +32,19 @@ module _ (records : List RecordValue) (mapper : List Uts46RecordValue) (p : Pack
 
   read-by : (n : Normalizers) → AreOfFile bytes n → AreReadBy records mapper n
   read-by n are =
-      let same : are.0 ≡ p = same_data bytes are.0 p are.1 file in
-      let makes : MakeOver n p = subst (λ (q : Packed). MakeOver n q) same are.2 in
-      let maps : MapOver n.mapper p = subst (λ (q : Packed). MapOver n.mapper q) same are.3 in (
+      let same : prepared_in are.held ≡ p = same_data bytes (prepared_in are.held) p (are.held, are.file, refl) file in
+      let makes : MakeOver n p = subst (λ (q : Packed). MakeOver n q) same are.make in
+      let maps : MapOver n.mapper p = subst (λ (q : Packed). MapOver n.mapper q) same are.map in (
         λ form. subst (IsRecordedForm records form) (sym (makes form))
             (packed_form-recorded records mapper p builds.means form),
         maps-by n.mapper maps,
+        (p, builds.means, subst (λ (q : Packed). AreOver n.properties q) same are.tell),
       )
 
   -- the data are refused by no constructor
   module _ (forms_never : (form : NormalForm) (e : DataError) → ¬ RefusesForm form (held_by p) e)
-      (mapper_never : (e : DataError) → ¬ RefusesMapper (Ok (characters_of p Mapper, p.compositions)) e) where
+      (mapper_never : (e : DataError) → ¬ RefusesMapper (Ok (characters_of p Mapper, p.compositions)) e)
+      (properties_never : (e : DataError) → ¬ RefusesProperties p e) where
     first-unrefused : (e : DataError) (fs : List NormalForm) → ¬ RefusesFirst (held_by p) fs e
     first-unrefused e [] h = absurd h
     first-unrefused e (f ∷ fs) (inl h) = forms_never f e h
@@ -49,7 +52,8 @@ module _ (records : List RecordValue) (mapper : List Uts46RecordValue) (p : Pack
 
     unrefused : (e : DataError) → ¬ Refuses p e
     unrefused e (inl h) = first-unrefused e forms h
-    unrefused e (inr h) = mapper_never e h.2
+    unrefused e (inr (serves, inl h)) = mapper_never e h.1
+    unrefused e (inr (serves, inr h)) = properties_never e h.1
 
     memory-only : (fault : Fault) → IsFaultOfFile bytes fault → fault ≡ faults.Memory
     memory-only faults.Memory h = refl
@@ -61,21 +65,12 @@ module _ (records : List RecordValue) (mapper : List Uts46RecordValue) (p : Pack
     memory-only faults.BufferTooSmall h = absurd h
     memory-only faults.UnknownForm h = absurd h
     memory-only faults.NotOpen h = absurd h
-    memory-only faults.InUse h = absurd h
     memory-only (faults.Line f) h = absurd h
     memory-only (faults.Records f) h = absurd h
     memory-only faults.NoMapper h = absurd h
-    memory-only (faults.Record index) h = absurd h
-    memory-only (faults.MapperRecord index) h = absurd h
 
-    holds-by : (before after : Result Normalizers Fault) (outcome : Result ⊤ Fault)
+    pub holds-by : (before after : Option Normalizers) (outcome : Result ⊤ Fault)
         → Holds (AreOfFile bytes) (IsFaultOfFile bytes) before after outcome
         → Holds (AreReadBy records mapper) (λ fault. fault ≡ faults.Memory) before after outcome
     holds-by before after (Ok done) h = (h.0, h.1, read-by h.0 h.2)
     holds-by before after (Err fault) h = (h.0, memory-only fault h.1)
-
-    pub opens-by : (before after : Result Normalizers Fault) (outcome : Result ⊤ Fault)
-        → OpensTo (AreOfFile bytes) (IsFaultOfFile bytes) before after outcome
-        → OpensTo (AreReadBy records mapper) (λ fault. fault ≡ faults.Memory) before after outcome
-    opens-by before after outcome (inl h) = inl h
-    opens-by before after outcome (inr h) = inr (h.0, holds-by before after outcome h.1)

@@ -1,4 +1,4 @@
--- Which form's constructor, or the mapper's, refuses data.
+-- Which constructor refuses data: of a form, of the mapper or of a property.
 use Rattle.std.proofs.Common.{◌≡◌, ◌≢◌, ◌⊎◌, ℕ, List, [], ◌∷◌, Ok, refl, inl, inr}
 use Rattle.icu_normalizer.specs.Form.TheVariants.{Decomposing}
 use Rattle.icu_normalizer.specs.Characters.{Characters}
@@ -17,7 +17,8 @@ use Rattle.icu_normalizer.specs.declared.any_normalizer.NormalForm.{NormalForm}
 use Rattle.icu_normalizer.specs.declared.any_normalizer.NormalForm.TheVariants.{Nfd, Nfc, Nfkd, Nfkc}
 use Rattle.icu_normalizer.proofs.acceptance.AllForms.{composing-refuses, DecomposesBy-composing}
 use Rattle.normalizer_prepared.specs.Prepared.{IsFileOf}
-use Rattle.normalizer_handles.specs.Prepared.{forms, held_by, IsFaultOfFile, Refuses}
+use Rattle.normalizer_handles.specs.Prepared.{forms, held_by, IsFaultOfFile, Refuses, SuitsMapper}
+use Rattle.normalizer_handles.specs.Properties.{RefusesProperties}
 use Rattle.normalizer_handles.specs.Status.{fault_of_data}
 
 module _ (p : Packed) (e : DataError) where
@@ -63,7 +64,12 @@ module _ (p : Packed) (e : DataError) where
       → Fails ((p.mapper ≢ p.canonical) × RefusesMapper (Ok (characters_of p Mapper, p.compositions)) e)
       → Fails (Refuses p e)
   mapper-refuses serves (inl h) = inl h
-  mapper-refuses serves (inr h) = inr (inr (serves, h.0, h.1))
+  mapper-refuses serves (inr h) = inr (inr (serves, inl h))
+
+  pub properties-refuse : ((form : NormalForm) → Serves held form) → SuitsMapper p → Fails (RefusesProperties p e)
+      → Fails (Refuses p e)
+  properties-refuse serves suits (inl h) = inl h
+  properties-refuse serves suits (inr h) = inr (inr (serves, inr (suits, h)))
 
 pub file-fault : (bytes : List ℕ) (p : Packed) (e : DataError) → IsFileOf bytes p
     → (e ≡ data_error.Memory) ⊎ Refuses p e

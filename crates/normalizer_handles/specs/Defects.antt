@@ -6,16 +6,14 @@ use Rattle.normalizer_prepared.specs.declared.fault.Fault.{Fault as FileFault}
 use Rattle.normalizer_prepared.specs.declared.fault.Fault.TheVariants as file_fault
 use Rattle.icu_normalizer.specs.RecordAtFault.{RecordAtFault}
 use Rattle.icu_normalizer.specs.RecordAtFault.TheVariants.{OfCharacter, OfMapper}
+use Rattle.normalizer_ucd.specs.declared.error.Place.{Place}
 use Rattle.normalizer_ucd.specs.declared.error.Problem.{Problem}
 use Rattle.normalizer_ucd.specs.declared.error.Problem.TheVariants as problems
 use Rattle.normalizer_ucd.specs.declared.error.UcdFile.{UcdFile}
 use Rattle.normalizer_ucd.specs.declared.error.UcdFile.TheVariants as files
 use Rattle.normalizer_handles.specs.declared.defect.Defect.{Defect}
 use Rattle.normalizer_handles.specs.declared.fault.Fault.{Fault}
-use Rattle.normalizer_handles.specs.declared.fault.Fault.TheVariants.{Line, Records, Record, MapperRecord, Prepared}
-use Rattle.normalizer_handles.specs.declared.fault.Fault.TheVariants.{Unfit}
-use Rattle.normalizer_handles.specs.declared.fault.RecordPlace.{RecordPlace}
-use Rattle.normalizer_handles.specs.declared.fault.RecordPlace.TheVariants as places
+use Rattle.normalizer_handles.specs.declared.fault.Fault.TheVariants.{Line, Records, Prepared, Unfit}
 use Rattle.normalizer_handles.specs.declared.fault.RecordsFault.{RecordsFault}
 use Rattle.normalizer_handles.specs.Status.{status_of}
 
@@ -77,24 +75,11 @@ character_at_fault (Some (OfCharacter c)) = c
 character_at_fault (Some (OfMapper c)) = c
 character_at_fault None = no_character
 
--- the records, of characters or of the mapper, that a record at fault is one of
-abbrev pub source_of_record : Option RecordAtFault → ℕ
-source_of_record (Some (OfCharacter c)) = 3
-source_of_record (Some (OfMapper c)) = 5
-source_of_record None = 4
-
 -- a defect of a record, or of all together if no place is known
-abbrev pub defect_at : RecordsFault → Option RecordPlace → Defect
-defect_at f (Some (places.Line p)) = record {
+abbrev pub defect_at : RecordsFault → Option Place → Defect
+defect_at f (Some p) = record {
   place = p.line;
   source = number_of_file p.file;
-  reason = number_of_error f.error;
-  character = character_at_fault f.at_fault;
-  condition = condition_of_error f.error;
-}
-defect_at f (Some (places.Index index)) = record {
-  place = index;
-  source = source_of_record f.at_fault;
   reason = number_of_error f.error;
   character = character_at_fault f.at_fault;
   condition = condition_of_error f.error;
@@ -115,8 +100,6 @@ defect_in place source reason condition =
 -- what is reported to the caller of data that are wrong; otherwise what it had stays
 abbrev pub defect_of : Fault → Defect → Defect
 defect_of (Line f) before = defect_in f.place.line (number_of_file f.place.file) (number_of_problem f.problem) 0
-defect_of (Record index) before = defect_in index 3 9 0
-defect_of (MapperRecord index) before = defect_in index 5 9 0
 defect_of (Records f) before = defect_at f f.place
 defect_of (Prepared fault offset) before = defect_in offset 6 (number_of_fault fault) 0
 defect_of (Unfit condition) before = defect_in 0 6 17 condition

@@ -3,7 +3,7 @@ pub mod FormNumbers
 pub mod Handles
 pub mod Made
 pub mod Opening
-pub mod PlainRecords
 pub mod Prepared
+pub mod Properties
 pub mod Slots
 pub mod Status

@@ -12,6 +12,7 @@ use Rattle.icu_normalizer.specs.declared.any_normalizer.NormalForm.{NormalForm}
 use Rattle.icu_normalizer.specs.declared.uts46.Uts46Mapper.{Uts46Mapper}
 use Rattle.normalizer_handles.specs.declared.normalizers.Normalizers.{Normalizers}
 use Rattle.normalizer_handles.specs.FormNumbers.{number_of}
+use Rattle.normalizer_handles.specs.Properties.{TellBy}
 
 -- the form that the normalizers make
 abbrev pub made_in : Normalizers → NormalForm → MadeForm
@@ -30,10 +31,11 @@ abbrev pub MapBy : Option Uts46Mapper → List RecordValue → List Uts46RecordV
 MapBy None records mapper = mapper ≡ []
 MapBy (Some m) records mapper = (mapper ≢ []) × MapsByRecords records mapper (mapper_data_of m)
 
--- the same, with a mapper or without one
+-- the same, with a mapper or without one, and properties are by what the records mean
 abbrev pub AreReadBy : List RecordValue → List Uts46RecordValue → Normalizers → Type 0
 AreReadBy records mapper n =
     MakeBy n records × IfSome n.mapper (λ m. MapsByRecords records mapper (mapper_data_of m))
+    × TellBy n.properties records mapper
 
 -- the four forms are those by packed data
 abbrev pub MakeOver : Normalizers → Packed → Type 0

@@ -12,12 +12,9 @@ use Rattle.normalizer_handles.specs.declared.fault.Fault.TheVariants.{
   Memory,
   UnknownForm,
   NotOpen,
-  InUse,
   Line,
   Records,
   NoMapper,
-  Record,
-  MapperRecord,
   Prepared,
   Unfit,
 }
@@ -30,9 +27,6 @@ number_of NotOpen = 4
 number_of (Line fault) = 5
 number_of (Records error) = 6
 number_of NoMapper = 7
-number_of (Record index) = 8
-number_of (MapperRecord index) = 8
-number_of InUse = 9
 number_of (Prepared fault offset) = 10
 number_of (Unfit condition) = 10
 

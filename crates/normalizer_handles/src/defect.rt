@@ -10,11 +10,10 @@ ghost use Rattle.normalizer_handles.specs.Defects.{
   number_of_fault,
   number_of_file,
   number_of_problem,
-  source_of_record,
 };
 ghost use Rattle.normalizer_handles.specs.Status.{status_of};
 
-use crate::fault::{Fault, RecordPlace, RecordsFault, status};
+use crate::fault::{Fault, RecordsFault, status};
 use icu_normalizer::{BuildError, RecordAtFault};
 use normalizer_prepared::Fault as FileFault;
 use normalizer_ucd::{Problem, UcdFile};
@@ -23,10 +22,9 @@ use normalizer_ucd::{Problem, UcdFile};
 #[repr(C)]
 #[derive(Clone, Copy)]
 pub struct Defect {
-    /// The line of a file, from 1; how many records come before a record; or how many bytes of a file of prepared data
-    /// come before what is wrong.
+    /// The line of a file, from 1; or how many bytes of a file of prepared data come before what is wrong.
     pub place: usize,
-    /// The number of a file, or of the records.
+    /// The number of a file, or of the records together.
     pub source: u32,
     /// The number of what is wrong.
     pub reason: u32,
@@ -121,17 +119,6 @@ fn character_at_fault(at_fault: Option<RecordAtFault>) -> u32
     }
 }
 
-/// The records that a record at fault is one of.
-fn source_of_record(at_fault: Option<RecordAtFault>) -> u32
-    ensures { result ≡ source_of_record at_fault }
-{
-    match at_fault {
-        Some(RecordAtFault::OfCharacter(_)) => 3,
-        Some(RecordAtFault::OfMapper(_)) => 5,
-        None => 4,
-    }
-}
-
 impl Defect {
     /// A defect of data at a place, of which no character is stated.
     fn at(place: usize, source: u32, reason: u32, condition: u32) -> Defect
@@ -151,8 +138,7 @@ impl Defect {
         ensures { result ≡ defect_at fault fault.place }
     {
         let (place, source) = match fault.place {
-            Some(RecordPlace::Line(place)) => (place.line, number_of_file(place.file)),
-            Some(RecordPlace::Index(index)) => (index, source_of_record(fault.at_fault)),
+            Some(place) => (place.line, number_of_file(place.file)),
             None => (0, 4),
         };
         Defect {
@@ -180,8 +166,6 @@ pub fn status_reporting(outcome: Result<(), Fault>, defect: &mut Defect) -> u32
                 0,
             );
         }
-        Err(Fault::Record(index)) => *defect = Defect::at(index, 3, 9, 0),
-        Err(Fault::MapperRecord(index)) => *defect = Defect::at(index, 5, 9, 0),
         Err(Fault::Records(fault)) => *defect = Defect::of_records(fault),
         Err(Fault::Prepared(fault, offset)) => {
             *defect = Defect::at(offset, 6, number_of_fault(fault), 0);

@@ -19,18 +19,12 @@ pub enum Fault {
     UnknownForm,
     /// The handle has no normalizers.
     NotOpen,
-    /// A call has the normalizers of the handle.
-    InUse,
     /// A line of a data file is wrong.
     Line(LineFault),
     /// The records can't be built.
     Records(RecordsFault),
     /// The handle has no mapper.
     NoMapper,
-    /// The record after so many is wrong.
-    Record(usize),
-    /// The record of the mapper after so many is wrong.
-    MapperRecord(usize),
     /// A file of prepared data has a fault at this offset.
     Prepared(FileFault, usize),
     /// Its data break the written condition of this number.
@@ -44,17 +38,8 @@ pub struct RecordsFault {
     pub error: BuildError,
     /// The first record at fault, if a single one is.
     pub at_fault: Option<RecordAtFault>,
-    /// Its place, if that is known.
-    pub place: Option<RecordPlace>,
-}
-
-/// The place of a record.
-#[derive(Clone, Copy, Debug, PartialEq, Eq)]
-pub enum RecordPlace {
-    /// The line that states it.
-    Line(Place),
-    /// How many records come before it.
-    Index(usize),
+    /// The line that states it, if that is known.
+    pub place: Option<Place>,
 }
 
 impl Fault {
@@ -70,8 +55,6 @@ impl Fault {
             Fault::Line(_) => 5,
             Fault::Records(_) => 6,
             Fault::NoMapper => 7,
-            Fault::Record(_) | Fault::MapperRecord(_) => 8,
-            Fault::InUse => 9,
             Fault::Prepared(..) | Fault::Unfit(_) => 10,
         }
     }

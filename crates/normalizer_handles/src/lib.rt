@@ -1,5 +1,4 @@
-//! What C keeps of normalizers, and how it is opened: from Unicode's files, from a file
-//! of prepared data, or from records from C.
+//! What C keeps of normalizers, and how it is opened: from Unicode's files, or from a file of prepared data.
 #![tactic(auto)]
 
 mod box_parts;
@@ -7,20 +6,19 @@ mod defect;
 mod fault;
 mod form;
 mod handle;
-mod mapper_records;
+mod mapper_ranges;
 mod normalizers;
 mod opening;
 mod owner;
-mod plain_records;
-mod record_places;
+mod properties;
 mod slot;
 #[cfg(test)]
 mod tests;
 
 pub use defect::{Defect, status_reporting};
-pub use fault::{Fault, RecordPlace, RecordsFault, status};
+pub use fault::{Fault, RecordsFault, status};
 pub use handle::{Handle, handle_crosses};
-pub use normalizers::Normalizers;
-pub use opening::{open_files, open_prepared, open_records, open_unicode_data};
+pub use normalizers::{Normalizers, Version};
+pub use opening::{open_files, open_prepared};
 pub use owner::Owner;
-pub use plain_records::{PlainMapperRecord, PlainRecord};
+pub use properties::Properties;

@@ -1,33 +1,44 @@
-//! Normalizers to the four forms and a mapper, over the same data.
+//! Normalizers to the four forms, a mapper and properties of characters, over the same data.
 ghost use Rattle.std.specs.Prelude.{◌≡◌, ◌≢◌, ◌⊎◌, ◌<◌, IfErr, IfOk, IsOkUnless, List, MatchResult, Ok};
+ghost use Rattle.std.specs.List.{flat_map};
 ghost use Rattle.icu_normalizer.specs.AnyNormalizers.{made_by_borrowed};
 ghost use Rattle.icu_normalizer.specs.Building.{Builds};
 ghost use Rattle.icu_normalizer.specs.Built.{AreBuilt, data_in};
 ghost use Rattle.icu_normalizer.specs.HeldForms.{RefusesMapper};
 ghost use Rattle.icu_normalizer.specs.Kind.TheVariants.{Mapper};
+ghost use Rattle.icu_normalizer.specs.MapperRanges.{entries_of};
 ghost use Rattle.icu_normalizer.specs.ReadBack.{characters_of};
 ghost use Rattle.icu_normalizer.specs.RecordValue.{RecordValue};
 ghost use Rattle.normalizer_prepared.specs.Prepared.{prepared_in};
 ghost use Rattle.normalizer_handles.specs.FormNumbers.{last_form};
 ghost use Rattle.normalizer_handles.specs.declared.fault.Fault.TheVariants.{UnknownForm};
 ghost use Rattle.normalizer_handles.specs.Made.{IsNumbered, MakeBy, MakeOver, MapBy, MapOver};
-ghost use Rattle.normalizer_handles.specs.Prepared.{Refuses};
+ghost use Rattle.normalizer_handles.specs.Prepared.{Refuses, SuitsMapper};
+ghost use Rattle.normalizer_handles.specs.Properties.{AreOver, TellBy};
 
 use crate::fault::Fault;
 use crate::form::form_numbered;
-use crate::mapper_records::MapperRecords;
+use crate::mapper_ranges::list_nothing;
+use crate::properties::Properties;
 use icu_normalizer::uts46::Uts46Mapper;
 use icu_normalizer::{
     AllNormalizers, AnyNormalizerBorrowed, Built, DataError, FormData, MappingData, NormalizeError,
-    built_mapper, normalizers_over,
+    Uts46Range, built_mapper, normalizers_over,
 };
 use normalizer_prepared::PreparedData;
 
-/// Normalizers to the four forms, over the same data, and a mapper if the data have one.
+/// A version of Unicode, or 0.0.0.
+pub type Version = (u32, u32, u32);
+
+/// Normalizers to the four forms, over the same data, a mapper if the data have one, and properties of characters.
 pub struct Normalizers {
     pub(crate) forms: AllNormalizers,
     /// The mapper, if the data have one.
     pub mapper: Option<Uts46Mapper>,
+    /// Classes, pairs and steps.
+    pub properties: Properties,
+    /// The version of Unicode that the data state, or 0.0.0.
+    pub version: Version,
 }
 
 // Written out, so that each place that drops one makes one call.
@@ -36,26 +47,41 @@ impl Drop for Normalizers {
         let Normalizers {
             forms: _forms,
             mapper: _mapper,
+            properties: _properties,
+            version: _version,
         } = self;
     }
 }
 
 impl Normalizers {
-    /// Returns the normalizers over built data, and their mapper if it has these records.
-    pub(crate) fn over<M: MapperRecords>(
+    /// Returns the normalizers over built data, and their mapper if it has the records that these ranges list.
+    pub(crate) fn over(
         built: &Built,
-        mapper: M,
+        mapper: &[Uts46Range],
+        version: Version,
     ) -> Result<Normalizers, NormalizeError>
         requires { AreBuilt (data_in built.now) }
-        ensures makes { (records : List RecordValue) → Builds records (M.listed mapper) (data_in built.now) →
-            IfOk result (λ n. MakeBy n records) }
-        ensures maps { (records : List RecordValue) → Builds records (M.listed mapper) (data_in built.now) →
-            IfOk result (λ n. MapBy n.mapper records (M.listed mapper)) }
+        ensures makes { (records : List RecordValue) →
+            Builds records (flat_map entries_of mapper.now) (data_in built.now) → IfOk result (λ n. MakeBy n records) }
+        ensures maps { (records : List RecordValue) →
+            Builds records (flat_map entries_of mapper.now) (data_in built.now) →
+            IfOk result (λ n. MapBy n.mapper records (flat_map entries_of mapper.now)) }
+        ensures tell { (records : List RecordValue) →
+            Builds records (flat_map entries_of mapper.now) (data_in built.now) →
+            IfOk result (λ n. TellBy n.properties records (flat_map entries_of mapper.now)) }
+        ensures version { IfOk result (λ n. n.version ≡ version) }
         ensures refused { IsOkUnless result NormalizeError.Memory }
     {
+        let forms = normalizers_over(built)?;
+        let mapper = mapper_over(built, mapper)?;
+        let Ok(properties) = Properties::over_built(built) else {
+            return Err(NormalizeError::Memory);
+        };
         Ok(Normalizers {
-            forms: normalizers_over(built)?,
-            mapper: mapper_over(built, mapper)?,
+            forms,
+            mapper,
+            properties,
+            version,
         })
     }
 
@@ -63,11 +89,15 @@ impl Normalizers {
     pub(crate) fn over_prepared(prepared: &PreparedData) -> Result<Normalizers, DataError>
         ensures makes { IfOk result (λ n. MakeOver n (prepared_in prepared.now)) }
         ensures maps { IfOk result (λ n. MapOver n.mapper (prepared_in prepared.now)) }
+        ensures tell { IfOk result (λ n. AreOver n.properties (prepared_in prepared.now)) }
+        ensures version { IfOk result (λ n. n.version ≡ prepared.now.version) }
         ensures refused { IfErr result (λ e. (e ≡ DataError.Memory) ⊎ Refuses (prepared_in prepared.now) e) }
     {
         Ok(Normalizers {
             forms: prepared.built.normalizers()?,
             mapper: prepared_mapper(prepared)?,
+            properties: Properties::over(&prepared.built)?,
+            version: prepared.version,
         })
     }
 
@@ -86,17 +116,15 @@ impl Normalizers {
     }
 }
 
-/// Returns the mapper over built data, if it has these records.
-fn mapper_over<M: MapperRecords>(
-    built: &Built,
-    mapper: M,
-) -> Result<Option<Uts46Mapper>, NormalizeError>
+/// Returns the mapper over built data, if it has the records that these ranges list.
+fn mapper_over(built: &Built, mapper: &[Uts46Range]) -> Result<Option<Uts46Mapper>, NormalizeError>
     requires { AreBuilt (data_in built.now) }
-    ensures maps { (records : List RecordValue) → Builds records (M.listed mapper) (data_in built.now) →
-        IfOk result (λ m. MapBy m records (M.listed mapper)) }
+    ensures maps { (records : List RecordValue) →
+        Builds records (flat_map entries_of mapper.now) (data_in built.now) →
+        IfOk result (λ m. MapBy m records (flat_map entries_of mapper.now)) }
     ensures refused { IsOkUnless result NormalizeError.Memory }
 {
-    if mapper.is_empty() {
+    if list_nothing(mapper) {
         return Ok(None);
     }
     match built_mapper(built) {
@@ -108,6 +136,7 @@ fn mapper_over<M: MapperRecords>(
 /// Returns the mapper over the data of a file, if its data aren't the canonical ones.
 fn prepared_mapper(prepared: &PreparedData) -> Result<Option<Uts46Mapper>, DataError>
     ensures maps { IfOk result (λ m. MapOver m (prepared_in prepared.now)) }
+    ensures suits { IfOk result (λ m. SuitsMapper (prepared_in prepared.now)) }
     ensures refused { let p = prepared_in prepared.now in IfErr result (λ e. (e ≡ DataError.Memory)
         ⊎ ((p.mapper ≢ p.canonical) × RefusesMapper (Ok (characters_of p Mapper, p.compositions)) e)) }
 {

@@ -1,79 +1,50 @@
 //! Opening a handle.
-ghost use Rattle.std.specs.Prelude.{◌≡◌, [], IfOk, List, MatchResult, Ok};
+ghost use Rattle.std.specs.Prelude.{◌≡◌, IfOk, List, MatchResult, Some};
 ghost use Rattle.std.specs.List.{flat_map};
 ghost use Rattle.std.specs.Option.{option_and_then};
+ghost use Rattle.icu_normalizer.specs.AtFault.{IsFirstAtFault};
 ghost use Rattle.icu_normalizer.specs.Building.{Builds, IsSmallest};
-ghost use Rattle.icu_normalizer.specs.MapperRanges.{entries_of as entries_of_range};
+ghost use Rattle.icu_normalizer.specs.MapperRanges.{entries_of};
 ghost use Rattle.icu_normalizer.specs.Packed.{Packed};
 ghost use Rattle.icu_normalizer.specs.RecordValue.{RecordValue, Uts46RecordValue};
-ghost use Rattle.icu_normalizer.specs.AtFault.{IsFirstAtFault};
 ghost use Rattle.normalizer_handles.specs.Handles.{held_normalizers};
-ghost use Rattle.normalizer_handles.specs.Made.{AreReadBy, MakeBy, MapBy};
+ghost use Rattle.normalizer_handles.specs.Made.{AreReadBy};
 ghost use Rattle.normalizer_handles.specs.Opening.{
-  both,
-  indices_of,
-  lines_of,
   of_idna_table,
   of_unicode_data,
+  version_of,
+  AreBy,
   Holds,
   IsBuildFault,
   Opens,
-  OpensTo,
   Reads,
 };
-ghost use Rattle.normalizer_handles.specs.PlainRecords.{entries_of, mapper_entries_of};
 ghost use Rattle.normalizer_handles.specs.Prepared.{AreOfFile, IsFaultOfFile};
-ghost use Rattle.normalizer_prepared.specs.Prepared.{IsFileOf};
 ghost use Rattle.normalizer_handles.specs.declared.fault.Fault.TheVariants.{Memory};
+ghost use Rattle.normalizer_prepared.specs.Prepared.{IsFileOf};
+ghost use Rattle.normalizer_ucd.specs.RecordPlaces.{place_of_record};
 
 use crate::fault::{Fault, RecordsFault};
 use crate::handle::Handle;
-use crate::mapper_records::MapperRecords;
-use crate::normalizers::Normalizers;
+use crate::normalizers::{Normalizers, Version};
 use crate::owner::Owner;
-use crate::plain_records::{PlainMapperRecord, PlainRecord, records_of_plain};
-use crate::record_places::{Indices, Lines, RecordPlaces};
 use icu_normalizer::record_laws::{
     data_that_meet_conditions_are_accepted, what_is_built_is_accepted,
 };
-use icu_normalizer::{BuildError, Record, Uts46Range, Uts46Record};
+use icu_normalizer::{BuildError, Record, Records, Uts46Range, records_of_ranges};
 use normalizer_prepared::PreparedData;
-use normalizer_ucd::{Disallowed, records_of_unicode_data, uts46_ranges_beside_exclusions};
+use normalizer_ucd::{
+    Disallowed, place_of_record, records_of_unicode_data, stated_version,
+    uts46_ranges_beside_exclusions,
+};
 use std::alloc::{AllocError, Global};
-
-/// Opens normalizers by the bytes of `UnicodeData.txt` and `CompositionExclusions.txt`, with no mapper. What the handle
-/// had is dropped.
-///
-/// # Errors
-/// `InUse`, `Line`, `Records` or `Memory`. The handle then has what it had.
-pub fn open_unicode_data(
-    alloc: Global,
-    handle: &mut Handle,
-    unicode_data: &[u8],
-    exclusions: &[u8],
-) -> Result<(), Fault>
-    ensures { Opens (lines_of unicode_data.now []) (both (of_unicode_data unicode_data.now exclusions.now) (Ok []))
-        (held_normalizers handle.old) (held_normalizers handle.new) result }
-{
-    if handle.is_in_use() {
-        return Err(Fault::InUse);
-    }
-    let records = unicode_data_records(alloc, unicode_data, exclusions)?;
-    let idna_table: &[u8] = &[];
-    let lines = Lines {
-        unicode_data,
-        idna_table,
-    };
-    let mapper: &[Uts46Record] = &[];
-    open(alloc, handle, &records, mapper, &lines)
-}
 
 /// Opens normalizers by the bytes of `UnicodeData.txt` and `CompositionExclusions.txt`, and their mapper by those of
 /// `IdnaMappingTable.txt`, without its disallowed ranges of more than `disallowed_limit` code points. If nothing is
 /// mapped, or there are no bytes, the handle has no mapper. What the handle had is dropped.
 ///
 /// # Errors
-/// `InUse`, `Line`, `Records` or `Memory`. The handle then has what it had.
+/// `Line`, `Records` or `Memory`. The handle then has what it had.
 pub fn open_files(
     alloc: Global,
     handle: &mut Handle,
@@ -82,65 +53,33 @@ pub fn open_files(
     idna_table: &[u8],
     disallowed_limit: u32,
 ) -> Result<(), Fault>
-    ensures { Opens (lines_of unicode_data.now idna_table.now)
-        (both (of_unicode_data unicode_data.now exclusions.now)
-        (of_idna_table exclusions.now idna_table.now disallowed_limit))
+    ensures { Opens unicode_data.now exclusions.now idna_table.now disallowed_limit
         (held_normalizers handle.old) (held_normalizers handle.new) result }
 {
-    if handle.is_in_use() {
-        return Err(Fault::InUse);
-    }
     let records = unicode_data_records(alloc, unicode_data, exclusions)?;
     let mapper = idna_table_ranges(alloc, exclusions, idna_table, disallowed_limit)?;
+    let version = version_of(alloc, exclusions)?;
     let lines = Lines {
         unicode_data,
         idna_table,
     };
-    open(alloc, handle, &records, mapper.as_slice(), &lines)
-}
-
-/// Opens normalizers from records of characters, and their mapper from records of the mapper. Mappings are parts of
-/// `codes`. Without records of the mapper there is none. What the handle had is dropped.
-///
-/// # Errors
-/// `InUse`, `Record`, `MapperRecord`, `Records` or `Memory`. The handle then has what it had.
-pub fn open_records(
-    alloc: Global,
-    handle: &mut Handle,
-    records: &[PlainRecord],
-    mapper_records: &[PlainMapperRecord],
-    codes: &[u32],
-) -> Result<(), Fault>
-    ensures { Opens indices_of
-        (both (entries_of codes.now records.now) (mapper_entries_of codes.now mapper_records.now))
-        (held_normalizers handle.old) (held_normalizers handle.new) result }
-{
-    if handle.is_in_use() {
-        return Err(Fault::InUse);
-    }
-    let records = records_of_plain(alloc, codes, records)?;
-    let mapper = records_of_plain(alloc, codes, mapper_records)?;
-    let indices = Indices {
-        records: &records,
-        mapper: &mapper,
-    };
-    open(alloc, handle, &records, mapper.as_slice(), &indices)
+    open(alloc, handle, &records, &mapper, version, &lines)
 }
 
 /// Opens normalizers by the bytes of a file of prepared data, and their mapper if its data aren't the canonical ones.
 /// What the handle had is dropped.
 ///
 /// # Errors
-/// `InUse`, `Prepared`, `Unfit` or `Memory`. The handle then has what it had.
+/// `Prepared`, `Unfit` or `Memory`. The handle then has what it had.
 pub fn open_prepared(alloc: Global, handle: &mut Handle, prepared: &[u8]) -> Result<(), Fault>
     // By the data whose file it is.
-    ensures file { OpensTo (AreOfFile prepared.now) (IsFaultOfFile prepared.now)
+    ensures file { Holds (AreOfFile prepared.now) (IsFaultOfFile prepared.now)
         (held_normalizers handle.old) (held_normalizers handle.new) result }
 
     // By the records that these data were built from.
     ensures records { (records : List RecordValue) (mapper : List Uts46RecordValue) (p : Packed) →
         Builds records mapper p → IsFileOf prepared.now p →
-        OpensTo (AreReadBy records mapper) (λ fault. fault ≡ Memory)
+        Holds (AreReadBy records mapper) (λ fault. fault ≡ Memory)
         (held_normalizers handle.old) (held_normalizers handle.new) result }
 {
     what_is_built_is_accepted();
@@ -149,12 +88,9 @@ pub fn open_prepared(alloc: Global, handle: &mut Handle, prepared: &[u8]) -> Res
 }
 
 fn open_file(alloc: Global, handle: &mut Handle, prepared: &[u8]) -> Result<(), Fault>
-    ensures { OpensTo (AreOfFile prepared.now) (IsFaultOfFile prepared.now)
+    ensures { Holds (AreOfFile prepared.now) (IsFaultOfFile prepared.now)
         (held_normalizers handle.old) (held_normalizers handle.new) result }
 {
-    if handle.is_in_use() {
-        return Err(Fault::InUse);
-    }
     let normalizers = normalizers_of_file(alloc, prepared)?;
     hold(alloc, handle, normalizers)
 }
@@ -175,7 +111,7 @@ fn idna_table_ranges(
     idna_table: &[u8],
     disallowed_limit: u32,
 ) -> Result<Vec<Uts46Range>, Fault>
-    ensures { Reads (λ v. flat_map entries_of_range v.items) result
+    ensures { Reads (λ v. flat_map entries_of v.items) result
         (of_idna_table exclusions.now idna_table.now disallowed_limit) }
 {
     if idna_table.is_empty() {
@@ -185,25 +121,44 @@ fn idna_table_ranges(
     Ok(uts46_ranges_beside_exclusions(alloc, exclusions, idna_table, disallowed)?)
 }
 
-/// Opens what records build.
-fn open<M: MapperRecords, P: RecordPlaces>(
+/// The version of Unicode that exclusions state, or 0.0.0.
+fn version_of(alloc: Global, exclusions: &[u8]) -> Result<Version, AllocError>
+    ensures { IfOk result (λ version. version ≡ version_of exclusions.now) }
+{
+    match stated_version(alloc, exclusions)? {
+        Some(version) => Ok((version.major, version.minor, version.update)),
+        None => Ok((0, 0, 0)),
+    }
+}
+
+/// The files whose lines state records.
+#[derive(Drop)]
+struct Lines<'a> {
+    unicode_data: &'a [u8],
+    idna_table: &'a [u8],
+}
+
+/// Opens what records build, those of the mapper by ranges.
+fn open(
     alloc: Global,
     handle: &mut Handle,
     records: &[Record],
-    mapper: M,
-    places: &P,
+    mapper: &[Uts46Range],
+    version: Version,
+    lines: &Lines<'_>,
 ) -> Result<(), Fault>
-    ensures { Holds (λ n. MakeBy n records.now × MapBy n.mapper records.now (M.listed mapper))
-        (IsBuildFault (P.places places.now) records.now (M.listed mapper))
+    ensures { Holds (AreBy records.now (flat_map entries_of mapper.now) version)
+        (IsBuildFault (place_of_record lines.now.unicode_data.now lines.now.idna_table.now) records.now
+        (flat_map entries_of mapper.now))
         (held_normalizers handle.old) (held_normalizers handle.new) result }
 {
-    let normalizers = normalizers_of(alloc, records, mapper, places)?;
+    let normalizers = normalizers_of(alloc, records, mapper, version, lines)?;
     hold(alloc, handle, normalizers)
 }
 
 /// Puts the only share in normalizers into a handle.
 fn hold(alloc: Global, handle: &mut Handle, normalizers: Normalizers) -> Result<(), Fault>
-    ensures { MatchResult result (λ _. held_normalizers handle.new ≡ Ok normalizers)
+    ensures { MatchResult result (λ _. held_normalizers handle.new ≡ Some normalizers)
         (λ fault. (held_normalizers handle.new ≡ held_normalizers handle.old) × (fault ≡ Memory)) }
 {
     let owner = Owner::of(alloc, normalizers)?;
@@ -211,56 +166,61 @@ fn hold(alloc: Global, handle: &mut Handle, normalizers: Normalizers) -> Result<
     Ok(())
 }
 
-fn normalizers_of<M: MapperRecords, P: RecordPlaces>(
+fn normalizers_of(
     alloc: Global,
     records: &[Record],
-    mapper: M,
-    places: &P,
+    mapper: &[Uts46Range],
+    version: Version,
+    lines: &Lines<'_>,
 ) -> Result<Normalizers, Fault>
-    ensures { MatchResult result (λ n. MakeBy n records.now × MapBy n.mapper records.now (M.listed mapper))
-        (IsBuildFault (P.places places.now) records.now (M.listed mapper)) }
+    ensures { MatchResult result (AreBy records.now (flat_map entries_of mapper.now) version)
+        (IsBuildFault (place_of_record lines.now.unicode_data.now lines.now.idna_table.now) records.now
+        (flat_map entries_of mapper.now)) }
 {
-    match mapper.build(alloc, records) {
-        Ok(built) => Ok(Normalizers::over(&built, mapper)?),
-        Err(error) => Err(build_fault(alloc, records, mapper, places, error)),
+    match Records::build_of_ranges(alloc, records, mapper) {
+        Ok(built) => Ok(Normalizers::over(&built, mapper, version)?),
+        Err(error) => Err(build_fault(alloc, records, mapper, lines, error)),
     }
 }
 
 /// Why records aren't built.
-fn build_fault<M: MapperRecords, P: RecordPlaces>(
+fn build_fault(
     alloc: Global,
     records: &[Record],
-    mapper: M,
-    places: &P,
+    mapper: &[Uts46Range],
+    lines: &Lines<'_>,
     error: BuildError,
 ) -> Fault
-    requires { IsSmallest records.now (M.listed mapper) error }
-    ensures { IsBuildFault (P.places places.now) records.now (M.listed mapper) result }
+    requires { IsSmallest records.now (flat_map entries_of mapper.now) error }
+    ensures { IsBuildFault (place_of_record lines.now.unicode_data.now lines.now.idna_table.now) records.now
+        (flat_map entries_of mapper.now) result }
 {
     if matches!(error, BuildError::Memory) {
         return Fault::Memory;
     }
-    match records_fault(alloc, records, mapper, places, error) {
+    match records_fault(alloc, records, mapper, lines, error) {
         Ok(fault) => Fault::Records(fault),
         Err(_) => Fault::Memory,
     }
 }
 
-/// The first record at fault, and its place.
-fn records_fault<M: MapperRecords, P: RecordPlaces>(
+/// The first record at fault, and its line. Only this makes a list of all records of the mapper.
+fn records_fault(
     alloc: Global,
     records: &[Record],
-    mapper: M,
-    places: &P,
+    mapper: &[Uts46Range],
+    lines: &Lines<'_>,
     error: BuildError,
 ) -> Result<RecordsFault, AllocError>
-    requires { IsSmallest records.now (M.listed mapper) error }
-    ensures { IfOk result (λ f. (f.error ≡ error) × IsFirstAtFault records.now (M.listed mapper) error f.at_fault
-        × (f.place ≡ option_and_then (P.places places.now) f.at_fault)) }
+    requires { IsSmallest records.now (flat_map entries_of mapper.now) error }
+    ensures { IfOk result (λ f. (f.error ≡ error)
+        × IsFirstAtFault records.now (flat_map entries_of mapper.now) error f.at_fault
+        × (f.place ≡ option_and_then (place_of_record lines.now.unicode_data.now lines.now.idna_table.now) f.at_fault)) }
 {
-    let at_fault = mapper.first_at_fault(alloc, records, error)?;
+    let listed = records_of_ranges(alloc, mapper)?;
+    let at_fault = Records::first_at_fault(alloc, records, &listed, error)?;
     let place = match at_fault {
-        Some(at_fault) => places.place(alloc, at_fault)?,
+        Some(at_fault) => place_of_record(alloc, lines.unicode_data, lines.idna_table, at_fault)?,
         None => None,
     };
     Ok(RecordsFault {

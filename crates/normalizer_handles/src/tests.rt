@@ -1,42 +1,24 @@
 //! Handles opened, shared and closed: `.ci/frees` counts what each test allocates and frees.
 
 use crate::handle::Handle;
-use crate::opening::open_records;
-use crate::plain_records::PlainRecord;
+use crate::opening::open_files;
 use std::alloc::Global;
 
-const CODES: [u32; 2] = [0x61, 0x308];
+const UNICODE_DATA: &[u8] = b"00E4;;;0;;0061 0308;;;;;;;;;\n0308;;;230;;;;;;;;;;;\n# EOF\n";
 
-const RECORDS: [PlainRecord; 2] = [
-    PlainRecord {
-        mapping_start: 0,
-        mapping_length: 2,
-        character: 0xE4,
-        class: 0,
-        is_compatibility: false,
-        is_excluded: false,
-    },
-    PlainRecord {
-        mapping_start: 0,
-        mapping_length: 0,
-        character: 0x308,
-        class: 230,
-        is_compatibility: false,
-        is_excluded: false,
-    },
-];
+const EXCLUSIONS: &[u8] = b"# EOF\n";
 
-/// Opens a handle, if `codes` has the mappings of the records.
-fn is_opened(alloc: Global, handle: &mut Handle, codes: &[u32]) -> bool {
-    open_records(alloc, handle, &RECORDS, &[], codes).is_ok()
+/// Opens a handle, if the data aren't cut off.
+fn is_opened(alloc: Global, handle: &mut Handle, unicode_data: &[u8]) -> bool {
+    open_files(alloc, handle, unicode_data, EXCLUSIONS, &[], 0).is_ok()
 }
 
 /// Opens a handle twice, then fails to, and closes it twice.
 fn is_opened_twice(alloc: Global) -> bool {
     let mut handle = Handle::closed(alloc);
     handle.close(alloc);
-    let done = is_opened(alloc, &mut handle, &CODES)
-        && is_opened(alloc, &mut handle, &CODES)
+    let done = is_opened(alloc, &mut handle, UNICODE_DATA)
+        && is_opened(alloc, &mut handle, UNICODE_DATA)
         && !is_opened(alloc, &mut handle, &[]);
     handle.close(alloc);
     handle.close(alloc);
@@ -49,33 +31,31 @@ fn is_shared(alloc: Global) -> bool {
     let mut second = Handle::closed(alloc);
     let mut third = Handle::closed(alloc);
     let done = first.share(alloc, &mut second).is_err()
-        && is_opened(alloc, &mut first, &CODES)
-        && is_opened(alloc, &mut third, &CODES)
+        && is_opened(alloc, &mut first, UNICODE_DATA)
+        && is_opened(alloc, &mut third, UNICODE_DATA)
         && first.share(alloc, &mut second).is_ok()
         && second.share(alloc, &mut third).is_ok()
         && third.share(alloc, &mut second).is_ok()
-        && is_opened(alloc, &mut second, &CODES);
+        && is_opened(alloc, &mut second, UNICODE_DATA);
     first.close(alloc);
     third.close(alloc);
     second.close(alloc);
     done
 }
 
-/// Takes what a handle has, and puts it back: until then it is in use.
+/// Takes what a handle has, and puts it back in place of what was opened meanwhile.
 fn is_taken_and_put_back(alloc: Global) -> bool {
     let mut handle = Handle::closed(alloc);
     let mut other = Handle::closed(alloc);
-    let opened = is_opened(alloc, &mut handle, &CODES);
+    let opened = is_opened(alloc, &mut handle, UNICODE_DATA);
     let Ok(owner) = handle.take(alloc) else {
         return false;
     };
-    handle.close(alloc);
-    let in_use = !is_opened(alloc, &mut handle, &CODES)
-        && handle.share(alloc, &mut other).is_err()
-        && other.share(alloc, &mut handle).is_err();
+    let is_closed = handle.share(alloc, &mut other).is_err();
+    let again = is_opened(alloc, &mut handle, UNICODE_DATA);
     handle.put(owner);
     handle.close(alloc);
-    opened && in_use
+    opened && is_closed && again
 }
 
 #[test]
@@ -89,6 +69,6 @@ fn shared_handles_free_all(rt: HostRuntime) {
 }
 
 #[test]
-fn a_handle_in_use_keeps_what_it_had(rt: HostRuntime) {
+fn what_is_put_back_frees_what_was_there(rt: HostRuntime) {
     assert!(rt; is_taken_and_put_back(rt.alloc()));
 }

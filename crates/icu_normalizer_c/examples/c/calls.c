@@ -54,6 +54,12 @@ static void closed(icu_normalizer *normalizer) {
         == ICU_NORMALIZER_NOT_OPEN);
     EXPECT(output[0] == 1 && number == 7 && is && mismatch.exists && mismatch.offset == 9);
     EXPECT(icu_normalizer_map_utf8(normalizer, NULL, 0, output, 4, &number) == ICU_NORMALIZER_NOT_OPEN && number == 7);
+    uint32_t first = 7, second = 8;
+    EXPECT(icu_normalizer_combining_class(normalizer, 0x308, output) == ICU_NORMALIZER_NOT_OPEN && output[0] == 1);
+    EXPECT(icu_normalizer_compose(normalizer, 0x61, 0x308, &first) == ICU_NORMALIZER_NOT_OPEN);
+    EXPECT(icu_normalizer_decompose(normalizer, 0xE4, &first, &second) == ICU_NORMALIZER_NOT_OPEN);
+    EXPECT(icu_normalizer_unicode_version(normalizer, &first) == ICU_NORMALIZER_NOT_OPEN && first == 7 && second == 8);
+    EXPECT(icu_normalizer_has_boundary_before(normalizer, 9, 0x308, &is) == ICU_NORMALIZER_NOT_OPEN && is);
     icu_normalizer_close(normalizer);
 }
 
@@ -195,6 +201,63 @@ static void utf32(icu_normalizer *normalizer) {
     EXPECT(icu_normalizer_is_normalized_utf32(normalizer, 4, NULL, 0, &is) == ICU_NORMALIZER_UNKNOWN_FORM && !is);
 }
 
+static void decomposed(icu_normalizer *normalizer, uint32_t character, uint32_t first, uint32_t second) {
+    uint32_t found[] = {7, 7};
+    EXPECT(icu_normalizer_decompose(normalizer, character, &found[0], &found[1]) == ICU_NORMALIZER_OK);
+    EXPECT(found[0] == first && found[1] == second);
+}
+
+static void composed(icu_normalizer *normalizer, uint32_t first, uint32_t second, uint32_t composite) {
+    uint32_t found = 7;
+    EXPECT(icu_normalizer_compose(normalizer, first, second, &found) == ICU_NORMALIZER_OK && found == composite);
+}
+
+static void classed(icu_normalizer *normalizer, uint32_t character, uint8_t combining_class) {
+    uint8_t found = 7;
+    EXPECT(icu_normalizer_combining_class(normalizer, character, &found) == ICU_NORMALIZER_OK);
+    EXPECT(found == combining_class);
+}
+
+/* Characters by Unicode's own data. No memory is needed. */
+static void characters(icu_normalizer *normalizer) {
+    const uint32_t none = ICU_NORMALIZER_NO_CHARACTER, no_scalars[] = {0xD800, 0xDFFF, 0x110000, 0xFFFFFFFF, 0xFFFD};
+    bool has = false;
+    classed(normalizer, 0x61, 0);
+    classed(normalizer, 0x308, 230);
+    classed(normalizer, 0x345, 240);
+    classed(normalizer, 0x10A0F, 230);
+    composed(normalizer, 0x61, 0x308, 0xE4);
+    composed(normalizer, 0x308, 0x61, none);
+    composed(normalizer, 0x1100, 0x1161, 0xAC00);
+    composed(normalizer, 0xAC00, 0x11A8, 0xAC01);
+    composed(normalizer, 0x11099, 0x110BA, 0x1109A);
+    /* U+0958 is excluded from composition, and U+FB01 has a compatibility mapping. */
+    composed(normalizer, 0x915, 0x93C, none);
+    decomposed(normalizer, 0x958, 0x915, 0x93C);
+    decomposed(normalizer, 0xFB01, none, none);
+    decomposed(normalizer, 0x61, none, none);
+    decomposed(normalizer, 0x212B, 0xC5, none);
+    decomposed(normalizer, 0x1D6, 0xFC, 0x304);
+    decomposed(normalizer, 0xAC00, 0x1100, 0x1161);
+    decomposed(normalizer, 0xAC01, 0xAC00, 0x11A8);
+    decomposed(normalizer, 0x1109A, 0x11099, 0x110BA);
+    for (icu_normalizer_form form = 0; form < 4; form++) {
+        bool composes = form == ICU_NORMALIZER_NFC || form == ICU_NORMALIZER_NFKC;
+        EXPECT(!icu_normalizer_has_boundary_before(normalizer, form, 0x61, &has) && has);
+        EXPECT(!icu_normalizer_has_boundary_before(normalizer, form, 0x308, &has) && !has);
+        EXPECT(!icu_normalizer_has_boundary_before(normalizer, form, 0x1161, &has) && has == !composes);
+        for (size_t place = 0; place < 5; place++)
+            EXPECT(!icu_normalizer_has_boundary_before(normalizer, form, no_scalars[place], &has) && has);
+    }
+    EXPECT(icu_normalizer_has_boundary_before(normalizer, 4, 0x308, &has) == ICU_NORMALIZER_UNKNOWN_FORM && has);
+    for (size_t place = 0; place < 5; place++) {
+        classed(normalizer, no_scalars[place], 0);
+        composed(normalizer, no_scalars[place], 0x308, none);
+        composed(normalizer, 0x61, no_scalars[place], none);
+        decomposed(normalizer, no_scalars[place], none, none);
+    }
+}
+
 /* A table of IDNA: U+24B6 maps to U+0061, U+00AD is ignored, U+0378 and U+0379 are disallowed, all others are valid. */
 static const char table[] =
     "0000..00AC ; valid\n00AD ; ignored\n00AE..0377 ; valid\n0378..0379 ; disallowed # NA\n"
@@ -227,87 +290,6 @@ static bool is_defect(const icu_normalizer_defect *defect, size_t place, uint32_
     uint32_t character, uint32_t condition) {
     return defect->place == place && defect->source == source && defect->reason == reason
         && defect->character == character && defect->condition == condition;
-}
-
-/* Which record of the mapper is refused, and why. Records of characters are looked at before. */
-static void wrong_mapper_records(icu_normalizer *normalizer, icu_normalizer_record *three,
-    icu_normalizer_mapper_record *four, const uint32_t *codes) {
-    icu_normalizer_defect defect = {7, 7, 7, 7, 7};
-    four[1].status = 3;
-    EXPECT(unless_refused(icu_normalizer_open_records(normalizer, three, 3, four, 4, codes, 5, &defect))
-        == ICU_NORMALIZER_WRONG_RECORD);
-    EXPECT(is_defect(&defect, 1, ICU_NORMALIZER_ONE_MAPPER_RECORD, 9, ICU_NORMALIZER_NO_CHARACTER, 0));
-    four[1].status = ICU_NORMALIZER_DISALLOWED;
-    four[3].mapping_start = 4;
-    EXPECT(unless_refused(icu_normalizer_open_records(normalizer, three, 3, four, 4, codes, 5, &defect))
-        == ICU_NORMALIZER_WRONG_RECORD && defect.place == 3);
-    EXPECT(unless_refused(icu_normalizer_open_records(normalizer, three, 3, four, 4, codes, 4, &defect))
-        == ICU_NORMALIZER_WRONG_RECORD && defect.place == 3);
-    three[0].mapping_length = 6;
-    EXPECT(unless_refused(icu_normalizer_open_records(normalizer, three, 3, four, 4, codes, 5, &defect))
-        == ICU_NORMALIZER_WRONG_RECORD);
-    EXPECT(defect.place == 0 && defect.source == ICU_NORMALIZER_ONE_RECORD && defect.reason == 9);
-    three[0].mapping_length = 2;
-    four[3].mapping_start = 0;
-    four[2].character = 0x378;
-    EXPECT(unless_refused(icu_normalizer_open_records(normalizer, three, 3, four, 4, codes, 5, &defect))
-        == ICU_NORMALIZER_WRONG_RECORDS);
-    EXPECT(is_defect(&defect, 1, ICU_NORMALIZER_ONE_MAPPER_RECORD, 10, 0x378, 0));
-    four[2].character = 0x379;
-    four[3].mapping_length = 0;
-    EXPECT(unless_refused(icu_normalizer_open_records(normalizer, three, 3, four, 4, codes, 5, &defect))
-        == ICU_NORMALIZER_WRONG_RECORDS);
-    EXPECT(is_defect(&defect, 3, ICU_NORMALIZER_ONE_MAPPER_RECORD, 13, 0x24B6, 0));
-    four[3].mapping_length = 1;
-    /* U+0061 mapped alone: the list of U+00E4 has it. */
-    const icu_normalizer_mapper_record one = {2, 1, 0x61, ICU_NORMALIZER_MAPPED};
-    EXPECT(unless_refused(icu_normalizer_open_records(normalizer, three, 3, &one, 1, codes, 5, &defect))
-        == ICU_NORMALIZER_WRONG_RECORDS);
-    EXPECT(is_defect(&defect, 0, ICU_NORMALIZER_ALL_RECORDS, 17, 0xE4, 8));
-}
-
-/* The records of U+00E4, U+0308 and U+FB01, those of a mapper that say what the lines above do, and what is refused. */
-static void records(icu_normalizer *normalizer) {
-    const uint32_t codes[] = {0x61, 0x308, 0x66, 0x69, 0xD800};
-    icu_normalizer_record three[] = {
-        {0, 2, 0xE4, 0, false, false}, {0, 0, 0x308, 230, false, false}, {2, 2, 0xFB01, 0, true, false}};
-    icu_normalizer_mapper_record four[] = {{0, 0, 0xAD, ICU_NORMALIZER_IGNORED},
-        {0, 0, 0x378, ICU_NORMALIZER_DISALLOWED}, {0, 0, 0x379, ICU_NORMALIZER_DISALLOWED},
-        {0, 1, 0x24B6, ICU_NORMALIZER_MAPPED}};
-    icu_normalizer_defect defect = {7, 7, 7, 7, 7};
-    EXPECT(unless_refused(icu_normalizer_open_records(normalizer, three, 3, four, 4, codes, 5, &defect))
-        == ICU_NORMALIZER_OK);
-    EXPECT(is_defect(&defect, 7, 7, 7, 7, 7));
-    uint8_t output[8];
-    size_t number = 0;
-    EXPECT(unless_refused(icu_normalizer_normalize_utf8(
-        normalizer, ICU_NORMALIZER_NFKC, bytes_of("a\xCC\x88\xEF\xAC\x81"), 6, output, 8, &number))
-        == ICU_NORMALIZER_OK);
-    EXPECT(number == 4 && memcmp(output, "\xC3\xA4" "fi", 4) == 0);
-    mapping(normalizer);
-
-    three[2].mapping_length = 3;
-    EXPECT(unless_refused(icu_normalizer_open_records(normalizer, three, 3, four, 4, codes, 5, &defect))
-        == ICU_NORMALIZER_WRONG_RECORD);
-    EXPECT(defect.place == 2 && defect.source == ICU_NORMALIZER_ONE_RECORD && defect.reason == 9);
-    three[2].mapping_start = (size_t)-1;
-    EXPECT(unless_refused(icu_normalizer_open_records(normalizer, three, 3, NULL, 0, codes, 5, &defect))
-        == ICU_NORMALIZER_WRONG_RECORD);
-    three[2].mapping_start = 2;
-    three[2].mapping_length = 2;
-    three[1].character = 0x110000;
-    EXPECT(unless_refused(icu_normalizer_open_records(normalizer, three, 3, NULL, 0, codes, 5, &defect))
-        == ICU_NORMALIZER_WRONG_RECORD && defect.place == 1);
-    three[1].character = 0xE4;
-    EXPECT(unless_refused(icu_normalizer_open_records(normalizer, three, 3, NULL, 0, codes, 5, &defect))
-        == ICU_NORMALIZER_WRONG_RECORDS);
-    EXPECT(is_defect(&defect, 0, ICU_NORMALIZER_ONE_RECORD, 10, 0xE4, 0));
-    three[1].character = 0x308;
-    wrong_mapper_records(normalizer, three, four, codes);
-    mapping(normalizer);
-    EXPECT(unless_refused(icu_normalizer_open_records(normalizer, NULL, 0, NULL, 0, NULL, 0, &defect))
-        == ICU_NORMALIZER_OK);
-    EXPECT(icu_normalizer_map_utf8(normalizer, NULL, 0, NULL, 0, &number) == ICU_NORMALIZER_NO_MAPPER);
 }
 
 /* A file with no lines but its end mark. */
@@ -371,24 +353,31 @@ static void sharing(icu_normalizer *normalizer) {
     utf8(normalizer);
     /* As if another call had the handle: nothing changes. */
     size_t number = 7;
-    other.is_in_use = true;
+    other.is_in_use = 1;
     EXPECT(icu_normalizer_split_utf8(&other, ICU_NORMALIZER_NFC, NULL, 0, &number) == ICU_NORMALIZER_IN_USE);
     EXPECT(icu_normalizer_open_unicode_data(&other, NULL, 0, NULL, 0) == ICU_NORMALIZER_IN_USE);
     EXPECT(icu_normalizer_share(normalizer, &other) == ICU_NORMALIZER_IN_USE);
     EXPECT(icu_normalizer_share(&other, normalizer) == ICU_NORMALIZER_IN_USE);
+    EXPECT(icu_normalizer_share(&other, &other) == ICU_NORMALIZER_IN_USE);
     icu_normalizer_close(&other);
-    EXPECT(other.is_in_use && number == 7);
+    EXPECT(other.is_in_use == 1 && number == 7 && !normalizer->is_in_use);
     utf8(normalizer);
     icu_normalizer_close(NULL);
 }
 
-static void versions(void) {
+static void stated(icu_normalizer *normalizer, const char *exclusions, uint32_t version) {
+    uint32_t found = 7;
+    unless_refused(icu_normalizer_open_unicode_data(
+        normalizer, bytes_of(end), strlen(end), bytes_of(exclusions), strlen(exclusions)));
+    EXPECT(icu_normalizer_unicode_version(normalizer, &found) == ICU_NORMALIZER_OK && found == version);
+}
+
+static void versions(icu_normalizer *normalizer) {
     EXPECT(icu_normalizer_version() == ICU_NORMALIZER_VERSION);
-    EXPECT(icu_normalizer_unicode_version(bytes_of("# CompositionExclusions-15.1.0.txt\n0958\n"), 40) == 0x0F0100);
-    EXPECT(icu_normalizer_unicode_version(bytes_of("# IdnaMappingTable of 9.0.0"), 27) == 0x090000);
-    EXPECT(icu_normalizer_unicode_version(bytes_of("# 1.2\n# 15.0.0\n"), 15) == 0);
-    EXPECT(icu_normalizer_unicode_version(bytes_of("# 15.300.0\n"), 11) == 0);
-    EXPECT(icu_normalizer_unicode_version(NULL, 0) == 0);
+    stated(normalizer, "# CompositionExclusions-15.1.0.txt\n# EOF\n", 0x0F0100);
+    stated(normalizer, "# CompositionExclusions\n# of 255.0.255\n# EOF\n", 0xFF00FF);
+    stated(normalizer, "# 15.256.0\n# EOF\n", 0);
+    stated(normalizer, end, 0);
 }
 
 /* A file of prepared data, and why others are refused, and where. */
@@ -435,7 +424,6 @@ static void no_table(icu_normalizer *normalizer) {
 int main(int count, char **words) {
     if (count != 3) failed("calls DIRECTORY TESTS", __LINE__);
     icu_normalizer normalizer = ICU_NORMALIZER_CLOSED;
-    versions();
     closed(&normalizer);
     EXPECT(icu_normalizer_open_unicode_data(&normalizer, bytes_of("00E4;\n"), 6, NULL, 0) != ICU_NORMALIZER_OK);
     closed(&normalizer);
@@ -453,6 +441,7 @@ int main(int count, char **words) {
     utf8(&normalizer);
     utf16(&normalizer);
     utf32(&normalizer);
+    characters(&normalizer);
     sharing(&normalizer);
     /* What is open stays open if the next data are wrong. */
     EXPECT(icu_normalizer_open_unicode_data(&normalizer, bytes_of("00E4;\n"), 6, NULL, 0) != ICU_NORMALIZER_OK);
@@ -485,8 +474,8 @@ int main(int count, char **words) {
     files(&other);
     parts_of_files(&other);
     closed(&other);
-    records(&other);
     no_table(&other);
+    versions(&other);
     prepared(&other, words[2]);
     icu_normalizer_close(&other);
     icu_normalizer_close(&normalizer);

@@ -207,40 +207,15 @@ static void open_files(icu_normalizer *normalizer, const char *directory) {
     free(data);
 }
 
-/* Opens by records at each side, whose mappings are at both ends of the code points. */
-static void open_records(void) {
-    const icu_normalizer_record records[] = {{0, 2, 0xE4, 0, false, false}, {0, 0, 0x308, 230, false, false}};
-    const icu_normalizer_mapper_record mapper_records[] = {
-        {2, 0, 0xAD, ICU_NORMALIZER_IGNORED}, {2, 1, 0x24B7, ICU_NORMALIZER_MAPPED}};
-    const uint32_t codes[] = {0x61, 0x308, 0x62};
-    uint8_t *first = fenced(), *second = fenced(), *third = fenced();
-    for (enum side side = LAST; side <= FIRST; side++) {
-        icu_normalizer normalizer = ICU_NORMALIZER_CLOSED;
-        icu_normalizer_defect defect = {7, 7, 7, 7, 7};
-        const void *plain = placed(side, first, (const uint8_t *)records, sizeof records);
-        const void *mapped = placed(side, second, (const uint8_t *)mapper_records, sizeof mapper_records);
-        const uint32_t *points = (const void *)placed(side, third, (const uint8_t *)codes, sizeof codes);
-        EXPECT(icu_normalizer_open_records(&normalizer, plain, 2, mapped, 2, points, 3, &defect) == ICU_NORMALIZER_OK);
-        for (size_t count = 0; count < 3; count++) {
-            points = (const void *)placed(side, third, (const uint8_t *)codes, count * sizeof codes[0]);
-            EXPECT(icu_normalizer_open_records(&normalizer, plain, 2, mapped, 2, points, count, &defect)
-                == ICU_NORMALIZER_WRONG_RECORD);
-            EXPECT(defect.source == (count < 2 ? ICU_NORMALIZER_ONE_RECORD : ICU_NORMALIZER_ONE_MAPPER_RECORD));
-            EXPECT(defect.place == (count < 2 ? 0 : 1));
-        }
-        icu_normalizer_close(&normalizer);
-    }
-}
-
 /* Each call at arrays of none, all of them null. */
 static void compare_empty(void) {
     icu_normalizer normalizer = ICU_NORMALIZER_CLOSED;
     icu_normalizer_defect defect = {7, 7, 7, 7, 7};
-    const icu_normalizer_mapper_record one = {0, 0, 0xAD, ICU_NORMALIZER_IGNORED};
+    const uint8_t end[] = "# EOF\n", table[] = "0000..00AC ; valid\n00AD ; ignored\n00AE..10FFFF ; valid\n";
     EXPECT(icu_normalizer_open_unicode_data(&normalizer, NULL, 0, NULL, 0) == ICU_NORMALIZER_WRONG_LINE);
     EXPECT(icu_normalizer_open_files(&normalizer, NULL, 0, NULL, 0, NULL, 0, 0, &defect) == ICU_NORMALIZER_WRONG_LINE);
-    EXPECT(icu_normalizer_open_records(&normalizer, NULL, 0, NULL, 0, NULL, 0, &defect) == ICU_NORMALIZER_OK);
-    EXPECT(icu_normalizer_open_records(&normalizer, NULL, 0, &one, 1, NULL, 0, &defect) == ICU_NORMALIZER_OK);
+    EXPECT(icu_normalizer_open_files(&normalizer, end, sizeof end - 1, end, sizeof end - 1,
+        table, sizeof table - 1, 0, &defect) == ICU_NORMALIZER_OK);
     for (icu_normalizer_form form = 0; form < 4; form++)
         for (size_t bits = 8; bits <= 16; bits += 8) {
             compare(&normalizer, form, bits, NULL, 0, NULL, 0);
@@ -298,7 +273,6 @@ int main(int count, char **words) {
     outputs = fenced();
     characters = fenced();
     compare_empty();
-    open_records();
     compare_mapped();
     icu_normalizer normalizer = ICU_NORMALIZER_CLOSED;
     open_files(&normalizer, words[1]);

@@ -86,6 +86,13 @@ static void calls(icu_normalizer *normalizer) {
         if (is_done(icu_normalizer_first_mismatch_utf16(normalizer, form, units, 81, &mismatch)))
             EXPECT(mismatch.exists && mismatch.expected == (composes ? 0xE4 : 0x323));
     }
+    uint8_t combining_class;
+    uint32_t first, second, version;
+    EXPECT(!icu_normalizer_combining_class(normalizer, 0x308, &combining_class) && combining_class == 230);
+    EXPECT(!icu_normalizer_compose(normalizer, 0x61, 0x308, &first) && first == 0xE4);
+    EXPECT(!icu_normalizer_decompose(normalizer, 0xE4, &first, &second) && first == 0x61 && second == 0x308);
+    EXPECT(!icu_normalizer_has_boundary_before(normalizer, ICU_NORMALIZER_NFC, 0x308, &is) && !is);
+    EXPECT(!icu_normalizer_unicode_version(normalizer, &version) && !version);
     if (is_done(icu_normalizer_map_utf8(normalizer, text, 161, output, 400, &number))) EXPECT(number == 160);
     if (is_done(icu_normalizer_map_utf16(normalizer, units, 81, wide, 400, &number))) EXPECT(number == 80);
     if (is_done(icu_normalizer_validate_utf8(normalizer, text, 161, output, 400, &number))) EXPECT(number == 160);
@@ -95,15 +102,7 @@ static void calls(icu_normalizer *normalizer) {
 static void run(void) {
     icu_normalizer normalizer = ICU_NORMALIZER_CLOSED;
     icu_normalizer_defect defect = {7, 7, 7, 7, 7};
-    const uint32_t codes[] = {0x61, 0x308};
-    const icu_normalizer_record records[] = {
-        {0, 2, 0xE4, 0, false, false}, {0, 0, 0x308, 230, false, false}, {0, 0, 0x323, 220, false, false}};
-    const icu_normalizer_mapper_record mapper_records[] = {
-        {0, 1, 0x41, ICU_NORMALIZER_MAPPED}, {0, 0, 0xAD, ICU_NORMALIZER_IGNORED}};
-    bool is_open =
-        is_done(icu_normalizer_open_records(&normalizer, records, 3, mapper_records, 2, codes, 2, &defect));
-    if (is_open) calls(&normalizer);
-    is_open |= is_done(icu_normalizer_open_files(&normalizer, (const uint8_t *)data, sizeof data - 1,
+    bool is_open = is_done(icu_normalizer_open_files(&normalizer, (const uint8_t *)data, sizeof data - 1,
         (const uint8_t *)exclusions, sizeof exclusions - 1, (const uint8_t *)table, sizeof table - 1, 0, &defect));
     if (is_open) calls(&normalizer);
     icu_normalizer other = ICU_NORMALIZER_CLOSED;

@@ -1,5 +1,6 @@
 /* Sixteen threads, each with a handle of its own over the same data: threads DIRECTORY [ROUNDS]. Each shares its handle
-   again, opens one of the copies again, and closes all, while the others do. */
+   again, opens one of the copies again, and closes all, while the others do. All also use, share, close and open one
+   handle, which at most one of them has at a time. */
 #include "icu_normalizer.h"
 
 #include <pthread.h>
@@ -15,9 +16,9 @@ static void failed(const char *what, int line) {
     exit(1);
 }
 
-static const icu_normalizer_record records[] = {{0, 2, 0xE4, 0, false, false}, {0, 0, 0x308, 230, false, false}};
-static const uint32_t codes[] = {0x61, 0x308};
+static const char data[] = "00E4;;;0;;0061 0308;;;;;;;;;\n0308;;;230;;;;;;;;;;;\n# EOF\n", end[] = "# EOF\n";
 static unsigned long rounds = 2000;
+static icu_normalizer common = ICU_NORMALIZER_CLOSED;
 
 static void normalizes(icu_normalizer *normalizer) {
     uint8_t output[16];
@@ -25,6 +26,28 @@ static void normalizes(icu_normalizer *normalizer) {
     EXPECT(!icu_normalizer_normalize_utf8(
         normalizer, ICU_NORMALIZER_NFC, (const uint8_t *)"a\xCC\x88", 3, output, sizeof output, &needed));
     EXPECT(needed == 2 && !memcmp(output, "\xC3\xA4", 2));
+}
+
+static bool is_done(icu_normalizer_status status) {
+    EXPECT(!status || status == ICU_NORMALIZER_IN_USE || status == ICU_NORMALIZER_NOT_OPEN);
+    return !status;
+}
+
+/* Uses the handle that all threads have, and now and then closes it and opens it again by this one. */
+static void use_common(icu_normalizer *own, bool is_opened) {
+    uint8_t output[16], combining_class;
+    size_t needed;
+    icu_normalizer other = ICU_NORMALIZER_CLOSED;
+    if (is_done(icu_normalizer_normalize_utf8(&common, ICU_NORMALIZER_NFC, (const uint8_t *)"a\xCC\x88", 3, output,
+        sizeof output, &needed)))
+        EXPECT(needed == 2 && !memcmp(output, "\xC3\xA4", 2));
+    if (is_done(icu_normalizer_combining_class(&common, 0x308, &combining_class))) EXPECT(combining_class == 230);
+    if (is_done(icu_normalizer_share(&common, &other))) normalizes(&other);
+    if (is_opened) {
+        icu_normalizer_close(&common);
+        is_done(icu_normalizer_share(own, &common));
+    }
+    icu_normalizer_close(&other);
 }
 
 static void *run(void *passed) {
@@ -36,11 +59,13 @@ static void *run(void *passed) {
         EXPECT(!icu_normalizer_share(own, &other));
         normalizes(&other);
         if (round % 100 == 0) {
-            EXPECT(!icu_normalizer_open_records(&other, records, 2, NULL, 0, codes, 2, &defect));
+            EXPECT(!icu_normalizer_open_files(&other, (const uint8_t *)data, sizeof data - 1, (const uint8_t *)end,
+                sizeof end - 1, NULL, 0, 0, &defect));
             normalizes(&other);
             EXPECT(!icu_normalizer_share(&other, own));
         }
         icu_normalizer_close(&other);
+        use_common(own, round % 16 == 0);
     }
     icu_normalizer_close(own);
     return NULL;
@@ -75,6 +100,8 @@ int main(int count, char **words) {
         EXPECT(!pthread_create(&threads[place], NULL, run, &handles[place]));
     icu_normalizer_close(&first);
     for (size_t place = 0; place < THREADS; place++) EXPECT(!pthread_join(threads[place], NULL));
+    icu_normalizer_close(&common);
+    EXPECT(!common.is_open && !common.is_in_use);
     icu_normalizer_close(NULL);
     free(unicode_data);
     free(exclusions);

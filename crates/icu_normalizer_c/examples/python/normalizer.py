@@ -2,15 +2,14 @@
 import ctypes
 from enum import IntEnum
 
-OK, BUFFER_TOO_SMALL, OUT_OF_MEMORY, UNKNOWN_FORM, NOT_OPEN = range(5)
-WRONG_LINE, WRONG_RECORDS, NO_MAPPER, WRONG_RECORD, IN_USE, WRONG_PREPARED = range(5, 11)
+OK, BUFFER_TOO_SMALL, OUT_OF_MEMORY, UNKNOWN_FORM, NOT_OPEN, WRONG_LINE, WRONG_RECORDS, NO_MAPPER = range(8)
+IN_USE, WRONG_PREPARED = 9, 10
 TEXTS = {
     UNKNOWN_FORM: "no form has this number",
     NOT_OPEN: "the normalizer isn't open",
     WRONG_LINE: "a line of a data file is wrong",
     WRONG_RECORDS: "the records can't be built into tables",
     NO_MAPPER: "the normalizer has no mapper",
-    WRONG_RECORD: "a record is wrong",
     IN_USE: "another call uses the normalizer",
     WRONG_PREPARED: "the file of prepared data is wrong",
 }
@@ -24,7 +23,7 @@ class Form(IntEnum):
 
 
 class _Handle(ctypes.Structure):
-    _fields_ = [("normalizers", ctypes.c_void_p), ("is_open", ctypes.c_bool), ("is_in_use", ctypes.c_bool)]
+    _fields_ = [("normalizers", ctypes.c_void_p), ("is_open", ctypes.c_bool), ("is_in_use", ctypes.c_size_t)]
 
 
 class Mismatch(ctypes.Structure):

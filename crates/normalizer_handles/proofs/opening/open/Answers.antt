@@ -1,10 +1,13 @@
-use Rattle.normalizer_handles.specs.Made.{MakeBy, MapBy}
-use Rattle.normalizer_handles.specs.Opening.{IsBuildFault}
+use Rattle.std.specs.List.{flat_map}
+use Rattle.icu_normalizer.specs.MapperRanges.{entries_of}
+use Rattle.normalizer_handles.specs.Opening.{AreBy, IsBuildFault}
 use Rattle.normalizer_handles.proofs.OpeningLemmas.{holds-of}
 use Rattle.normalizer_handles.proofs.opening.open.Goals as goal
+use Rattle.normalizer_ucd.specs.RecordPlaces.{place_of_record}
 
 pub returns : goal.returns
-returns g c =
-    holds-of (λ n. MakeBy n c.args.records.now × MapBy n.mapper c.args.records.now (g.M.MapperRecords.listed c.args.mapper))
-    (IsBuildFault (g.P.RecordPlaces.places c.args.places.now) c.args.records.now (g.M.MapperRecords.listed c.args.mapper))
+returns c =
+    let listed = flat_map entries_of c.args.mapper.now in
+    let places = place_of_record c.args.lines.now.unicode_data.now c.args.lines.now.idna_table.now in
+    holds-of (AreBy c.args.records.now listed c.args.version) (IsBuildFault places c.args.records.now listed)
     c.in_ok-normalizers.normalizers _ _ _ c.hold.ensures c.in_ok-normalizers.ensures tt

@@ -4,7 +4,7 @@ use Rattle.std.proofs.lemmas.Iterator.{YieldsList-from_range}
 use Rattle.std.proofs.lemmas.Iterator.Search.{all_from_yields_List}
 use Rattle.normalizer_ucd.specs.Fields.{is_scalar_value}
 use Rattle.normalizer_handles.proofs.RangeLemmas.{has_no_character}
-use Rattle.normalizer_handles.proofs.mapper_records.has_no_character.Goals as goal
+use Rattle.normalizer_handles.proofs.mapper_ranges.has_no_character.Goals as goal
 
 pub returns : goal.returns
 returns c =
