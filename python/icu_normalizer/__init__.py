@@ -33,6 +33,12 @@ mapper, as a `Normalizer` of files without IdnaMappingTable.txt.
 >>> icu_normalizer.map("B\u00fccher.DE")
 'bücher.de'
 
+`combining` returns the canonical combining class of a character, and `decomposition` its canonical mapping as
+`unicodedata` writes it, also of Hangul syllables, of which that writes none. Compatibility mappings are left out.
+
+>>> icu_normalizer.combining("\\u0308"), icu_normalizer.decomposition("\xe4")
+(230, '0061 0308')
+
 The functions use the data of the package, of the version of Unicode `unidata_version`. `Normalizer` uses those of other
 files. Each may be called in any thread, but not in a forked child of a process with threads. While a text of 65536
 units or more is normalized, other threads run.
@@ -46,6 +52,8 @@ from . import _native
 __all__ = [
     "Mismatch",
     "Normalizer",
+    "combining",
+    "decomposition",
     "first_mismatch",
     "is_normalized",
     "map",
@@ -54,8 +62,8 @@ __all__ = [
     "unidata_version",
     "validate",
 ]
-__version__ = ".".join(str(_native.version >> bits & 255) for bits in (16, 8, 0))
 _PREPARED = os.path.join(os.path.dirname(__file__), "data", "prepared")
+_FILES = ("UnicodeData.txt", "CompositionExclusions.txt", "IdnaMappingTable.txt")
 _ARGUMENTS = {
     "form": ((str,), ("NFC", "NFD", "NFKC", "NFKD")),
     "text": ((str, bytes), ()),
@@ -74,12 +82,9 @@ def _read(*place):
         return file.read()
 
 
-def _stated_version(file):
-    """The version of Unicode that the first line of a file names, or None."""
-    import re
-
-    found = re.search(rb"\d+\.\d+(\.\d+)?", file.partition(b"\n")[0])
-    return found and found[0].decode()
+def _dotted(version):
+    """A version that is stated by a byte for each of its numbers."""
+    return ".".join(str(version >> bits & 255) for bits in (16, 8, 0))
 
 
 def _check(call, **passed):
@@ -92,6 +97,14 @@ def _check(call, **passed):
             raise TypeError(f"{argument} {' or '.join(it.__name__ for it in kinds)}, not {kind}")
         if values and it not in values:
             raise ValueError(f"{argument} one of {', '.join(repr(it) for it in values)}, not {it!r}")
+
+
+def _code(call, character):
+    """The number of a character."""
+    if not isinstance(character, str) or len(character) != 1:
+        kind = type(character).__name__ if not isinstance(character, str) else f"a str of length {len(character)}"
+        raise TypeError(f"{call}() argument must be a character, not {kind}")
+    return ord(character)
 
 
 def _parts(text):
@@ -121,6 +134,7 @@ class Normalizer(_native.Normalizer):
     """
 
     __slots__ = ("unidata_version",)
+    _mismatch = Mismatch
 
     def __new__(cls, directory=None, disallowed_limit=0x110000, *, prepared=None):
         if not 0 <= operator.index(disallowed_limit) < 2**32:
@@ -132,19 +146,27 @@ class Normalizer(_native.Normalizer):
             data = (_read(place),)
         else:
             place = os.fsdecode(directory)
-            has_table = os.path.exists(os.path.join(place, "IdnaMappingTable.txt"))
-            table = _read(place, "IdnaMappingTable.txt") if has_table else b""
-            data = _read(place, "UnicodeData.txt"), _read(place, "CompositionExclusions.txt"), table, disallowed_limit
-        try:
-            self = super().__new__(cls, Mismatch, *data)
-        except ValueError as fault:
-            raise ValueError(f"{place}: {fault}") from None
-        if directory is None:
-            numbers = [int.from_bytes(data[0][it : it + 4], "little") for it in (20, 24, 28)]
-            self.unidata_version = ".".join(str(it) for it in numbers) if any(numbers) else None
-        else:
-            self.unidata_version = _stated_version(data[1]) or _stated_version(table)
+            has_table = os.path.exists(os.path.join(place, _FILES[2]))
+            table = _read(place, _FILES[2]) if has_table else b""
+            data = _read(place, _FILES[0]), _read(place, _FILES[1]), table, disallowed_limit
+        self = super().__new__(cls, *data)
+        if isinstance(self, tuple):
+            source, at, condition, reason = self
+            before = f"{_FILES[source]}:{at}: " if source < 3 else ""
+            after = f": condition {condition}" if condition else f" at byte {at}" if source == 6 else ""
+            raise ValueError(f"{place}: {before}{reason}{after}")
+        version = self._look_up(0)[3]
+        self.unidata_version = _dotted(version) if version else None
         return self
+
+    def combining(self, character, /):
+        """Returns the canonical combining class of a character."""
+        return self._look_up(_code("combining", character))[0]
+
+    def decomposition(self, character, /):
+        """Returns the canonical mapping of a character, by the numbers of one or two characters, or an empty text."""
+        _, *mapping, _ = self._look_up(_code("decomposition", character))
+        return " ".join(f"{it:04X}" for it in mapping if it <= 0x10FFFF)
 
     # The calls in C end with these where a `str` has surrogates, or arguments are others than a form and a text.
 
@@ -185,6 +207,7 @@ class Normalizer(_native.Normalizer):
 for _call in ("normalize", "is_normalized", "first_mismatch", "split", "map", "validate"):
     getattr(Normalizer, f"_{_call}").__qualname__ = _call  # which Python's own exceptions say
 
+__version__ = _dotted(_native.version)
 _default = Normalizer()
 normalize = _default.normalize
 is_normalized = _default.is_normalized
@@ -192,4 +215,6 @@ first_mismatch = _default.first_mismatch
 split = _default.split
 map = _default.map
 validate = _default.validate
+combining = _default.combining
+decomposition = _default.decomposition
 unidata_version = _default.unidata_version

@@ -13,7 +13,6 @@ typedef icu_normalizer_status Status;
 
 typedef struct {
     PyObject_HEAD icu_normalizer handle;
-    PyObject *mismatch; /* the type of mismatches */
     PyObject *words[4]; /* by form: the last str that named it, so that the same one is known at once */
     bool changes[4];    /* by form: whether the last text changed, as the next one is likely to */
 } Normalizer;
@@ -236,7 +235,7 @@ static PyObject *mismatched(Normalizer *self, Way way, Form form, Text *text) {
     if (status) return failed(status);
     if (!it.exists) Py_RETURN_NONE;
     if (!is_read(way, text)) return NULL;
-    return PyObject_CallFunction(self->mismatch, "nCC", place_of(text, it.offset), it.found, it.expected);
+    return PyObject_CallMethod((PyObject *)self, "_mismatch", "nCC", place_of(text, it.offset), it.found, it.expected);
 }
 
 static PyObject *divided(Normalizer *self, Way way, Form form, Text *text) {
@@ -287,29 +286,30 @@ INLINE PyObject *called(Way way, PyObject *(*answer)(Normalizer *, Way, Form, Te
 CALLS(FUNCTION)
 #define METHOD(way, name, answer, signature, text) {#name, (PyCFunction)(void (*)(void))name, \
     METH_FASTCALL | METH_KEYWORDS, #name "($self, " signature ")\n--\n\n" text},
-static PyMethodDef methods[] = {CALLS(METHOD) {NULL, NULL, 0, NULL}};
 
-static PyObject *wrong_data(const icu_normalizer_defect *defect) {
-    static const char *const files[] = {"UnicodeData.txt", "CompositionExclusions.txt", "IdnaMappingTable.txt"};
-    char before[48] = "", after[48] = "";
-    if (defect->source < 3) PyOS_snprintf(before, sizeof before, "%s:%zu: ", files[defect->source], defect->place);
-    if (defect->source == ICU_NORMALIZER_PREPARED) PyOS_snprintf(after, sizeof after, " at byte %zu", defect->place);
-    if (defect->condition) PyOS_snprintf(after, sizeof after, ": condition %u", (unsigned)defect->condition);
-    return PyErr_Format(PyExc_ValueError, "%s%s%s", before, icu_normalizer_reason_text(defect->reason), after);
+/* The class of a character, the two numbers of its mapping, and the version of the data. */
+static PyObject *look_up(PyObject *it, PyObject *code) {
+    icu_normalizer *handle = &((Normalizer *)it)->handle;
+    uint32_t character = (uint32_t)PyLong_AsUnsignedLong(code), first = 0, second = 0, version = 0;
+    uint8_t combining_class = 0;
+    Status status = icu_normalizer_combining_class(handle, character, &combining_class);
+    if (!status) status = icu_normalizer_decompose(handle, character, &first, &second);
+    if (!status) status = icu_normalizer_unicode_version(handle, &version);
+    return status ? failed(status) : Py_BuildValue("BIII", combining_class, first, second, version);
 }
 
-/* Opens a normalizer by the bytes of prepared data, or of three files and the limit of disallowed ranges. */
+static PyMethodDef methods[] = {CALLS(METHOD) {"_look_up", look_up, METH_O, NULL}, {NULL, NULL, 0, NULL}};
+
+/* A normalizer by the bytes of prepared data, or of three files and a limit of disallowed ranges, or what is wrong. */
 static PyObject *create(PyTypeObject *type, PyObject *passed, PyObject *Py_UNUSED(names)) {
-    PyObject *mismatch;
     const uint8_t *data, *exclusions = NULL, *table;
     Py_ssize_t data_length, exclusions_length, table_length;
     unsigned int limit;
-    bool is = PyArg_ParseTuple(passed, "Oy#|y#y#I", &mismatch, &data, &data_length, &exclusions, &exclusions_length,
-        &table, &table_length, &limit);
+    bool is = PyArg_ParseTuple(passed, "y#|y#y#I", &data, &data_length, &exclusions, &exclusions_length, &table,
+        &table_length, &limit);
     Normalizer *self = is ? (Normalizer *)type->tp_alloc(type, 0) : NULL;
     if (!self) return NULL;
     self->handle = (icu_normalizer)ICU_NORMALIZER_CLOSED;
-    self->mismatch = Py_NewRef(mismatch);
     icu_normalizer_defect defect = {.source = ICU_NORMALIZER_ALL_RECORDS};
     Status status = !exclusions
         ? icu_normalizer_open_prepared(&self->handle, data, (size_t)data_length, &defect)
@@ -317,14 +317,14 @@ static PyObject *create(PyTypeObject *type, PyObject *passed, PyObject *Py_UNUSE
             table, (size_t)table_length, limit, &defect);
     if (!status) return (PyObject *)self;
     Py_DECREF(self);
-    return status == ICU_NORMALIZER_OUT_OF_MEMORY ? failed(status) : wrong_data(&defect);
+    return status == ICU_NORMALIZER_OUT_OF_MEMORY ? failed(status) : Py_BuildValue("InIs", defect.source,
+        (Py_ssize_t)defect.place, defect.condition, icu_normalizer_reason_text(defect.reason));
 }
 
 static void release(PyObject *it) {
     Normalizer *self = (Normalizer *)it;
     PyTypeObject *type = Py_TYPE(it);
     icu_normalizer_close(&self->handle);
-    Py_XDECREF(self->mismatch);
     for (size_t form = 0; form < 4; form++) Py_XDECREF(self->words[form]);
     type->tp_free(it);
     Py_DECREF(type);

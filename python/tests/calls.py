@@ -214,6 +214,27 @@ def versions():
     assert f'version = "{icu_normalizer.__version__}"' in project
 
 
+def characters():
+    """Each character, with a mark and a Hangul syllable among them, and what isn't one."""
+    syllables = range(0xAC00, 0xD7A4)
+    for code in range(0x110000):
+        it = chr(code)
+        if unicodedata.category(it) == "Cn":
+            continue  # Unicode may have assigned it since
+        assert icu_normalizer.combining(it) == unicodedata.combining(it), hex(code)
+        mapping = unicodedata.decomposition(it)
+        if code in syllables:
+            trailing = (code - 0xAC00) % 28
+            pair = (code - trailing, 0x11A7 + trailing) if trailing else map(ord, unicodedata.normalize("NFD", it))
+            mapping = " ".join(f"{part:04X}" for part in pair)
+        assert icu_normalizer.decomposition(it) == ("" if mapping[:1] == "<" else mapping), hex(code)
+    assert icu_normalizer.combining("\uD800") == 0 and icu_normalizer.decomposition("\uDFFF") == ""
+    for call in (icu_normalizer.combining, icu_normalizer.decomposition):
+        refused(TypeError, "a character, not a str of length 2", call, "ab")
+        refused(TypeError, "a character, not a str of length 0", call, "")
+        refused(TypeError, "a character, not int", call, 0x308)
+
+
 def stubs():
     """Each public name has a stub, and what is called has the arguments that the stub states."""
     stub = ast.parse(pathlib.Path(icu_normalizer.__file__).with_suffix(".pyi").read_text())
@@ -295,6 +316,7 @@ for test in (
     wrong_data,
     subclasses,
     versions,
+    characters,
     stubs,
     other_data,
     mapping,
