@@ -1,5 +1,5 @@
 -- What C is told of characters, and of the version of Unicode.
-use Rattle.std.specs.Prelude.{◌≡◌, ℕ, ◌+◌, ◌*◌, ◌&&◌, nat_lt, Bool, true, Option, Some, unwrap_or, if◌then◌else◌}
+use Rattle.std.specs.Prelude.{◌≡◌, ℕ, ◌+◌, ◌*◌, ◌&&◌, nat_lt, Bool, true, Some, unwrap_or, if◌then◌else◌}
 use Rattle.icu_normalizer.specs.AnyNormalizers.{has_boundary, made_by_borrowed}
 use Rattle.icu_normalizer.specs.BoundaryBefore.{HasBoundaryBefore}
 use Rattle.icu_normalizer.specs.Forms.{MadeForm}
