@@ -1,15 +1,19 @@
 /* Loaded before the C library, it refuses one call of a program: REFUSE_GROWTH=n the n-th growth of memory by any
    allocation function of the C library, REFUSE_READ=n the n-th read of standard input, REFUSE_WRITE=n the n-th write to
-   standard output. SHORT=1 makes every such read and write move one byte at most. With COUNT_TO=FILE the numbers of
-   growths, reads, writes and refusals are written there at the end. */
+   standard output, as a full disk does, with EACH_FILE=1 also those of files, and REFUSE_CHANGE=n the n-th call that
+   creates, flushes or renames a file or sets its mode. SHORT=1 makes every such read and write move one byte at most.
+   With COUNT_TO=FILE the numbers of growths, reads, writes, changes and refusals are written there at the end. */
 #define _GNU_SOURCE
 #include <dlfcn.h>
 #include <errno.h>
+#include <fcntl.h>
+#include <stdarg.h>
 #include <stdio.h>
 #include <stdlib.h>
+#include <sys/stat.h>
 #include <unistd.h>
 
-static unsigned long growths, reads, writes, refused;
+static unsigned long growths, reads, writes, changes, refused;
 
 static unsigned long wanted(const char *name) {
     const char *value = getenv(name);
@@ -18,6 +22,10 @@ static unsigned long wanted(const char *name) {
 
 static int refuses(unsigned long *count, const char *name) {
     return ++*count == wanted(name);
+}
+
+static int is_counted(int file, int standard) {
+    return file == standard || (file > STDERR_FILENO && wanted("EACH_FILE"));
 }
 
 /* What the C library calls its own allocation functions. */
@@ -83,7 +91,7 @@ void *pvalloc(size_t size) {
 ssize_t read(int file, void *buffer, size_t size) {
     static ssize_t (*next)(int, void *, size_t);
     if (!next) next = dlsym(RTLD_NEXT, "read");
-    if (file == 0) {
+    if (is_counted(file, STDIN_FILENO)) {
         if (refuses(&reads, "REFUSE_READ")) {
             refused++;
             errno = EIO;
@@ -97,10 +105,10 @@ ssize_t read(int file, void *buffer, size_t size) {
 ssize_t write(int file, const void *buffer, size_t size) {
     static ssize_t (*next)(int, const void *, size_t);
     if (!next) next = dlsym(RTLD_NEXT, "write");
-    if (file == 1) {
+    if (is_counted(file, STDOUT_FILENO)) {
         if (refuses(&writes, "REFUSE_WRITE")) {
             refused++;
-            errno = EIO;
+            errno = ENOSPC;
             return -1;
         }
         if (wanted("SHORT") && size > 1) size = 1;
@@ -108,11 +116,47 @@ ssize_t write(int file, const void *buffer, size_t size) {
     return next(file, buffer, size);
 }
 
+static int refuses_change(void) {
+    if (!refuses(&changes, "REFUSE_CHANGE")) return 0;
+    refused++;
+    errno = EACCES;
+    return 1;
+}
+
+int open(const char *path, int flags, ...) {
+    static int (*next)(const char *, int, ...);
+    va_list rest;
+    if (!next) next = dlsym(RTLD_NEXT, "open");
+    if (!(flags & O_CREAT)) return next(path, flags);
+    va_start(rest, flags);
+    mode_t mode = va_arg(rest, mode_t);
+    va_end(rest);
+    return refuses_change() ? -1 : next(path, flags, mode);
+}
+
+int fchmod(int file, mode_t mode) {
+    static int (*next)(int, mode_t);
+    if (!next) next = dlsym(RTLD_NEXT, "fchmod");
+    return refuses_change() ? -1 : next(file, mode);
+}
+
+int fsync(int file) {
+    static int (*next)(int);
+    if (!next) next = dlsym(RTLD_NEXT, "fsync");
+    return refuses_change() ? -1 : next(file);
+}
+
+int rename(const char *from, const char *to) {
+    static int (*next)(const char *, const char *);
+    if (!next) next = dlsym(RTLD_NEXT, "rename");
+    return refuses_change() ? -1 : next(from, to);
+}
+
 __attribute__((destructor)) static void tell(void) {
     unsigned long grew = growths, had_refused = refused;
     const char *path = getenv("COUNT_TO");
     FILE *file = path ? fopen(path, "w") : NULL;
     if (!file) return;
-    fprintf(file, "%lu %lu %lu %lu\n", grew, reads, writes, had_refused);
+    fprintf(file, "%lu %lu %lu %lu %lu\n", grew, reads, writes, changes, had_refused);
     fclose(file);
 }

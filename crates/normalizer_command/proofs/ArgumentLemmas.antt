@@ -1,7 +1,11 @@
 -- What the words hold, by argument.
-use Rattle.std.proofs.Common.{◌≡◌, List, Option, Some, None, Result, Ok, Err, Bor, codes, map, true, refl, option_map, unwrap_or, IfOk, IfErr, false, ap, sym, ◌∙◌}
+use Rattle.std.proofs.Common.{◌≡◌, ◌==◌, not, length, List, [], ◌∷◌, Option, Some, None, Result, Ok, Err, Bor, codes, map, true, refl, option_map, unwrap_or, IfOk, IfErr, false, ap, sym, ◌∙◌}
 use Rattle.clap.proofs.OnLiterals.{clap_on_literals}
-use Rattle.clap.proofs.WalkLemmas.{one_text-rows}
+use Rattle.clap.proofs.WalkLemmas.{list_any-map, one_text-rows}
+use Rattle.icu_normalizer.specs.declared.any_normalizer.NormalForm.{NormalForm}
+use Rattle.normalizer_streams.specs.declared.ill_formed.ErrorMode.{ErrorMode}
+use Rattle.normalizer_command.specs.declared.command.Command.TheVariants.{OfForm}
+use Rattle.normalizer_command.specs.declared.command.Task.TheVariants.{Write}
 use Rattle.clap.specs.Matches.{found_of, one_text}
 use Rattle.clap.specs.declared.parser.matches.Found.{Found}
 use Rattle.clap.specs.Built.{AddsArg}
@@ -14,11 +18,12 @@ use Rattle.clap.specs.Walk.{Row, Rule, Text, first_of, one_of, rows_of, rule_of}
 use Rattle.clap.specs.declared.error.kind.ErrorKind.TheVariants.{OutOfMemory}
 use Rattle.clap.specs.declared.parser.matches.ArgMatches.{ArgMatches}
 use Rattle.clap.specs.declared.error.Error.{Error}
-use Rattle.normalizer_command.specs.Arguments.{files_in, wanted, wanted_in, word_in, AreFlags, IsFlag, Requests}
+use Rattle.normalizer_command.specs.Arguments.{files_in, goes_in_place, wanted, wanted_in, word_in, AreFlags, IsFlag, Requests}
 use Rattle.normalizer_command.specs.declared.arguments.Flags.{Flags}
 use Rattle.normalizer_command.specs.declared.arguments.Request.{Request}
 use Rattle.normalizer_command.specs.CommandLine.{uninorm}
-use Rattle.std.specs.Prelude.{Bool}
+use Rattle.std.specs.Prelude.{Bool, bytes_eq}
+use Rattle.std.specs.List.{list_any}
 
 pub differ : false ≡ true → ⊥
 differ e = let e = e in cc
@@ -32,6 +37,12 @@ pub list_or : {T : Type 0} (found : Option (Bor (List (Bor T)))) (other : Bor (L
     → map (λ x. x.now) (unwrap_or found other).now ≡ unwrap_or (option_map (λ xs. map (λ x. x.now) xs.now) found) (map (λ x. x.now) other.now)
 list_or (Some x) other = refl
 list_or None other = refl
+
+-- files that are named, none as standard input
+pub goes_by : (mode : ErrorMode) (form : NormalForm) (names : List (Bor Text)) (has_input : Bool) → (length names == 0) ≡ false
+    → has_input ≡ list_any (λ name. bytes_eq name.now (codes "-")) names → not has_input ≡ goes_in_place (OfForm Write mode form, map (λ name. name.now) names)
+goes_by mode form [] has_input some is = cc
+goes_by mode form (name ∷ names) has_input some is = ap not (is ∙ list_any-map (λ name. bytes_eq name (codes "-")) (λ name. name.now) (name ∷ names))
 
 is_simple_uninorm : is_simple uninorm ≡ true
 unfolding clap_on_literals

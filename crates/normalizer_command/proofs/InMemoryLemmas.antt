@@ -15,13 +15,13 @@ use Rattle.normalizer_command.specs.Devices.{Devices, Files, devices}
 use Rattle.normalizer_command.specs.FileFaults.{is_refusal}
 use Rattle.normalizer_command.specs.FileReports.{Report, Tells}
 use Rattle.normalizer_command.specs.InMemory.{in_memory, reports_of, AreHandled, Effect, IsEffectOf, IsHandled, LacksDataInMemory}
-use Rattle.normalizer_command.specs.Outcomes.{fault_told, greater, status_of, AreDone, IsDone, State}
+use Rattle.normalizer_command.specs.Outcomes.{fault_told, greater, status_of, AreDone, AreEach, IsDone, State}
 use Rattle.normalizer_command.specs.Replies.{IsReply}
 use Rattle.normalizer_command.specs.Runs.{IsByData, IsRun, LacksData}
 use Rattle.normalizer_command.specs.Works.{Work}
 use Rattle.normalizer_command.specs.inner.Kept.{IsOfData}
 use Rattle.normalizer_command.specs.declared.fault.Fault.{Fault}
-use Rattle.normalizer_command.specs.declared.fault.Fault.TheVariants.{Open, Read, Write, Memory, Line, Records, Prepared, IllFormed, Replaced}
+use Rattle.normalizer_command.specs.declared.fault.Fault.TheVariants.{Open, Read, Write, InPlace, Memory, Line, Records, Prepared, IllFormed, Replaced}
 
 -- ---- the greatest of statuses
 
@@ -108,6 +108,7 @@ module _ {W : Type 0} (taken : W → Option (List ℕ)) (items : W → List ℕ)
     }
     one name s next (Err Read) after done now of_data = one-refused name s next Read after (told-of s.told next.told name (Some Read) after now done.told) of_data refl
     one name s next (Err Write) after done now of_data = one-refused name s next Write after (told-of s.told next.told name (Some Write) after now done.told) of_data refl
+    one name s next (Err (InPlace kind)) after done now of_data = absurd done.is.why
     one name s next (Err Memory) after done now of_data = one-refused name s next Memory after (told-of s.told next.told name (Some Memory) after now done.told) of_data refl
     one name s next (Err (Line fault)) after done now of_data = absurd done.is.why
     one name s next (Err (Records error)) after done now of_data = absurd done.is.why
@@ -174,6 +175,7 @@ module _ {W : Type 0} (taken : W → Option (List ℕ)) (items : W → List ℕ)
     is-write (Err (Open kind)) = inr (λ refused. cc)
     is-write (Err Read) = inr (λ refused. cc)
     is-write (Err Write) = inl refl
+    is-write (Err (InPlace kind)) = inr (λ refused. cc)
     is-write (Err Memory) = inr (λ refused. cc)
     is-write (Err (Line fault)) = inr (λ refused. cc)
     is-write (Err (Records error)) = inr (λ refused. cc)
@@ -182,7 +184,7 @@ module _ {W : Type 0} (taken : W → Option (List ℕ)) (items : W → List ℕ)
     is-write (Err (Replaced count)) = inr (λ refused. cc)
 
     handled : (names : List (List ℕ)) (s t : State W) → AreDone d w names s t → (after : List Report) → t.told ≡ Some after → All IsOfData after → Handled names s t after
-    unfolding AreDone
+    unfolding AreEach
     handled [] s t same after now of_data = nothing s t after same now
     handled (name ∷ names) s t done after now of_data =
         let outcome = done.0 in
@@ -248,7 +250,7 @@ module _ {W : Type 0} (taken : W → Option (List ℕ)) (items : W → List ℕ)
         let status : t.status ≡ h.effect.status = h.status ∙ ap (λ x. greater x h.effect.status) zero ∙ zero-greater h.effect.status in
         subst (AreHandled bytes_of w names) (sym (effect-same (items t.writer) h.effect.output after h.effect.reports t.status h.effect.status output reports status)) h.handled
 
-    lacks : LacksData d command path s t → LacksDataInMemory bytes_of command path (record { output = items t.writer; reports = after; status = t.status })
+    lacks : LacksData (in_memory bytes_of) command path s t → LacksDataInMemory bytes_of command path (record { output = items t.writer; reports = after; status = t.status })
     lacks l =
         let report : Report = (name_of path l.file, l.fault) in
         let told = told-before s.told (name_of path l.file) l.fault after (subst (λ x. Tells s.told x report) now l.told) in

@@ -3,6 +3,7 @@ pub mod CodePointLemmas
 pub mod DataLemmas
 pub mod FileLemmas
 pub mod InMemoryLemmas
+pub mod InPlaceLemmas
 pub mod KeptLemmas
 pub mod LineLaws
 pub mod LineLemmas

@@ -1,6 +1,7 @@
 -- What the words request that the program is started with.
-use Rattle.std.specs.Prelude.{◌≡◌, ◌≢◌, ◌||◌, not, ℕ, List, [], ◌∷◌, codes, map, Option, Some, None, option_copied, option_map, unwrap_or}
+use Rattle.std.specs.Prelude.{◌≡◌, ◌≢◌, ◌||◌, ◌&&◌, not, ℕ, List, [], ◌∷◌, codes, map, Option, Some, None, option_copied, option_map, unwrap_or}
 use Rattle.std.specs.Prelude.{Bool, true, false, bytes_eq, if◌then◌else◌}
+use Rattle.std.specs.List.{list_any}
 use Rattle.std.specs.Str.{str_eq_ignore_ascii_case}
 use Rattle.clap.specs.Walk.{Row, all_of, first_of, one_of}
 use Rattle.icu_normalizer.specs.declared.any_normalizer.NormalForm.{NormalForm}
@@ -77,30 +78,37 @@ abbrev pub or_input : List (List ℕ) → List (List ℕ)
 or_input [] = codes "-" ∷ []
 or_input (name ∷ names) = name ∷ names
 
--- a command over files by data that may be named; the versions of the program and of the data; the data as one file; or
+-- what the command makes of the files may take their places: it is a form, and they are named, none as standard input
+abbrev pub goes_in_place : Asked → Bool
+goes_in_place (OfForm Write mode form, []) = false
+goes_in_place (OfForm Write mode form, names) = not (list_any (λ name. bytes_eq name (codes "-")) names)
+goes_in_place other = false
+
+-- a command over files by data that may be named, in place or not; the versions of the program and of the data; the data as one file; or
 -- nothing
 pub data Wanted : Type 0 where
-  Files : Command → (path : Option (List ℕ)) → (names : List (List ℕ)) → Wanted
+  Files : Command → (in_place : Bool) → (path : Option (List ℕ)) → (names : List (List ℕ)) → Wanted
   Version : (path : Option (List ℕ)) → Wanted
   Prepare : (path : Option (List ℕ)) → Wanted
   Unclear : Wanted
 
-abbrev pub asked_by : (path : Option (List ℕ)) → Option Asked → Wanted
-asked_by path None = Unclear
-asked_by path (Some asked) = Files asked.0 path (or_input asked.1)
+abbrev pub asked_by : (path : Option (List ℕ)) → (in_place : Bool) → Option Asked → Wanted
+asked_by path in_place None = Unclear
+asked_by path in_place (Some asked) = if not in_place || goes_in_place asked
+    then Files asked.0 in_place path (or_input asked.1) else Unclear
 
 -- prepare, without names
 abbrev pub prepared_by : (path : Option (List ℕ)) → (names : List (List ℕ)) → Flags → Wanted
-prepared_by path [] f = if is_plain f then Prepare path else Unclear
+prepared_by path [] f = if is_plain f && not f.in_place then Prepare path else Unclear
 prepared_by path (name ∷ names) f = Unclear
 
 -- what the words request: a first one if it is there, those after it, the path that --data names, and the flags
 abbrev pub wanted : (word : List ℕ) (after : List (List ℕ)) (path : Option (List ℕ)) → Flags → Wanted
 wanted word after path f = if f.version then Version path
-    else (if bytes_eq word (codes "prepare") then prepared_by path after f else asked_by path (command_of word after f))
+    else (if bytes_eq word (codes "prepare") then prepared_by path after f else asked_by path f.in_place (command_of word after f))
 
 abbrev pub wanted_in : Request → Wanted
-wanted_in (request.Files r) = Files r.command (option_copied r.path) (map (λ name. name.now) r.names.items)
+wanted_in (request.Files r) = Files r.command r.in_place (option_copied r.path) (map (λ name. name.now) r.names.items)
 wanted_in (request.Version path) = Version (option_copied path)
 wanted_in (request.Prepare path) = Prepare (option_copied path)
 wanted_in (request.Unclear reason) = Unclear
@@ -117,6 +125,7 @@ pub record AreFlags (rows : List Row) (f : Flags) : Type 0 where
   pub quiet : IsFlag (one_of (codes "quiet") rows) f.quiet
   pub names : IsFlag (one_of (codes "name-only") rows) f.names
   pub null : IsFlag (one_of (codes "null") rows) f.null
+  pub in_place : IsFlag (one_of (codes "in-place") rows) f.in_place
 
 abbrev pub word_in : List Row → List ℕ
 word_in rows = unwrap_or (first_of (codes "command") rows) []

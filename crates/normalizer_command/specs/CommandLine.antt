@@ -26,11 +26,11 @@ flag_rule name = record (new_rule name) { long = Some name; action = Some SetTru
 abbrev pub short_flag_rule : (name : List ℕ) → (letter : ℕ) → Rule
 short_flag_rule name letter = record (flag_rule name) { short = Some letter }
 
--- --quiet or -q, --name-only or -l, --null or -0
+-- --quiet or -q, --name-only or -l, --null or -0, --in-place or -i
 abbrev pub with_listing : App → App
 with_listing a =
-    with_rule (with_rule (with_rule a (short_flag_rule (codes "quiet") 113)) (short_flag_rule (codes "name-only") 108))
-    (short_flag_rule (codes "null") 48)
+    with_rule (with_rule (with_rule (with_rule a (short_flag_rule (codes "quiet") 113))
+    (short_flag_rule (codes "name-only") 108)) (short_flag_rule (codes "null") 48)) (short_flag_rule (codes "in-place") 105)
 
 -- these, --data, --strict, and --version or -V
 abbrev pub with_options : App → App

@@ -6,6 +6,7 @@ pub mod Devices
 pub mod FileFaults
 pub mod FileReports
 pub mod InMemory
+pub mod InPlace
 pub mod Lines
 pub mod Listings
 pub mod Made

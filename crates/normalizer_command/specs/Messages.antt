@@ -12,10 +12,10 @@ use Rattle.normalizer_ucd.specs.Messages.{text_of_problem}
 use Rattle.normalizer_ucd.specs.declared.error.Place.{Place}
 use Rattle.normalizer_command.specs.Mismatches.{code_point_digits, position}
 use Rattle.normalizer_command.specs.declared.fault.RecordsFault.{RecordsFault}
-use Rattle.std.specs.declared.io.ErrorKind.TheVariants.{Deadlock, InvalidData, NotFound}
+use Rattle.std.specs.declared.io.ErrorKind.TheVariants.{Deadlock, InvalidData, NotFound, Unsupported}
 use Rattle.normalizer_command.specs.FileReports.{Report}
 use Rattle.normalizer_command.specs.declared.fault.Fault.{Fault}
-use Rattle.normalizer_command.specs.declared.fault.Fault.TheVariants.{Open, Read, Write, Memory, Line, Records, Prepared, IllFormed, Replaced}
+use Rattle.normalizer_command.specs.declared.fault.Fault.TheVariants.{Open, Read, Write, InPlace, Memory, Line, Records, Prepared, IllFormed, Replaced}
 use Rattle.normalizer_command.specs.declared.fault.PreparedFault.{PreparedFault}
 use Rattle.normalizer_command.specs.declared.fault.PreparedFault.TheVariants.{Wrong, Unfit, NoMapper}
 use Rattle.normalizer_command.specs.declared.message.Message.{Message}
@@ -93,10 +93,12 @@ abbrev pub text_of_fault : Fault → Option (List ℕ)
 text_of_fault (Open NotFound) = Some (codes "no such file or directory")
 text_of_fault (Open Deadlock) = Some (codes "it is the output too")
 text_of_fault (Open InvalidData) = Some (codes "its name is not UTF-8")
+text_of_fault (Open Unsupported) = Some (codes "it isn't a regular file")
 text_of_fault (Open kind) = None
 text_of_fault Read = Some (codes "it can't be read")
 text_of_fault Write = Some (codes "it can't be written")
 text_of_fault Memory = Some (codes "out of memory")
+text_of_fault (InPlace kind) = None
 text_of_fault (Line fault) =
     Some (codes "line " ++ (decimal fault.place.line ++ (codes ": " ++ text_of_problem fault.problem)))
 text_of_fault (Records f) = Some (text_of_records f)

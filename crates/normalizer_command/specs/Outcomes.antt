@@ -61,9 +61,13 @@ pub record IsDone {W : Type 0} (d : Devices W) (w : Work) (name : List ℕ) (s t
   pub told : MatchOption (fault_told outcome) (t.told ≡ s.told) (λ fault. Tells s.told t.told (name, fault))
   pub status : t.status ≡ greater s.status (status_of outcome)
 
--- each file in turn, and none after a failed write
-unfoldable pub AreDone : {W : Type 0} → Devices W → Work → (names : List (List ℕ)) → State W → State W → Type 0
-AreDone d w [] s t = s ≡ t
-AreDone {W} d w (name ∷ names) s t =
-    (outcome : Result Answer Fault) × (next : State W) × IsDone d w name s next outcome
-    × (IsErrOf outcome Write → next ≡ t) × ((IsErrOf outcome Write → ⊥) → AreDone d w names next t)
+-- this is so of each file in turn, and of none after a failed write
+unfoldable pub AreEach : {W : Type 0} → (Is : List ℕ → State W → State W → Result Answer Fault → Type 0)
+    → (names : List (List ℕ)) → State W → State W → Type 0
+AreEach Is [] s t = s ≡ t
+AreEach {W} Is (name ∷ names) s t =
+    (outcome : Result Answer Fault) × (next : State W) × Is name s next outcome
+    × (IsErrOf outcome Write → next ≡ t) × ((IsErrOf outcome Write → ⊥) → AreEach Is names next t)
+
+abbrev pub AreDone : {W : Type 0} → Devices W → Work → (names : List (List ℕ)) → State W → State W → Type 0
+AreDone d w names s t = AreEach (IsDone d w) names s t

@@ -9,9 +9,9 @@ ghost use Rattle.clap.specs.Values.{kind_of};
 ghost use Rattle.clap.specs.declared.error.kind.ErrorKind.TheVariants.{OutOfMemory};
 ghost use Rattle.normalizer_command.specs.CommandLine.{after_rule, flag_rule, path_rule, short_flag_rule, uninorm};
 ghost use Rattle.normalizer_command.specs.CommandLine.{with_listing, with_options, word_rule};
-ghost use Rattle.normalizer_command.specs.Arguments.{command_of, compared, form_of, is_plain, mode_of, names_by};
-ghost use Rattle.normalizer_command.specs.Arguments.{or_input, places_by, prepared_by, wanted, wanted_in, with_form};
-ghost use Rattle.normalizer_command.specs.Arguments.{AreFlags, Requests};
+ghost use Rattle.normalizer_command.specs.Arguments.{command_of, compared, form_of, goes_in_place, is_plain, mode_of};
+ghost use Rattle.normalizer_command.specs.Arguments.{names_by, or_input, places_by, prepared_by, wanted, wanted_in};
+ghost use Rattle.normalizer_command.specs.Arguments.{with_form, AreFlags, Requests};
 
 use crate::command::{Command as FileCommand, LineEnd, Listing, MapperTask, Task};
 use clap::{Arg, ArgAction, ArgMatches, Command, Error};
@@ -26,9 +26,9 @@ const NO_COMMAND: &str =
 /// The message if a command that needs a form has none.
 const NO_FORM: &str = "a form is missing: nfc, nfd, nfkc or nfkd";
 
-/// The message if an option of what is listed has no meaning.
-const NO_LISTING: &str =
-    "-q, -l and -0 are for check, where and validate; -0 is for names, as check or -l lists";
+/// The message if an option has no meaning.
+const NO_OPTION: &str =
+    "-q, -l and -0 are for check, where and validate, -0 if names are listed; -i is for forms of files";
 
 /// The message if prepared data are requested of files.
 const NO_FILE: &str = "prepare takes no file: it writes the prepared data to standard output";
@@ -55,6 +55,8 @@ pub struct FileRequest<'a> {
     pub path: Option<&'a str>,
     /// The names of the files; `-` is standard input.
     pub names: Vec<&'a str>,
+    /// Whether the files are replaced.
+    pub in_place: bool,
 }
 
 /// The flags.
@@ -65,6 +67,7 @@ pub(crate) struct Flags {
     quiet: bool,
     names: bool,
     null: bool,
+    in_place: bool,
 }
 
 /// A command, and the names of its files.
@@ -117,6 +120,7 @@ fn flags_of(matches: &ArgMatches<'_>) -> Flags
         quiet: matches.get_flag("quiet"),
         names: matches.get_flag("name-only"),
         null: matches.get_flag("null"),
+        in_place: matches.get_flag("in-place"),
     }
 }
 
@@ -138,12 +142,26 @@ fn requested<'a>(
         return Ok(prepared_by(path, after, flags));
     }
     match command_of(word, after, flags) {
-        Ok((command, names)) => Ok(Request::Files(FileRequest {
-            command,
-            path,
-            names: or_input(alloc, names)?,
-        })),
+        Ok((command, names)) if !flags.in_place || goes_in_place(command, names) => {
+            Ok(Request::Files(FileRequest {
+                command,
+                path,
+                names: or_input(alloc, names)?,
+                in_place: flags.in_place,
+            }))
+        }
+        Ok(_) => Ok(Request::Unclear(NO_OPTION)),
         Err(reason) => Ok(Request::Unclear(reason)),
+    }
+}
+
+/// Whether what the command makes of the files may take their places.
+fn goes_in_place(command: FileCommand, names: &[&str]) -> bool
+    ensures { result ≡ goes_in_place (command, map (λ name. name.now) names.now) }
+{
+    match command {
+        FileCommand::OfForm(Task::Write, ..) => !names.is_empty() && !names.contains(&"-"),
+        _ => false,
     }
 }
 
@@ -155,10 +173,10 @@ fn prepared_by<'a>(path: Option<&'a str>, names: &[&'a str], flags: Flags) -> Re
     if !names.is_empty() {
         return Request::Unclear(NO_FILE);
     }
-    if is_plain(flags) {
+    if is_plain(flags) && !flags.in_place {
         Request::Prepare(path)
     } else {
-        Request::Unclear(NO_LISTING)
+        Request::Unclear(NO_OPTION)
     }
 }
 
@@ -185,11 +203,11 @@ fn command_of<'n, 'a>(
                 FileCommand::OfMapper(MapperTask::Validate(listing), mode),
                 after,
             )),
-            None => Err(NO_LISTING),
+            None => Err(NO_OPTION),
         };
     }
     if !is_plain(flags) {
-        return Err(NO_LISTING);
+        return Err(NO_OPTION);
     }
     if is_same(word, "map") {
         return Ok((FileCommand::OfMapper(MapperTask::Map, mode), after));
@@ -212,7 +230,7 @@ fn compared<'n, 'a>(
 {
     match listing {
         Some(listing) => with_form(listing, mode, words),
-        None => Err(NO_LISTING),
+        None => Err(NO_OPTION),
     }
 }
 
@@ -336,7 +354,8 @@ fn with_listing<'a>(alloc: Global, command: Command<'a>) -> Result<Command<'a>, 
     command
         .arg(short_flag(alloc, "quiet", 'q'))?
         .arg(short_flag(alloc, "name-only", 'l'))?
-        .arg(short_flag(alloc, "null", '0'))
+        .arg(short_flag(alloc, "null", '0'))?
+        .arg(short_flag(alloc, "in-place", 'i'))
 }
 
 fn files<'a>(alloc: Global) -> Arg<'a>

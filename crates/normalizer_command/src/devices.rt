@@ -20,7 +20,8 @@ pub trait Inputs {
     /// Opens the file of this name; `-` is standard input.
     ///
     /// # Errors
-    /// Why it can't be opened: `Deadlock` if it is the output too, `InvalidData` if its name is not UTF-8.
+    /// Why it can't be opened: `Deadlock` if it is the output too, `InvalidData` if its name is not UTF-8,
+    /// `Unsupported` if it isn't a regular file and has to be one.
     fn open(&self, name: &str) -> Result<Self::Input, ErrorKind>
         ensures bytes { IfOk result (λ input. Self.Input.bytes_left input ≡ (files self.now).bytes_of name.now) }
         ensures opened { OnOk result ((files self.now).can_open name.now) }

@@ -23,6 +23,8 @@ pub enum Fault {
     Read,
     /// A write of the output was refused.
     Write,
+    /// No new file can take its place.
+    InPlace(ErrorKind),
     /// There was not enough memory.
     Memory,
     /// A line of a data file is wrong.
@@ -199,9 +201,11 @@ impl fmt::Display for Fault {
             Fault::Open(ErrorKind::NotFound) => f.write_str("no such file or directory"),
             Fault::Open(ErrorKind::Deadlock) => f.write_str("it is the output too"),
             Fault::Open(ErrorKind::InvalidData) => f.write_str("its name is not UTF-8"),
+            Fault::Open(ErrorKind::Unsupported) => f.write_str("it isn't a regular file"),
             Fault::Open(kind) => write!(f, "{kind}"),
             Fault::Read => f.write_str("it can't be read"),
             Fault::Write => f.write_str("it can't be written"),
+            Fault::InPlace(kind) => write!(f, "it can't be replaced: {kind}"),
             Fault::Memory => f.write_str("out of memory"),
             Fault::Line(fault) => write!(f, "line {}: {}", fault.place.line, fault.problem),
             Fault::Records(fault) => write!(f, "{fault}"),

@@ -60,7 +60,7 @@ fn over_file<I: Inputs, W: Target>(
 }
 
 /// Reports why a file failed, if it did, and what was ill-formed in it.
-fn tell<R: Reports>(reports: &mut R, name: &str, outcome: Result<Answer, Fault>)
+pub(crate) fn tell<R: Reports>(reports: &mut R, name: &str, outcome: Result<Answer, Fault>)
     ensures { MatchOption (fault_told outcome) (R.reports reports.new ≡ R.reports reports.old)
         (λ fault. Tells (R.reports reports.old) (R.reports reports.new) (name.now, fault)) }
 {
@@ -92,7 +92,7 @@ fn is_refused_write(outcome: Result<Answer, Fault>) -> bool
 }
 
 /// The exit status after a file.
-fn status_of(outcome: Result<Answer, Fault>) -> u8
+pub(crate) fn status_of(outcome: Result<Answer, Fault>) -> u8
     ensures { result ≡ status_of outcome }
 {
     match outcome {
@@ -103,7 +103,7 @@ fn status_of(outcome: Result<Answer, Fault>) -> u8
 }
 
 /// The greater of two.
-fn greater(a: u8, b: u8) -> u8
+pub(crate) fn greater(a: u8, b: u8) -> u8
     ensures { result ≡ greater a b }
 {
     if a < b { b } else { a }

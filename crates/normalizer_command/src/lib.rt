@@ -9,6 +9,7 @@ pub mod directory;
 pub mod fault;
 mod files;
 mod first_byte;
+mod in_place;
 pub mod made;
 mod mapping;
 pub mod memory;

@@ -3,15 +3,17 @@ ghost use Rattle.std.specs.Prelude.{◌≡◌, map};
 ghost use Rattle.normalizer_command.specs.DataFaults.{name_of};
 ghost use Rattle.normalizer_command.specs.Devices.{devices};
 ghost use Rattle.normalizer_command.specs.FileReports.{Tells};
+ghost use Rattle.normalizer_command.specs.InPlace.{IsRefused};
 ghost use Rattle.normalizer_command.specs.Outcomes.{state};
-ghost use Rattle.normalizer_command.specs.Runs.{IsRun};
+ghost use Rattle.normalizer_command.specs.Runs.{IsRun, IsRunInPlace};
 
 use crate::command::Command;
 use crate::data::{DataFault, worker_at};
 use crate::devices::{Inputs, Reports};
 use crate::files::over_files;
+use crate::in_place::over_files_in_place;
 use crate::message::Message;
-use normalizer_io::Target;
+use normalizer_io::{Replacer, Target};
 use std::alloc::Global;
 
 /// A command over files.
@@ -46,6 +48,29 @@ impl<I: Inputs> Run<'_, I> {
                 self.names,
                 self.inputs,
                 writer,
+                reports,
+            ),
+            Err(error) => {
+                tell(self.path, error, reports);
+                2
+            }
+        }
+    }
+
+    /// Puts what the command writes of each file in turn in its place, unless the file is in the form already, fails or
+    /// ends at an ill-formed sequence, and returns the exit status, as `run`.
+    pub fn run_in_place<P: Replacer, R: Reports>(&self, replacer: &mut P, reports: &mut R) -> u8
+        ensures { IsRunInPlace (I.files self.now.inputs.now) P.replaced (IsRefused P.refused P.New.refusal) self.now.command
+            self.now.path.now (map (λ name. name.now) self.now.names.now)
+            (state replacer.old (R.reports reports.old) 0) (state replacer.new (R.reports reports.new) result) }
+    {
+        match worker_at(self.alloc, self.inputs, self.path, self.command) {
+            Ok(worker) => over_files_in_place(
+                self.alloc,
+                &worker,
+                self.names,
+                self.inputs,
+                replacer,
                 reports,
             ),
             Err(error) => {

@@ -1,14 +1,16 @@
 //! What works for a command.
-ghost use Rattle.std.specs.Prelude.{◌≡◌, IfErr, IfOk, List};
+ghost use Rattle.std.specs.Prelude.{◌≡◌, ◌⊎◌, IfErr, IfOk, List};
 ghost use Rattle.icu_normalizer.specs.Building.{Builds};
 ghost use Rattle.icu_normalizer.specs.Built.{AreBuilt, data_in};
 ghost use Rattle.icu_normalizer.specs.RecordValue.{RecordValue, Uts46RecordValue};
-ghost use Rattle.normalizer_command.specs.FileFaults.{IsTransferFault};
+ghost use Rattle.normalizer_streams.specs.Streams.{IsEndless};
+ghost use Rattle.normalizer_command.specs.FileFaults.{IsReadUnrefused, IsTransferFault};
+ghost use Rattle.normalizer_command.specs.InPlace.{is_done, IsInForm};
 ghost use Rattle.normalizer_command.specs.Making.{Makes, Making};
 ghost use Rattle.normalizer_command.specs.Works.{work_by, Does, OfForm, Work};
 ghost use Rattle.normalizer_command.specs.Written.{IsOutcome};
 
-use crate::command::{Command, MapperTask, Task};
+use crate::command::{Command, Listing, MapperTask, Task};
 use crate::fault::Fault;
 use crate::reply::{Answer, compared, write_known};
 use icu_normalizer::uts46::Uts46Mapper;
@@ -70,6 +72,33 @@ impl Worker {
             }
         }
     }
+
+    /// Whether what an open file has is in the form already; mapped lines never are.
+    pub(crate) fn is_in_form<S: Source>(
+        &self,
+        alloc: Global,
+        name: &str,
+        input: &mut S,
+    ) -> Result<bool, Fault>
+        ensures same { (w : Work) → Does self.now w → IfOk result (IsInForm w name.now (S.bytes_left input.old)) }
+        ensures fault { IfErr result (λ fault.
+            ((fault ≡ Fault.Read) × (S.refusal input.old input.new ⊎ IsEndless (S.bytes_left input.old)))
+            ⊎ ((fault ≡ Fault.Memory) × IsReadUnrefused (S.bytes_left input.new) S.refusal input.old input.new)) }
+    {
+        match self {
+            Worker::OfForm(_, mode, normalizer) => {
+                let reply = compared(alloc, Listing::Nothing, *mode, normalizer, name, input)?;
+                Ok(is_done(reply.answer))
+            }
+            Worker::OfMapper(..) => Ok(false),
+        }
+    }
+}
+
+fn is_done(answer: Answer) -> bool
+    ensures { result ≡ is_done answer }
+{
+    matches!(answer, Answer::Done)
 }
 
 impl Task {

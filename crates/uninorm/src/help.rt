@@ -13,6 +13,7 @@ uninorm validate [FILE]...           list the lines that aren't valid by it\n  \
 uninorm prepare                      write the data as one file\n\
 \n      \
 --strict      a file fails at its first ill-formed sequence\n  \
+-i, --in-place    replace each file by its form (nfc, nfd, nfkc, nfkd)\n  \
 -l, --name-only   list names (where, validate)\n  \
 -q, --quiet       list nothing (check, where, validate): the status says it\n  \
 -0, --null        end names with NUL, for xargs -0 (check, and with -l)\n      \
@@ -25,13 +26,19 @@ is 1 if something is listed or was replaced, and 2 if something failed.\n";
 
 const FORM: &str = "\
 uninorm nfc|nfd|nfkc|nfkd [--strict] [--data PATH] [FILE]...\n\
+uninorm nfc|nfd|nfkc|nfkd -i [--strict] [--data PATH] FILE...\n\
 \n\
 Writes that form of each file, one after another, while it is read. Each\n\
 ill-formed sequence is written as U+FFFD, and a line on standard error says how\n\
 many a file had: then the status is 1. With --strict a file ends before the\n\
 first one, which is reported as FILE:LINE:BYTE, and the status is 2.\n\
 \n\
-Example: uninorm nfc old.txt >new.txt\n";
+With -i a new file takes the place of each one that isn't in the form, with its\n\
+mode, once it is whole. A file that is in the form, or fails, stays as it is.\n\
+\n\
+Examples:\n  \
+uninorm nfc old.txt >new.txt\n  \
+git ls-files -z '*.txt' | xargs -0r uninorm nfc -i --strict\n";
 
 const CHECK: &str = "\
 uninorm check FORM [-q] [-0] [--strict] [--data PATH] [FILE]...\n\

@@ -4,6 +4,7 @@
 
 mod data;
 mod help;
+mod replaced;
 mod standard;
 mod words;
 
@@ -12,6 +13,7 @@ use help::{HELP, help_of};
 use normalizer_command::arguments::{FileRequest, Request, parsed};
 use normalizer_command::made::{write_prepared, write_version};
 use normalizer_command::run::Run;
+use replaced::Renamed;
 use standard::{ErrorStream, Named, Printed};
 use std::alloc::AllocError;
 use std::cell::Cell;
@@ -60,12 +62,14 @@ fn over_files(rt: &HostRuntime, request: &FileRequest<'_>, unclear: &[String]) -
         command: request.command,
         path: path.as_str(),
         names: &request.names,
-        inputs: &Named::new(rt, unclear),
+        inputs: &Named::new(rt, unclear, request.in_place),
     };
-    let status = run.run(
-        &mut Printed::new(rt, &closed),
-        &mut ErrorStream::new(rt, &closed),
-    );
+    let mut reports = ErrorStream::new(rt, &closed);
+    let status = if request.in_place {
+        run.run_in_place(&mut Renamed::new(rt), &mut reports)
+    } else {
+        run.run(&mut Printed::new(rt, &closed), &mut reports)
+    };
     if closed.get() { CLOSED } else { status }
 }
 
@@ -81,7 +85,7 @@ fn of_data(rt: &HostRuntime, named: Option<&str>, is_version: bool) -> u8 {
         Err(reason) => return failed(rt, reason),
     };
     let closed = Cell::new(false);
-    let inputs = Named::new(rt, &[]);
+    let inputs = Named::new(rt, &[], false);
     let (mut output, mut reports) = (Printed::new(rt, &closed), ErrorStream::new(rt, &closed));
     let status = if is_version {
         write_version(

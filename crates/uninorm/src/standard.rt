@@ -26,12 +26,13 @@ pub(crate) struct Named<'a> {
     rt: &'a HostRuntime,
     unclear: &'a [String],
     output: Option<Identity>,
+    only_regular: bool,
 }
 
 impl<'a> Named<'a> {
-    /// The files of the system, but for those whose names aren't UTF-8. Standard output is looked at before any file is
-    /// opened, which may take its number if it is closed.
-    pub(crate) fn new(rt: &'a HostRuntime, unclear: &'a [String]) -> Named<'a> {
+    /// The files of the system, or its regular files, but for those whose names aren't UTF-8. Standard output is looked
+    /// at before any file is opened, which may take its number if it is closed.
+    pub(crate) fn new(rt: &'a HostRuntime, unclear: &'a [String], only_regular: bool) -> Named<'a> {
         let output = match fs::metadata(rt, OUTPUT) {
             Ok(output) if output.is_file() => Some(identity(&output)),
             _ => None,
@@ -40,6 +41,7 @@ impl<'a> Named<'a> {
             rt,
             unclear,
             output,
+            only_regular,
         }
     }
 
@@ -53,12 +55,15 @@ impl<'a> Named<'a> {
 
     /// An open file that isn't a directory, and isn't the output.
     fn file(&self, name: &str) -> io::Result<File> {
-        let file = fs::open(self.rt, name)?;
-        let metadata = file.metadata()?;
+        let metadata = fs::metadata(self.rt, name)?;
         if metadata.is_dir() {
             return Err(io::Error::from(ErrorKind::IsADirectory));
         }
-        if self.is_output(&metadata) {
+        if self.only_regular && !metadata.is_file() {
+            return Err(io::Error::from(ErrorKind::Unsupported));
+        }
+        let file = fs::open(self.rt, name)?;
+        if self.is_output(&file.metadata()?) {
             return Err(io::Error::from(ErrorKind::Deadlock));
         }
         Ok(file)

@@ -11,4 +11,5 @@ returns c =
       quiet = flag_is f (codes "quiet") c.get_flag-3.result c.get_flag-3.ensures.none c.get_flag-3.ensures.other c.get_flag-3.ensures.value;
       names = flag_is f (codes "name-only") c.get_flag-4.result c.get_flag-4.ensures.none c.get_flag-4.ensures.other c.get_flag-4.ensures.value;
       null = flag_is f (codes "null") c.get_flag-5.result c.get_flag-5.ensures.none c.get_flag-5.ensures.other c.get_flag-5.ensures.value;
+      in_place = flag_is f (codes "in-place") c.get_flag-6.result c.get_flag-6.ensures.none c.get_flag-6.ensures.other c.get_flag-6.ensures.value;
     }
