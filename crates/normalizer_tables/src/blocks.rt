@@ -183,9 +183,7 @@ fn number_of(blocks: &[[u32; 64]], block: &[u32; 64]) -> Option<usize>
     // Most kept blocks differ from it here already.
     let offset = first_other(block);
     let (word, last) = (block[offset], block[63]);
-    blocks
-        .iter()
-        .position(|kept| kept[offset] == word && kept[63] == last && block == kept)
+    blocks.iter().position(|kept| kept[offset] == word && kept[63] == last && block == kept)
 }
 
 /// The first offset at which a block hasn't its first word, if there is one.
