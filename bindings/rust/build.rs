@@ -1,5 +1,5 @@
 //! Finds the library and the data: in the prefix ICU_NORMALIZER_PREFIX, or as `tools/install` installs what `rt lib`
-//! built. The data are the prepared ones, or Unicode's files if the prefix has none.
+//! built, or a release. The data are the prepared ones, or Unicode's files if the prefix has none.
 use std::env;
 use std::path::{Path, PathBuf};
 use std::process::Command;
@@ -24,8 +24,12 @@ fn main() {
 
 fn installed() -> PathBuf {
     let root = Path::new(&env::var("CARGO_MANIFEST_DIR").unwrap()).join("../..");
-    let made = root.join("crates/icu_normalizer_c/out/libicu_normalizer_c.a");
-    println!("cargo:rerun-if-changed={}", made.display());
+    for made in [
+        "crates/icu_normalizer_c/out/libicu_normalizer_c.a",
+        "out/release/libicu_normalizer.a",
+    ] {
+        println!("cargo:rerun-if-changed={}", root.join(made).display());
+    }
     let room = PathBuf::from(env::var("OUT_DIR").unwrap()).join("installed");
     let status = Command::new(root.join("tools/install"))
         .arg("/usr")
