@@ -1,7 +1,8 @@
 """Builds the wheel of icu_normalizer: `pip install --no-build-isolation ./python`. It needs only a C compiler.
 
 The library is taken from an installed one, whose prefix is ICU_NORMALIZER_PREFIX, or from what `tools/install` installs
-of the crate that `rt lib --cpu x86-64` built."""
+of the crate that `rt lib --cpu x86-64` built, or of a release."""
+import ast
 import base64
 import hashlib
 import os
@@ -17,15 +18,18 @@ HERE = pathlib.Path(__file__).resolve().parent
 NAME = "icu_normalizer"
 VERSION = "1.0.0"
 PYTHON = f"cp{sys.version_info.major}{sys.version_info.minor}"
-TAG = f"{PYTHON}-{PYTHON}-{sysconfig.get_platform().replace('-', '_').replace('.', '_')}"
+PLATFORM = sysconfig.get_platform().replace("-", "_").replace(".", "_")
 INFO = f"{NAME}-{VERSION}.dist-info"
 METADATA = f"""Metadata-Version: 2.1
 Name: {NAME}
 Version: {VERSION}
 Summary: Unicode normal forms by a proved library
+License: MIT
 Requires-Python: >=3.10
+Description-Content-Type: text/plain
+
 """
-WHEEL = f"Wheel-Version: 1.0\nGenerator: {NAME}\nRoot-Is-Purelib: false\nTag: {TAG}\n"
+WHEEL = f"Wheel-Version: 1.0\nGenerator: {NAME}\nRoot-Is-Purelib: false\nTag: "
 MODULE = f"_native{sysconfig.get_config_var('EXT_SUFFIX')}"
 SOURCES = ("__init__.py", "__init__.pyi", "py.typed")
 DATA = ("prepared", "LICENSE-UNICODE")
@@ -63,19 +67,30 @@ def digest_of(data):
     return base64.urlsafe_b64encode(hashlib.sha256(data).digest()).rstrip(b"=").decode()
 
 
+def entry(place):
+    """An entry of the wheel, whose bytes don't depend on when it is made."""
+    made = zipfile.ZipInfo(place)
+    made.external_attr = 0o644 << 16
+    return made
+
+
 def build_wheel(wheel_directory, config_settings=None, metadata_directory=None):
+    """Builds the wheel for this machine, or with the setting `platform` for that one."""
+    tag = f"{PYTHON}-{PYTHON}-{(config_settings or {}).get('platform', PLATFORM)}"
     with tempfile.TemporaryDirectory() as room:
         prefix = prefix_of_library(room)
         content = {f"{NAME}/{it}": (HERE / NAME / it).read_bytes() for it in SOURCES}
         content |= {f"{NAME}/data/{it}": (prefix / "share/uninorm" / it).read_bytes() for it in DATA}
         content[f"{NAME}/{MODULE}"] = pathlib.Path(compiled(prefix, room)).read_bytes()
-    content |= {f"{INFO}/METADATA": METADATA.encode(), f"{INFO}/WHEEL": WHEEL.encode()}
-    name = f"{NAME}-{VERSION}-{TAG}.whl"
+        content |= {f"{INFO}/{it.name}": it.read_bytes() for it in sorted(prefix.glob(f"share/doc/{NAME}/*"))}
+    described = METADATA + ast.get_docstring(ast.parse(content[f"{NAME}/__init__.py"])) + "\n"
+    content |= {f"{INFO}/METADATA": described.encode(), f"{INFO}/WHEEL": f"{WHEEL}{tag}\n".encode()}
+    name = f"{NAME}-{VERSION}-{tag}.whl"
     with zipfile.ZipFile(f"{wheel_directory}/{name}", "w", zipfile.ZIP_DEFLATED) as file:
         for place, data in content.items():
-            file.writestr(place, data)
+            file.writestr(entry(place), data, zipfile.ZIP_DEFLATED)
         lines = [f"{place},sha256={digest_of(data)},{len(data)}" for place, data in content.items()]
-        file.writestr(f"{INFO}/RECORD", "\n".join([*lines, f"{INFO}/RECORD,,", ""]))
+        file.writestr(entry(f"{INFO}/RECORD"), "\n".join([*lines, f"{INFO}/RECORD,,", ""]))
     return name
 
 
