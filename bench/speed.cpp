@@ -19,8 +19,9 @@ using std::string;
 using Run = size_t(unsigned form, const void *text, size_t length, const void **made);
 extern "C" Run icu4x_utf8, icu4x_utf16, icu4x_utf32, icu4x_is_utf8, icu4x_is_utf16, iterated_utf8, iterated_is_utf8;
 
-static void stop_if(bool is_wrong, const string &why) {
-    if (is_wrong) std::cerr << "speed: " << why << '\n', std::exit(2);
+[[noreturn]] static void stop(const string &why) {
+    std::cerr << "speed: " << why << '\n';
+    std::exit(2);
 }
 
 constexpr size_t ROOM = 32 << 20;
@@ -39,7 +40,7 @@ template <class Unit, auto call> size_t own(unsigned form, const void *text, siz
         status = call(&mapper, from, length, to, units, &result);
     else
         status = call(&normalizer, form, from, length, to, units, &result);
-    stop_if(status, icu_normalizer_status_text(status));
+    if (status) stop(icu_normalizer_status_text(status));
     *made = room;
     return result | is_normalized;
 }
@@ -55,7 +56,7 @@ template <bool is_check> size_t icu4c_utf8(unsigned form, const void *text, size
     if (is_check) return icu4c[form]->isNormalizedUTF8(from, error);
     icu::CheckedArrayByteSink sink(room, ROOM);
     icu4c[form]->normalizeUTF8(0, from, sink, nullptr, error);
-    stop_if(U_FAILURE(error), u_errorName(error));
+    if (U_FAILURE(error)) stop(u_errorName(error));
     *made = room;
     return sink.NumberOfBytesWritten();
 }
@@ -66,7 +67,7 @@ template <bool is_check> size_t icu4c_utf16(unsigned form, const void *text, siz
     auto *from = static_cast<const char16_t *>(text);
     if (is_check) return unorm2_isNormalized(by, from, length, &error);
     size_t result = unorm2_normalize(by, from, length, reinterpret_cast<char16_t *>(room), ROOM / 2, &error);
-    stop_if(U_FAILURE(error), u_errorName(error));
+    if (U_FAILURE(error)) stop(u_errorName(error));
     *made = room;
     return result;
 }
@@ -77,7 +78,7 @@ static size_t utf8proc(unsigned form, const void *text, size_t length, const voi
     int options = (form & 1 ? UTF8PROC_COMPOSE : UTF8PROC_DECOMPOSE) | (form & 2 ? UTF8PROC_COMPAT : 0) | UTF8PROC_STABLE;
     auto *from = static_cast<const uint8_t *>(text);
     auto result = utf8proc_map(from, length, &written, static_cast<utf8proc_option_t>(options));
-    stop_if(result < 0, "utf8proc");
+    if (result < 0) stop("utf8proc");
     *made = written;
     return result;
 }
@@ -128,11 +129,12 @@ static void add(const string &name, const string &text, unsigned form, const Cal
     for (auto &[library, run] : call.ways) {
         if (!name.compare(0, 6, "marks-") && (library == "ICU4C" || library == "utf8proc")) continue;
         string row = name + '/' + FORM_NAMES[form] + '/' + call.name + '/' + library;
-        stop_if(call.is_check() && result(call, run, form, units) != "1", row + " isn't in its form");
-        stop_if(result(call, run, form, given) != result(call, call.ways[0].second, form, given), row + " differs");
+        if (call.is_check() && result(call, run, form, units) != "1") stop(row + " isn't in its form");
+        if (result(call, run, form, given) != result(call, call.ways[0].second, form, given)) stop(row + " differs");
         benchmark::RegisterBenchmark(row.c_str(), [=, run = run](benchmark::State &state) {
             const void *made = nullptr;
-            for (auto _ : state) benchmark::DoNotOptimize(run(form, units.data(), units.size() / call.width, &made));
+            size_t length = units.size() / call.width;
+            for (auto _ : state) benchmark::DoNotOptimize(run(form, units.data(), length, &made));
             state.counters["bytes"] = static_cast<double>(read.size());
         });
     }
@@ -140,7 +142,7 @@ static void add(const string &name, const string &text, unsigned form, const Cal
 
 static string content(const string &path) {
     std::ifstream file(path, std::ios::binary);
-    stop_if(!file, path + " can't be read");
+    if (!file) stop(path + " can't be read");
     return {std::istreambuf_iterator<char>(file), {}};
 }
 
@@ -153,7 +155,7 @@ static void open(icu_normalizer *to, const string &folder, bool is_prepared, con
     auto status = is_prepared ? icu_normalizer_open_prepared(to, at(data), data.size(), &defect)
         : icu_normalizer_open_files(to, at(data), data.size(), at(exclusions), exclusions.size(), at(table), table.size(),
                                     ICU_NORMALIZER_NO_CHARACTER, &defect);
-    stop_if(status, folder + ": " + icu_normalizer_status_text(status));
+    if (status) stop(folder + ": " + icu_normalizer_status_text(status));
 }
 
 int main(int count, char **arguments) {
@@ -179,7 +181,7 @@ int main(int count, char **arguments) {
     for (unsigned form = 0; form < FORMS; form++)
         icu4c[form] = icu::Normalizer2::getInstance(nullptr, form == MAPPING ? "uts46" : form & 2 ? "nfkc" : "nfc",
                                                     form % 2 || form == MAPPING ? UNORM2_COMPOSE : UNORM2_DECOMPOSE, error);
-    stop_if(U_FAILURE(error), u_errorName(error));
+    if (U_FAILURE(error)) stop(u_errorName(error));
     string path = arguments[2], text = content(path);
     for (const Call &call : CALLS)
         for (unsigned form = 0; form < FORMS; form++)
