@@ -1,2 +1,3 @@
 -- Sinks and outputs.
+pub mod CharacterLemmas
 pub mod CheckSinkLemmas

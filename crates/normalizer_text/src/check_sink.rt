@@ -22,9 +22,21 @@ pub trait Expected: Units {
         ensures { IsEndOfPiece (Self.units self) position (Self.units piece) result };
 
     /// Returns the end of a character that begins at the position, if it is there.
+    #[inline(always)]
     fn end_of_char(self, position: usize, c: char) -> Option<usize>
         requires { position ≤ length (Self.units self) }
-        ensures { IsEndOfPiece (Self.units self) position (encoded_in Self.encoding (c ∷ [])) result };
+        ensures { IsEndOfPiece (Self.units self) position (encoded_in Self.encoding (c ∷ [])) result }
+    {
+        if position == self.len() {
+            return None;
+        }
+        let step = self.step_at(position);
+        if step.character == c && !step.is_error {
+            Some(position + step.width)
+        } else {
+            None
+        }
+    }
 }
 
 /// Returns the end of a piece that begins at the position, if it is there.
@@ -125,35 +137,16 @@ impl<'a> Expected for &'a str {
     fn end_of_piece(self, position: usize, piece: &'a str) -> Option<usize> {
         end_of(self.as_bytes(), position, piece.as_bytes())
     }
-
-    fn end_of_char(self, position: usize, c: char) -> Option<usize> {
-        let mut buffer = [0; 4];
-        end_of(
-            self.as_bytes(),
-            position,
-            c.encode_utf8(&mut buffer).as_bytes(),
-        )
-    }
 }
 
 impl<'a> Expected for &'a [u8] {
     fn end_of_piece(self, position: usize, piece: &'a [u8]) -> Option<usize> {
         end_of(self, position, piece)
     }
-
-    fn end_of_char(self, position: usize, c: char) -> Option<usize> {
-        let mut buffer = [0; 4];
-        end_of(self, position, c.encode_utf8(&mut buffer).as_bytes())
-    }
 }
 
 impl<'a> Expected for &'a [u16] {
     fn end_of_piece(self, position: usize, piece: &'a [u16]) -> Option<usize> {
         end_of(self, position, piece)
-    }
-
-    fn end_of_char(self, position: usize, c: char) -> Option<usize> {
-        let mut buffer = [0; 2];
-        end_of(self, position, c.encode_utf16(&mut buffer))
     }
 }
