@@ -41,11 +41,6 @@ module _ (units : List ℕ) (Short : Type 0) (before after : List ℕ) where
     refused = memory;
   }
 
-  pub overwrites-nothing : (wrong : NormalizeError) → after ≡ before → (Short → ⊥) → wrong ≡ error.Memory
-      → Overwrites units Short before after (Err wrong)
-  overwrites-nothing wrong same none memory =
-      overwrites-beginning [] units wrong refl (same ∙ sym (take-length before)) none memory
-
   -- less is enough
   pub Overwrites-if : (Suffices : Type 0) (result : Result ℕ NormalizeError) → (Short → Suffices)
       → Overwrites units Suffices before after result → Overwrites units Short before after result
@@ -125,84 +120,7 @@ module _ (before after : List ℕ) (old new : Buffer ℕ) (had : old.history.uni
 -- what overwrote the buffer was written, if there was room
 module _ (form : List ℕ) (Short : Type 0) (before after : List ℕ) where
   module _ (count_before count : ℕ) where
-    abbrev WritesAs : Result ⊤ Fault → Type 0
-    WritesAs outcome =
-        Writes LeavesBeginning before after count_before count (Short × (length form < 2 ^ 64 - 1)) form outcome
 
-    writes-whole : (n : ℕ) (done : ⊤) → n ≡ length form → n ≤ length before → count ≡ n
-        → after ≡ overwritten before form → WritesAs (Ok done)
-    writes-whole n done n_is fits counted is =
-        let all : List ℕ = form ++ drop (length form) before in
-        let len : length all ≡ length before =
-        (let a = length-append form (drop (length form) before) in
-        let d = length-drop (length form) before in omega (arith, a, d, n_is, fits)) in
-        let whole : overwritten before form ≡ all = ap (λ k. take k all) (sym len) ∙ take-length all in
-        record {
-          fills = record {
-            room = omega (arith, n_is, fits);
-            written = is ∙ whole;
-            counted = counted ∙ n_is;
-            small = λ wrong. cc;
-            refused = tt;
-            unreported = tt;
-          };
-          left = record { full = λ wrong. cc; begun = tt };
-          room = λ suffices wrong. cc;
-        }
-
-    writes-beginning : (n : ℕ) → n ≡ length form → length before < n → count ≡ n → after ≡ overwritten before form
-        → WritesAs (Err fault.BufferTooSmall)
-    writes-beginning n n_is short counted is =
-        let whole : overwritten before form ≡ take (length before) form =
-        take-append-le (length before) form (drop (length form) before) (omega (arith, n_is, short)) in
-        record {
-          fills = record {
-            room = tt;
-            written = tt;
-            counted = tt;
-            small = λ wrong. (omega (arith, n_is, short), counted ∙ n_is);
-            refused = inl refl;
-            unreported = λ other. absurd (other refl);
-          };
-          left = record { full = λ wrong. is ∙ whole; begun = (form, [], sym (append-nil form), is) };
-          room = λ suffices wrong. cc;
-        }
-
-    -- memory was refused, or the form has more units than can be counted
-    writes-no_more : HasBeginning form before after → (Short × (length form < 2 ^ 64 - 1) → ⊥) → count ≡ count_before
-        → WritesAs (Err fault.Memory)
-    writes-no_more begun needs counted = record {
-      fills = record {
-        room = tt;
-        written = tt;
-        counted = tt;
-        small = λ wrong. cc;
-        refused = inr refl;
-        unreported = λ other. counted;
-      };
-      left = record { full = λ wrong. cc; begun = begun };
-      room = λ suffices wrong. needs suffices;
     }
 
-    -- the count is reported
-    pub Writes-count : (n : ℕ) (outcome : Result ⊤ Fault) → Overwrites form Short before after (Ok n)
-        → ReportsCount n (length before) count_before count outcome → WritesAs outcome
-    Writes-count n (Ok done) w r =
-        let n_is : n ≡ length form = (let c = w.count in let l = r.done.0 in omega (arith, c, l)) in
-        writes-whole n done n_is r.done.1.0 r.done.1.1 w.form
-    Writes-count n (Err wrong) w r = elim r.small [
-      | inl s ↦
-          let n_is : n ≡ length form = (let c = w.count in let l = s.1.0 in omega (arith, c, l)) in
-          rw s.0 (writes-beginning n n_is s.1.1.0 s.1.1.1 w.form)
-      | inr s ↦
-          let none : Short × (length form < 2 ^ 64 - 1) → ⊥ =
-          (λ needs. let c = w.count in let l = s.1.0 in let f = needs.1 in absurd (omega (arith, c, l, f))) in
-          rw s.0 (writes-no_more (form, [], sym (append-nil form), w.form) none s.1.1)
     ]
-
-    -- an allocation was refused
-    pub Writes-memory : (wrong : NormalizeError) → Overwrites form Short before after (Err wrong)
-        → count ≡ count_before
-        → WritesAs (Err fault.Memory)
-    Writes-memory wrong w counted =
-        writes-no_more w.begun (λ needs. absurd (false≢true (w.room needs.0))) counted

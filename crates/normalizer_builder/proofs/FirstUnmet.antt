@@ -154,9 +154,6 @@ by_kind Canonical = refl
 by_kind Compatibility = refl
 by_kind Mapper = refl
 
-by_condition : flat_map (λ c. on Canonical c ++ on_others c) every_condition ≡ constructor_demands
-by_condition = refl
-
 module _ (p : Packed) where
   pub of_kind : (kind : Kind) (r : Option Condition) → IsFirstFailing (IsMet (loaded_of p kind)) (conditions_of kind) r →
       (records : List RecordValue) → IsFirstFailing (Meets records p) (asked_of kind) (option_map (λ c. Asks c kind) r)

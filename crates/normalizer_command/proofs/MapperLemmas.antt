@@ -43,11 +43,6 @@ not-places Places other invalid name = absurd (other refl)
 not-places (Names end) other invalid name = refl
 not-places Nothing other invalid name = refl
 
-pub known-names : (l : Listing) → l ≢ Places → (mode : ErrorMode) (m : Mapping) → is_known_first (OfMapper (Validate l) mode m) ≡ true
-known-names Places other mode m = absurd (other refl)
-known-names (Names end) other mode m = refl
-known-names Nothing other mode m = refl
-
 no-invalid : (l : Listing) → l ≢ Places → (end : Ending) → validity l false end ≡ No
 no-invalid Places other end = absurd (other refl)
 no-invalid (Names e) other end = refl

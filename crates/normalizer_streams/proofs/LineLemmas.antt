@@ -92,14 +92,6 @@ text_in-shorter piece (Some stop) = omega (arith, length-take stop.place piece)
 
 -- ---- nothing
 
-pub nothing-append : (a b : List ℕ) → is_nothing (a ++ b) ≡ (is_nothing a && is_nothing b)
-nothing-append [] b = refl
-nothing-append (x ∷ a) b = refl
-
-pub nothing-is : (b : Bool) (a : List ℕ) → b ≡ (length a == 0) → b ≡ is_nothing a
-nothing-is b [] is = is
-nothing-is b (x ∷ a) is = is ∙ eqb-suc-zero (length a)
-
 -- ---- where a text ends, after bytes that were passed
 
 module _ (mode : ErrorMode) where

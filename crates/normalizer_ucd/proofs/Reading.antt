@@ -113,10 +113,6 @@ module _ {S B : Type 0} (name : UcdFile) (findings : DataLine → Findings) (sta
     abbrev after : Option DataLine
     after = if has_data line then Some l else before
 
-    -- a line without data, and one with data
-    pub skipped : (s : S) → has_data line ≡ false → s ≡ state before → read ≡ Ok (s, None)
-    skipped s is same = rw (is, same) refl
-
     pub stated : (t : S) (f : Option B) → has_data line ≡ true → wrong_at name findings l ≡ None → t ≡ state (Some l) →
         f ≡ found l → read ≡ Ok (t, f)
     stated t f is right same of = rw (is, right, same, of) refl

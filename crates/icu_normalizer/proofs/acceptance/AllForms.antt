@@ -88,15 +88,5 @@ all_held s t pairs = record { canonical = Ok s; compatibility = Ok t; pairs = So
 decomposes : (s t : Characters) (pairs : List Pair) → Serves (all_held s t pairs) Nfc → Serves (all_held s t pairs) Nfd
 decomposes s t pairs serves = (form_by serves.1.0.0 [] Decomposing, DecomposesBy-composing (Ok s) (Some pairs) serves.1.0 serves.1.1)
 
--- for callers: the first of the composing forms that is refused tells the first of all
-pub refuses_every : (s t : Characters) (pairs : List Pair) (e : DataError) → RefusesFirst (all_held s t pairs) (Nfc ∷ Nfkc ∷ []) e
-    → RefusesFirst (all_held s t pairs) (Nfd ∷ Nfc ∷ Nfkd ∷ Nfkc ∷ []) e
-refuses_every s t pairs e (inl refuses) = elim (composing-refuses NormalizerNfdDataV1 s pairs e refuses) [
-  | inl first ↦ inl first
-  | inr suits ↦ inr ((form_by s [] Decomposing, (s, (refl, suits), refl)), inl refuses)
 ]
-refuses_every s t pairs e (inr (serves, inl refuses)) = elim (composing-refuses NormalizerNfkdDataV1 t pairs e refuses) [
-  | inl first ↦ inr (decomposes s t pairs serves, inr (serves, inl first))
-  | inr suits ↦ inr (decomposes s t pairs serves, inr (serves, inr ((form_by t [] Decomposing, (t, (refl, suits), refl)), inl refuses)))
 ]
-refuses_every s t pairs e (inr (serves, inr others)) = absurd others.1

@@ -44,11 +44,6 @@ leading_length-continues : (f : ℕ → Bool) (d : Reading) (c : ℕ) (x : List 
 unfolding leading_length
 leading_length-continues f d c x h = cond-true _ _ _ h
 
-leading_length-at_boundary : (f : ℕ → Bool) (d : Reading) (x : List ℕ) → DoesNotContinue f d x → leading_length f d x ≡ 0
-unfolding leading_length
-leading_length-at_boundary f d [] h = refl
-leading_length-at_boundary f d (c ∷ x) h = cond-false _ _ _ h
-
 leading_length-append : (f : ℕ → Bool) (d : Reading) (l rest : List ℕ) → AllPass (continues f d) l → leading_length f d (l ++ rest) ≡ length (expand d l) + leading_length f d rest
 unfolding expand
 leading_length-append f d [] rest h = omega arith

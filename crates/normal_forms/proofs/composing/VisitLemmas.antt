@@ -66,10 +66,6 @@ visit-last_starter d [] a p c h = refl
 visit-last_starter d (b ∷ out) a p c h =
     visit-past d b (out ++ a ∷ p) c (joined-before_starter d b out a p c h) ∙ ap (λ l. b ∷ l) (visit-last_starter d out a p c h)
 
-compose_from-cons : (d : Reading) (visited : List ℕ) (c : ℕ) (y : List ℕ) → compose_from d visited (c ∷ y) ≡ compose_from d (visit d visited c) y
-unfolding compose_from
-compose_from-cons d visited c y = refl
-
 compose_from-starter : (d : Reading) → HasStarterResults d → (out : List ℕ) (a : ℕ) (p y : List ℕ) → IsStarter d a → AreMarks d p → compose_from d (out ++ a ∷ p) y ≡ out ++ compose_after d a p y
 unfolding compose_from AreMarks
 compose_from-starter d starters out a p [] h marks = ap (λ l. out ++ l) (sym (compose_after-nil d a p))

@@ -35,10 +35,6 @@ AreSelf-rest : (d : Reading) (u v : List ℕ) → AreSelf d (u ++ v) → AreSelf
 unfolding AreSelf
 AreSelf-rest d u v self = AllByRecursion-rest (ReadsAsItself d) u v self
 
-AreSelf-head : (d : Reading) (c : ℕ) (x : List ℕ) → AreSelf d (c ∷ x) → ReadsAsItself d c
-unfolding AreSelf
-AreSelf-head d c x self = self.0
-
 AreSelf-nil : (d : Reading) → AreSelf d []
 unfolding AreSelf
 AreSelf-nil d = tt

@@ -111,10 +111,6 @@ pub smaller_qualifies : (d : Reading) (form : Form) → SuitsForm d form → (x 
 smaller_qualifies d form suits x m n le q =
     (cut_iff d form suits x m).1 (shorter_common_front x (normal_form d form x) m n le ((cut_iff d form suits x n).0 q))
 
--- the numbers that qualify are those up to the cut
-pub qualifies_iff : (d : Reading) (form : Form) → SuitsForm d form → (x : List ℕ) (n : ℕ) → IsCut d form x n → (m : ℕ) → QualifiesForCut d form x m ↔ (m ≤ n)
-qualifies_iff d form suits x n cut m = (λ q. cut.greatest m q, λ le. smaller_qualifies d form suits x m n le cut.qualifies)
-
 -- the cut is the length of the longest common front of the text and its form
 pub cut_iff_longest : (d : Reading) (form : Form) → SuitsForm d form → (x : List ℕ) (n : ℕ)
     → IsCut d form x n ↔ (IsCommonFront x (normal_form d form x) n × ((m : ℕ) → IsCommonFront x (normal_form d form x) m → m ≤ n))

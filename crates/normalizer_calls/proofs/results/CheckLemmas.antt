@@ -178,14 +178,6 @@ module _ (e : Encoding) (d : Reading) (form : Form) (units : List ℕ) where
       decoded-some e rest first.some ∙ ap (λ t. t.character ∷ decoded_in e (drop (first_in e rest).width rest)) (sym first.is),
     )
 
--- `None` is returned exactly if the units are well-formed and normalized
-pub is_none_iff_normalized : (e : Encoding) (d : Reading) (form : Form) (units : List ℕ) (cut : Option ℕ) (r : Bool) → is_some cut ≡ not r → IsCutUnlessNormalized e d form units cut
-    → IsTrue r ↔ IsInputNormalized e d form units
-is_none_iff_normalized e d form units None true is h = (λ _. h, λ _. refl)
-is_none_iff_normalized e d form units None false is h = absurd (cc)
-is_none_iff_normalized e d form units (Some place) true is h = absurd (cc)
-is_none_iff_normalized e d form units (Some place) false is h = (λ k. (let no : false ≡ true = k in cc), λ own. absurd (h.0 own))
-
 -- a mismatch lasts
 pub IsLastingOffence-found : (m : MadeForm) (e : Encoding) (units : List ℕ) → SuitsTexts m.reading m.form → (answer : Option Offence)
     → IsInputOffenceOf e m.reading m.form units answer → IsLastingOffence m e units answer

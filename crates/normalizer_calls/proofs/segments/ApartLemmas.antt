@@ -46,16 +46,6 @@ module _ (d : Reading) where
   compose-none [] none = refl
   compose-none (e ∷ x) none = compose_from-none x (e ∷ []) none
 
-  -- the next character is visited
-  pub compose_from-next : (x : List ℕ) (place c : ℕ) (visited : List ℕ) → slice_get x place ≡ Some c → compose_from d visited (drop place x) ≡ compose_from d (visit d visited c) (drop (place + 1) x)
-  unfolding compose_from
-  compose_from-next x place c visited at = rw (drop_member x place c at, compose_from) refl
-
-  -- none is left
-  pub compose_from-all : (x : List ℕ) (place : ℕ) (visited : List ℕ) → length x ≤ place → compose_from d visited (drop place x) ≡ visited
-  unfolding compose_from
-  compose_from-all x place visited past = rw (drop_all place x past) refl
-
 -- a character becomes what its list composes to
 pub form_of_list : (s : Characters) (b : Bounds) (pairs : List Pair) → ServesComposing s b pairs → (c : ℕ) → IsScalar c
     → normal_form (reading_by s Dropped pairs) Composing (c ∷ []) ≡ compose (reading_by s Dropped pairs) (list_of s [] c)

@@ -54,20 +54,6 @@ decoded-front e units s some is =
     (sym (decoded-take-drop e units s.width (boundary-first e units s (record { some = some; is = is })))
     ∙ decoded-some e units some ∙ ap (λ t. t.character ∷ decoded_in e (drop t.width units)) (sym is))
 
--- units that end where a step does begin with the same step
-pub first-take : (e : Encoding) (units : List ℕ) (n : ℕ) → 0 < n → IsBoundary (first_in e) units n → first_in e (take n units) ≡ first_in e units
-first-take e units n some b =
-    let long : n ≤ length units = boundary-le e units n b in
-    let front : 0 < length (take n units) = omega (arith, length-take n units) in
-    let whole : 0 < length units = omega arith in
-    let parts : steps (first_in e) units ≡ steps (first_in e) (take n units) ++ steps (first_in e) (drop n units) = steps-take-drop e units n b in
-    let of_front = steps-some e (take n units) front in
-    let of_whole = steps-some e units whole in
-    same_head _ _ _ _ (sym (ap (λ l. l ++ steps (first_in e) (drop n units)) of_front) ∙ sym parts ∙ of_whole)
-  where
-    same_head : (s t : Step) (x y : List Step) → s ∷ x ≡ t ∷ y → s ≡ t
-    same_head s t x y same = cc
-
 -- the step after some units, which is the first one of the rest
 pub first-drop : (e : Encoding) (units rest : List ℕ) (position end : ℕ) (next : Option Step) → rest ≡ drop position units → IfSome next (λ s. s ≡ first_in e (drop end rest))
     → IfSome next (λ s. s ≡ first_in e (drop (position + end) units))

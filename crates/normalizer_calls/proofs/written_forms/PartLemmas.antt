@@ -92,14 +92,6 @@ module _ {e : Encoding} {d : Reading} {form : Form} where
         ap (normal_form d form) (text-parts e units end part.boundary)
         ∙ part.divides [] (decoded_in e (drop end units)) [] (sym (append-nil (decoded_in e (drop end units))))
 
-    -- it has units
-    pub some_part : {segment : List ℕ} → segment ≡ take end units → 0 < length segment
-    some_part {segment = segment} is =
-        let some = part.some in
-        let most = boundary-le e units end part.boundary in
-        let size : length segment ≡ end = ap length is ∙ length-take-le end units most in
-        omega (arith, size)
-
     pub HasShortRuns-part : {f : ℕ → Bool} {segment : List ℕ} → segment ≡ take end units → HasShortRuns f d (decoded_in e units) → HasShortRuns f d (decoded_in e segment)
     HasShortRuns-part {f = f} is h =
         subst (λ l. HasShortRuns f d (decoded_in e l)) (sym is)
@@ -275,9 +267,6 @@ module _ {e : Encoding} {d : Reading} {form : Form} where
             subst (λ n. WroteUpTo e into d form units old n new) same (subst (WroteUpTo e into d form units old position) (sym (none empty)) so_far)
         | inr some ↦ WroteUpTo-more (wrote some)
       ]
-
-      pub within_part : {end : ℕ} → IsPart e d form rest end → position + end ≤ length units
-      within_part {end = end} part = boundary-le e units (position + end) (boundary_behind end part.boundary)
 
       pub HasShortRuns-behind : {f : ℕ → Bool} → HasShortRuns f d (decoded_in e units) → HasShortRuns f d (decoded_in e rest)
       HasShortRuns-behind {f = f} h =

@@ -23,9 +23,6 @@ use Rattle.normalizer_tables.specs.declared.characters.IgnoredCharacters.TheVari
 
 -- ---- the reading that composes
 
-pub pair-reading_by : (s : Characters) (ignored : IgnoredCharacters) (pairs : List Pair) (a c : ℕ) → (reading_by s ignored pairs).pair a c ≡ pair_of pairs a c
-pair-reading_by s ignored pairs a c = refl
-
 pub nfd-reading_by : (s : Characters) (ignored : IgnoredCharacters) (pairs : List Pair) (x : List ℕ) → nfd (reading_by s ignored pairs) x ≡ nfd (reading_by s ignored []) x
 unfolding nfd order insert is_reorderable expand
 nfd-reading_by s ignored pairs x = refl

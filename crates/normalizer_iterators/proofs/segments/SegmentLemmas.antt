@@ -23,15 +23,6 @@ decoded-left e units position s inside is =
     ∙ ap (λ t. t.character ∷ decoded_in e (drop t.width (drop position units))) (sym is)
     ∙ ap (λ us. s.character ∷ decoded_in e us) (drop-drop s.width position units)
 
--- at the end nothing is left
-pub decoded-all : (e : Encoding) (units : List ℕ) (position : ℕ) → length units ≤ position → decoded_in e (drop position units) ≡ []
-decoded-all e units position past = ap (decoded_in e) (drop_all position units past) ∙ decoded-nil e
-
-pub expand-left : (d : Reading) (e : Encoding) (units : List ℕ) (position : ℕ) (s : Step) → position < length units → s ≡ first_in e (drop position units)
-    → expand d (decoded_in e (drop position units)) ≡ d.list s.character ++ expand d (decoded_in e (drop (position + s.width) units))
-unfolding expand
-expand-left d e units position s inside is = ap (expand d) (decoded-left e units position s inside is)
-
 -- neither ignored characters nor pairs change a class
 pub AgreesWith-reading_by : (s : Characters) (ignored : IgnoredCharacters) (pairs : List Pair) (b : WaitingList) → AgreesWith (reading_by s ignored []) b → AgreesWith (reading_by s Dropped pairs) b
 unfolding AgreesWith

@@ -20,17 +20,3 @@ module _ {X : Type 0} (P : X → Type 0) (before : X → X → Bool) (trans : (x
   pub all_before-decides : (any : X) (r : Bool) → IsAllAdjacentAnswer (λ x y b. b ≡ before x y) xs r → IsTrue r ↔ AllPairs (λ x y. before x y ≡ true) xs
   all_before-decides any true h = (λ _. all_before h, λ _. refl)
   all_before-decides any false h = (λ no. cc, λ rising. h.2 any ∙ rising h.0 (h.0 + 1) any (omega arith) h.1)
-
--- keys that rise from each element to the next
-rising_from_adjacent : {X : Type 0} (key : X → ℕ) (xs : List X) → AllAdjacentBelow (λ p q. true ≡ nat_lt (key p) (key q)) xs (length xs) → AllPairs (λ r s. key r < key s) xs
-rising_from_adjacent key xs adjacent i j d below within = grind (
-  arith,
-  nat_tests,
-  adjacent i d (omega arith),
-  IsNonDecreasingBy-from_all_adjacent key xs (λ k e inside. let lt = adjacent k e inside in grind (arith, nat_tests)) (i + 1) j d (omega arith) within,
-)
-
-pub rising-decides : {X : Type 0} (key : X → ℕ) (xs : List X) (r : Bool) → IsAllAdjacentAnswer (λ p q b. b ≡ nat_lt (key p) (key q)) xs r → IsTrue r ↔ AllPairs (λ p q. key p < key q) xs
-rising-decides key xs true h = (λ _. rising_from_adjacent key xs h, λ _. refl)
-rising-decides key [] false h = (λ fails. cc, λ rising. let within = h.1 in absurd (omega arith))
-rising-decides key (x ∷ xs) false h = (λ fails. cc, λ rising. let lt = rising h.0 (h.0 + 1) x (omega arith) h.1 in let falls = h.2 x in absurd (grind (arith, nat_tests)))

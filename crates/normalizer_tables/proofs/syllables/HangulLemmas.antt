@@ -23,10 +23,6 @@ pub is_hangul_syllable-true : (c : ℕ) → is_hangul_syllable c ≡ true → (0
 unfolding is_hangul_syllable
 is_hangul_syllable-true c h = (grind arith, grind arith)
 
-pub is_vowel_or_trailing_jamo_in_range : (c : ℕ) → 0x1161 ≤ c → c ≤ 0x11FF → is_vowel_or_trailing_jamo c ≡ true
-unfolding is_vowel_or_trailing_jamo
-is_vowel_or_trailing_jamo_in_range c low high = grind (arith, nat_tests)
-
 pub compose_hangul-lv : (leading vowel : ℕ) → is_leading_consonant leading ≡ true → is_vowel vowel ≡ true →
     compose_hangul leading vowel ≡ Some (0xAC00 + ((leading - 0x1100) * 588 + (vowel - 0x1161) * 28))
 unfolding compose_hangul lv_syllable

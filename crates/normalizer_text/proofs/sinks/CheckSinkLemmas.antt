@@ -19,9 +19,6 @@ starts_at {E = E} decides units position piece r is =
     (λ yes. (drop (length piece) (drop position units), h.0 yes), λ stands. h.1 stands.0 stands.1)
 
 module _ (units : List ℕ) (position : ℕ) (piece : List ℕ) (front : IsFront piece (drop position units)) where
-  -- what comes after it
-  pub drop-end : drop (position + length piece) units ≡ front.0
-  drop-end = sym (drop-drop (length piece) position units) ∙ ap (drop (length piece)) front.1 ∙ drop-append_seam piece front.0
 
   -- what is up to its end
   pub take-end : position ≤ length units → take (position + length piece) units ≡ take position units ++ piece
