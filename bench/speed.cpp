@@ -19,10 +19,7 @@ using std::string;
 using Run = size_t(unsigned form, const void *text, size_t length, const void **made);
 extern "C" Run icu4x_utf8, icu4x_utf16, icu4x_utf32, icu4x_is_utf8, icu4x_is_utf16, iterated_utf8, iterated_is_utf8;
 
-[[noreturn]] static void stop(const string &why) {
-    std::cerr << "speed: " << why << '\n';
-    std::exit(2);
-}
+[[noreturn]] static void stop(const string &why) { std::cerr << "speed: " << why << '\n', std::exit(2); }
 
 constexpr size_t ROOM = 32 << 20;
 alignas(64) static char room[ROOM];
