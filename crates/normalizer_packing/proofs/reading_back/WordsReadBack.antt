@@ -35,7 +35,9 @@ pub record Reads (n w : ℕ) (is_mapper : Bool) (r : WordReading) (k : ℕ) (b :
 -- the bits of w that tests look at, if w without its flags is v
 record HasBits (w v : ℕ) : Type 0 where
   whole : bit_and w 0x3FFFFFFF ≡ v
+  above_byte : bit_and w 0x3FFFFF00 ≡ v / 2 ^ 8 * 2 ^ 8
   high : bit_and w 0x3FFF0000 ≡ v / 2 ^ 16 * 2 ^ 16
+  above_length : bit_and w 0xFFE0 ≡ (v / 2 ^ 5 % 2 ^ 11) * 2 ^ 5
   byte : bit_and w 0xFF ≡ v % 2 ^ 8
   half : bit_and w 0xFFFF ≡ v % 2 ^ 16
   first : bit_and w 0x7FFF ≡ v % 2 ^ 15
@@ -48,7 +50,9 @@ bits : (w v : ℕ) → without_flags w ≡ v → HasBits w v
 unfolding without_flags
 bits w v rest = let low : w % 2 ^ 30 ≡ v = sym (and_mask w 30) ∙ rest in record {
   whole = rest;
+  above_byte = and_high w 22 8 ∙ omega arith;
   high = and_high w 14 16 ∙ omega arith;
+  above_length = and_high w 11 5 ∙ omega arith;
   byte = and_mask w 8 ∙ omega arith;
   half = and_mask w 16 ∙ omega arith;
   first = and_mask w 15 ∙ omega arith;
