@@ -218,6 +218,14 @@ static void classed(icu_normalizer *normalizer, uint32_t character, uint8_t comb
     EXPECT(found == combining_class);
 }
 
+/* How many of a piece's characters may be normalized before the next piece comes. The rest is put before that one. */
+static size_t ready(icu_normalizer *nfc, const uint32_t *piece, size_t length) {
+    bool is_boundary = false;
+    while (length && !is_boundary)
+        if (icu_normalizer_has_boundary_before(nfc, ICU_NORMALIZER_NFC, piece[--length], &is_boundary)) return 0;
+    return length;
+}
+
 /* Characters by Unicode's own data. No memory is needed. */
 static void characters(icu_normalizer *normalizer) {
     const uint32_t none = ICU_NORMALIZER_NO_CHARACTER, no_scalars[] = {0xD800, 0xDFFF, 0x110000, 0xFFFFFFFF, 0xFFFD};
@@ -250,6 +258,7 @@ static void characters(icu_normalizer *normalizer) {
             EXPECT(!icu_normalizer_has_boundary_before(normalizer, form, no_scalars[place], &has) && has);
     }
     EXPECT(icu_normalizer_has_boundary_before(normalizer, 4, 0x308, &has) == ICU_NORMALIZER_UNKNOWN_FORM && has);
+    EXPECT(ready(normalizer, (const uint32_t[]){0x61, 0x62, 0x308}, 3) == 1);
     for (size_t place = 0; place < 5; place++) {
         classed(normalizer, no_scalars[place], 0);
         composed(normalizer, no_scalars[place], 0x308, none);
