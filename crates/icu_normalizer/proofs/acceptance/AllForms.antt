@@ -87,6 +87,3 @@ all_held s t pairs = record { canonical = Ok s; compatibility = Ok t; pairs = So
 
 decomposes : (s t : Characters) (pairs : List Pair) → Serves (all_held s t pairs) Nfc → Serves (all_held s t pairs) Nfd
 decomposes s t pairs serves = (form_by serves.1.0.0 [] Decomposing, DecomposesBy-composing (Ok s) (Some pairs) serves.1.0 serves.1.1)
-
-]
-]
