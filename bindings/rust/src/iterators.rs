@@ -1,8 +1,11 @@
-//! Iterators over the characters of a form. They read no further than they must: up to the next character before which
-//! a text may be divided.
+//! Iterators over the characters of a form. They read a piece of a text at a time, since a call of the library takes
+//! longer than to make the form of a character.
 use crate::ffi::{self, Maps};
 use crate::handle::{Borrowed, Form};
 use std::iter::{Fuse, FusedIterator};
+
+/// How many characters a piece has at least, unless it is the last.
+const PIECE: usize = 64;
 
 /// Characters that are made and not yet taken.
 #[derive(Clone, Debug, Default)]
@@ -29,49 +32,47 @@ impl Made {
     }
 }
 
-/// The characters of a form, made segment by segment.
+/// The characters of a form, made piece by piece: each ends before a character at which a text may be divided.
 #[derive(Clone, Debug)]
-pub(crate) struct Segments<'data, I> {
+pub(crate) struct Pieces<'data, I> {
     data: Borrowed<'data>,
     form: Form,
     delegate: Fuse<I>,
-    /// The first character of the next segment, if it is read.
+    /// The first character of the next piece, if it is read.
     ahead: Option<char>,
-    segment: String,
+    piece: String,
     made: Made,
 }
 
-impl<'data, I: Iterator<Item = char>> Segments<'data, I> {
+impl<'data, I: Iterator<Item = char>> Pieces<'data, I> {
     pub(crate) fn new(data: Borrowed<'data>, form: Form, delegate: I) -> Self {
-        Segments {
+        Pieces {
             data,
             form,
             delegate: delegate.fuse(),
             ahead: None,
-            segment: String::new(),
+            piece: String::new(),
             made: Made::default(),
         }
     }
 
-    /// Reads the next segment. Returns whether there is one.
+    /// Reads the next piece. Returns whether there is one.
     fn read(&mut self) -> bool {
-        self.segment.clear();
-        let Some(first) = self.ahead.take().or_else(|| self.delegate.next()) else {
-            return false;
-        };
-        self.segment.push(first);
+        self.piece.clear();
+        self.piece.extend(self.ahead.take());
+        self.piece.extend(self.delegate.by_ref().take(PIECE));
         for next in self.delegate.by_ref() {
             if self.data.with(|handle| handle.has_boundary_before(self.form, next)) {
                 self.ahead = Some(next);
                 break;
             }
-            self.segment.push(next);
+            self.piece.push(next);
         }
-        true
+        !self.piece.is_empty()
     }
 }
 
-impl<I: Iterator<Item = char>> Iterator for Segments<'_, I> {
+impl<I: Iterator<Item = char>> Iterator for Pieces<'_, I> {
     type Item = char;
 
     fn next(&mut self) -> Option<char> {
@@ -82,16 +83,19 @@ impl<I: Iterator<Item = char>> Iterator for Segments<'_, I> {
             if !self.read() {
                 return None;
             }
-            let (data, form, segment) = (self.data, self.form, self.segment.as_bytes());
-            self.made
-                .make(|bytes| data.with(|handle| handle.append_form(form, segment, bytes)));
+            let (data, form, piece) = (self.data, self.form, self.piece.as_bytes());
+            self.made.make(|bytes| {
+                // The most that NFC and NFD take by Unicode's own data.
+                bytes.reserve(3 * piece.len());
+                data.with(|handle| handle.append_form(form, piece, bytes));
+            });
         }
     }
 }
 
 /// The characters of a text in NFD or NFKD, lazily.
 #[derive(Clone, Debug)]
-pub struct Decomposition<'data, I>(pub(crate) Segments<'data, I>);
+pub struct Decomposition<'data, I>(pub(crate) Pieces<'data, I>);
 
 impl<I: Iterator<Item = char>> Iterator for Decomposition<'_, I> {
     type Item = char;
@@ -105,7 +109,7 @@ impl<I: Iterator<Item = char>> FusedIterator for Decomposition<'_, I> {}
 
 /// The characters of a text in NFC or NFKC, lazily.
 #[derive(Clone, Debug)]
-pub struct Composition<'data, I>(pub(crate) Segments<'data, I>);
+pub struct Composition<'data, I>(pub(crate) Pieces<'data, I>);
 
 impl<I> Composition<'_, I> {
     /// Returns what two characters compose to, one after the other, if they do.
@@ -140,23 +144,24 @@ impl Ignored {
     }
 }
 
-/// What characters are mapped to, each by itself. In NFC these are what the whole text is mapped to.
+/// What pieces of a text are mapped to, each by itself. In NFC these are what the whole text is mapped to.
 #[derive(Clone, Debug)]
 pub(crate) struct Mapped<'data, I> {
     data: Borrowed<'data>,
     ignored: Ignored,
-    delegate: I,
+    delegate: Fuse<I>,
+    piece: String,
     made: Made,
 }
 
 impl<'data, I: Iterator<Item = char>> Mapped<'data, I> {
     pub(crate) fn new(data: Borrowed<'data>, ignored: Ignored, delegate: I) -> Self {
-        let made = Made::default();
         Mapped {
             data,
             ignored,
-            delegate,
-            made,
+            delegate: delegate.fuse(),
+            piece: String::new(),
+            made: Made::default(),
         }
     }
 }
@@ -169,9 +174,14 @@ impl<I: Iterator<Item = char>> Iterator for Mapped<'_, I> {
             if let Some(character) = self.made.next() {
                 return Some(character);
             }
-            let (data, call, next) = (self.data, self.ignored.call(), self.delegate.next()?);
+            self.piece.clear();
+            self.piece.extend(self.delegate.by_ref().take(PIECE));
+            if self.piece.is_empty() {
+                return None;
+            }
+            let (data, call, piece) = (self.data, self.ignored.call(), &self.piece);
             self.made.make(|bytes| {
-                let has_mapper = data.with(|handle| handle.append_mapped(call, next.encode_utf8(&mut [0; 4]), bytes));
+                let has_mapper = data.with(|handle| handle.append_mapped(call, piece, bytes));
                 assert!(has_mapper, "the data have no mapper");
             });
         }

@@ -2,7 +2,7 @@
 use crate::error::Error;
 use crate::ffi;
 use crate::handle::{Borrowed, Data, Form};
-use crate::iterators::{Composition, Decomposition, Segments};
+use crate::iterators::{Composition, Decomposition, Pieces};
 use crate::mismatch::Mismatch;
 use crate::sink::{self, Write16};
 use std::borrow::Cow;
@@ -89,9 +89,10 @@ macro_rules! normalizers {
                 $borrowed { data, form }
             }
 
-            /// Returns the characters of the form of a text, lazily.
+            /// Returns the characters of the form of a text, lazily. The iterator reads 64 characters at a time, and
+            /// the others up to where a text may be divided.
             pub fn normalize_iter<I: Iterator<Item = char>>(&self, iter: I) -> $iterator<'data, I> {
-                $iterator(Segments::new(self.data, self.form, iter))
+                $iterator(Pieces::new(self.data, self.form, iter))
             }
 
             /// Returns the form of a text, borrowed if the text is already normalized.

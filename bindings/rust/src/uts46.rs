@@ -2,7 +2,7 @@
 //! caller.
 use crate::error::Error;
 use crate::handle::{Borrowed, Data, Form};
-use crate::iterators::{Ignored, Mapped, Segments};
+use crate::iterators::{Ignored, Mapped, Pieces};
 
 const VIRAMA: u8 = 9;
 
@@ -78,7 +78,7 @@ impl<'data> Uts46MapperBorrowed<'data> {
     }
 
     /// Returns the characters of a text mapped and in NFC, lazily: ignored characters are dropped, disallowed ones
-    /// become U+FFFD.
+    /// become U+FFFD. The iterator reads 64 characters at a time, and more until a text may be divided.
     ///
     /// # Panics
     /// The iterator, if the data have no mapper.
@@ -100,7 +100,7 @@ impl<'data> Uts46MapperBorrowed<'data> {
         self.mapped(Ignored::Replaced, iter)
     }
 
-    fn mapped<I: Iterator<Item = char>>(&self, ignored: Ignored, iter: I) -> Segments<'data, Mapped<'data, I>> {
-        Segments::new(self.0, Form::Nfc, Mapped::new(self.0, ignored, iter))
+    fn mapped<I: Iterator<Item = char>>(&self, ignored: Ignored, iter: I) -> Pieces<'data, Mapped<'data, I>> {
+        Pieces::new(self.0, Form::Nfc, Mapped::new(self.0, ignored, iter))
     }
 }

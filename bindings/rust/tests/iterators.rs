@@ -34,17 +34,31 @@ fn the_characters_are_those_of_the_form() {
 }
 
 #[test]
-fn no_more_is_read_than_a_segment() {
+fn no_more_is_read_than_a_piece() {
     let read = Cell::new(0);
-    let mut form = NFC.normalize_iter("u\u{308}v\u{308}xyz".chars().inspect(|_| read.set(read.get() + 1)));
+    let endless = "u\u{308}xyz".chars().cycle();
+    let mut form = NFC.normalize_iter(endless.inspect(|_| read.set(read.get() + 1)));
     let mut after = |count| (text_of(form.by_ref().take(count)), read.get());
     assert_eq!(after(0), (String::new(), 0));
-    assert_eq!(after(1), ("\u{FC}".into(), 3));
-    assert_eq!(after(1), ("v".into(), 5));
-    assert_eq!(after(1), ("\u{308}".into(), 5));
-    assert_eq!(after(9), ("xyz".into(), 7));
-    let endless = "\u{E9}".chars().cycle().nfd();
-    assert_eq!(text_of(endless.skip(1000).take(3)), "e\u{301}e");
+    assert_eq!(after(1), ("\u{FC}".into(), 65));
+    assert_eq!(after(50).1, 65);
+    assert_eq!(after(3), ("z\u{FC}x".into(), 130));
+}
+
+#[test]
+fn pieces_end_before_boundaries() {
+    for length in 50..70 {
+        for end in [
+            "o\u{302}\u{323}p",
+            "\u{1100}\u{1161}\u{11A8}p",
+            "\u{AC00}\u{11A8}p",
+            "\u{9C7}\u{9BE}p",
+        ] {
+            let text = format!("{}{end}", "x".repeat(length)).repeat(3);
+            assert_eq!(text_of(NFC.normalize_iter(text.chars())), NFC.normalize(&text));
+            assert_eq!(text_of(NFD.normalize_iter(text.chars())), NFD.normalize(&text));
+        }
+    }
 }
 
 #[test]
