@@ -25,12 +25,16 @@ Name: {NAME}
 Version: {VERSION}
 Summary: Unicode normal forms by a proved library
 License: MIT
+Classifier: License :: OSI Approved :: MIT License
+Classifier: Operating System :: POSIX :: Linux
+Classifier: Programming Language :: Python :: 3
+Classifier: Programming Language :: Python :: Implementation :: CPython
+Classifier: Topic :: Text Processing
 Requires-Python: >=3.10
 Description-Content-Type: text/plain
 
 """
 WHEEL = f"Wheel-Version: 1.0\nGenerator: {NAME}\nRoot-Is-Purelib: false\nTag: "
-MODULE = f"_native{sysconfig.get_config_var('EXT_SUFFIX')}"
 SOURCES = ("__init__.py", "__init__.pyi", "py.typed")
 DATA = ("prepared", "LICENSE-UNICODE")
 
@@ -49,15 +53,15 @@ def prefix_of_library(room):
     return pathlib.Path(room) / "installed/usr"
 
 
-def compiled(prefix, room):
-    module = f"{room}/{MODULE}"
+def compiled(prefix, room, name, macros):
+    module = f"{room}/{name}"
     compiler = shlex.split(os.environ.get("CC") or "cc")
     headers = [f"-I{prefix}/include", f"-I{sysconfig.get_paths()['include']}"]
     library = next(iter(prefix.glob("lib*/**/libicu_normalizer.a")))
     # The names of the library stay in the module, so that its calls of them are direct. Intel's processors of 2015 to
     # 2019 are slow where a jump crosses 32 bytes; not each compiler takes the word that keeps jumps apart.
     words = ["-O3", "-DNDEBUG", "-shared", "-fPIC", "-fvisibility=hidden", "-Wl,--exclude-libs,ALL", "-Wall", "-Wextra"]
-    words = [*compiler, *words, *headers, "-o", module, HERE / NAME / "_native.c", library]
+    words = [*compiler, *words, *macros, *headers, "-o", module, HERE / NAME / "_native.c", library]
     if subprocess.run([*words, "-Wa,-mbranches-within-32B-boundaries"], capture_output=True).returncode:
         subprocess.run(words, check=True)
     return module
@@ -75,13 +79,17 @@ def entry(place):
 
 
 def build_wheel(wheel_directory, config_settings=None, metadata_directory=None):
-    """Builds the wheel for this machine, or with the setting `platform` for that one."""
-    tag = f"{PYTHON}-{PYTHON}-{(config_settings or {}).get('platform', PLATFORM)}"
+    """Builds the wheel for this machine and Python, or with the setting `platform` for that one and Python 3.10 and
+    later, which takes more time with a `str`."""
+    platform = (config_settings or {}).get("platform")
+    tag, module, macros = f"{PYTHON}-{PYTHON}-{PLATFORM}", f"_native{sysconfig.get_config_var('EXT_SUFFIX')}", []
+    if platform:
+        tag, module, macros = f"cp310-abi3-{platform}", "_native.abi3.so", ["-DPy_LIMITED_API=0x030A0000"]
     with tempfile.TemporaryDirectory() as room:
         prefix = prefix_of_library(room)
         content = {f"{NAME}/{it}": (HERE / NAME / it).read_bytes() for it in SOURCES}
         content |= {f"{NAME}/data/{it}": (prefix / "share/uninorm" / it).read_bytes() for it in DATA}
-        content[f"{NAME}/{MODULE}"] = pathlib.Path(compiled(prefix, room)).read_bytes()
+        content[f"{NAME}/{module}"] = pathlib.Path(compiled(prefix, room, module, macros)).read_bytes()
         content |= {f"{INFO}/{it.name}": it.read_bytes() for it in sorted(prefix.glob(f"share/doc/{NAME}/*"))}
     described = METADATA + ast.get_docstring(ast.parse(content[f"{NAME}/__init__.py"])) + "\n"
     content |= {f"{INFO}/METADATA": described.encode(), f"{INFO}/WHEEL": f"{WHEEL}{tag}\n".encode()}

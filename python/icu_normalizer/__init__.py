@@ -170,6 +170,10 @@ class Normalizer(_native.Normalizer):
 
     # The calls in C end with these where a `str` has surrogates, or arguments are others than a form and a text.
 
+    def _called(self, method, passed, names):
+        count = len(passed) - len(names or ())
+        return getattr(self, method)(*passed[:count], **dict(zip(names or (), passed[count:])))
+
     def _normalize(self, form, text, /, *, errors="strict"):
         _check("normalize", form=form, text=text, errors=errors)
         if isinstance(text, bytes):

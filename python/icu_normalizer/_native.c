@@ -3,13 +3,11 @@
 #include <Python.h>
 #include "icu_normalizer.h"
 
-/* Up to this many units a result is written to the stack; from so many on, other Python threads run meanwhile. */
-#define SHORT 128
-#define LONG 65536
+/* Up to this many units a result, and a text, is on the stack; from so many on, other Python threads run meanwhile. */
+enum { SHORT = 128, MEDIUM = 1024, LONG = 65536 };
 #define INLINE static inline __attribute__((always_inline)) /* compiled into each call, which takes less time then */
 
-typedef icu_normalizer_form Form;
-typedef icu_normalizer_status Status;
+typedef uint32_t Form, Status;
 
 typedef struct {
     PyObject_HEAD icu_normalizer handle;
@@ -17,14 +15,13 @@ typedef struct {
     bool changes[4];    /* by form: whether the last text changed, as the next one is likely to */
 } Normalizer;
 
-/* A text: bytes and ASCII in UTF-8, a str beyond U+FFFF in UTF-32 until it is widened, any other str in UTF-16. */
+/* A text: bytes and ASCII in UTF-8, a str beyond U+FFFF in UTF-32 until it is put into UTF-16, any other in UTF-16. */
 typedef struct {
-    PyObject *object;
-    const void *units;
-    size_t length;
-    size_t width;   /* the bytes of a unit */
-    uint16_t *made; /* the units, if the str hasn't them itself */
-    uint16_t own[2 * SHORT];
+    PyObject *object, *encoded;      /* what was passed, and bytes that are made of it, or null */
+    const void *units, *characters;  /* the latter are those of a str, if they may be surrogates, or null */
+    size_t length, width, kind;      /* how many units there are, and the bytes of each, and of each character */
+    uint16_t *made, own[2 * MEDIUM]; /* the units of a str, if it hasn't them itself */
+    Py_UCS4 wide[MEDIUM];            /* the characters of a str, if its memory isn't read */
 } Text;
 
 typedef enum { NORMALIZE, MAP, VALIDATE, ASK } Way; /* what a call writes; or it only answers a question */
@@ -47,36 +44,23 @@ INLINE bool is_form(Normalizer *self, PyObject *word, Form *form) {
         if (word == self->words[*form]) return true;
     for (*form = PyUnicode_Check(word) ? 0 : 4; *form < 4; ++*form)
         if (!PyUnicode_CompareWithASCIIString(word, forms[*form])) break;
-    if (*form < 4) Py_XSETREF(self->words[*form], Py_NewRef(word));
-    return *form < 4;
+    if (*form == 4) return false;
+    PyObject *before = self->words[*form];
+    self->words[*form] = Py_NewRef(word);
+    Py_XDECREF(before);
+    return true;
 }
 
-typedef uint32_t Four __attribute__((vector_size(16)));
-#define PAIR_OF(character) ((((character) >> 10) + 0xD7C0) | (((character) & 0x3FF) | 0xDC00) << 16)
-
-/* Writes four characters as pairs of surrogates, if all are beyond U+FFFF. */
-static inline bool widen_four(const Py_UCS4 *from, uint16_t *to) {
-    Four four;
-    uint64_t narrow[2];
-    memcpy(&four, from, sizeof four);
-    Four is_narrow = (Four)(four >> 16 == 0), pairs = PAIR_OF(four);
-    memcpy(narrow, &is_narrow, sizeof narrow);
-    if (!(narrow[0] | narrow[1])) memcpy(to, &pairs, sizeof pairs);
-    return !(narrow[0] | narrow[1]);
-}
-
-/* Puts Latin-1 or UTF-32 into UTF-16. Surrogates stay as they are. */
-static bool is_widened(Text *text) {
-    size_t length = text->length;
-    uint16_t *units = length <= SHORT ? text->own : (text->made = PyMem_RawMalloc(4 * length)), *to = units;
-    const Py_UCS1 *latin = text->units, *latin_end = latin + (text->width == 1 ? length : 0);
-    const Py_UCS4 *from = text->units, *end = from + (text->width == 4 ? length : 0);
-    if (!units) return PyErr_NoMemory(), false;
-    while (latin < latin_end) *to++ = *latin++;
-    for (; end - from >= 4 && widen_four(from, to); from += 4) to += 8;
-    for (; from < end; from++) {
-        bool is_pair = *from > 0xFFFF;
-        uint32_t it = is_pair ? PAIR_OF(*from) : *from;
+/* Puts Latin-1 or UTF-32 into UTF-16, unless there is no memory. Surrogates stay as they are. */
+static bool is_utf16(Text *text) {
+    size_t length = text->length, width = text->width;
+    uint16_t *units = length <= MEDIUM ? text->own : (text->made = malloc(4 * length)), *to = units;
+    if (!units) return false;
+    for (size_t place = 0; width == 1 && place < length; place++) *to++ = ((const Py_UCS1 *)text->units)[place];
+    for (size_t place = 0; width == 4 && place < length; place++) {
+        Py_UCS4 it = ((const Py_UCS4 *)text->units)[place];
+        bool is_pair = it > 0xFFFF;
+        it = is_pair ? ((it >> 10) + 0xD7C0) | ((it & 0x3FF) | 0xDC00) << 16 : it;
         memcpy(to, &it, sizeof it); /* both units are stored at once, as they may be read */
         to += 1 + is_pair;
     }
@@ -86,62 +70,78 @@ static bool is_widened(Text *text) {
     return true;
 }
 
+#ifdef Py_LIMITED_API /* compiled for each Python from 3.10 on: the characters of a str are copied */
+static bool is_str(Text *text, size_t length) {
+    Py_UCS4 bits = 0;
+    if (length > MEDIUM) {
+        PyObject *is_ascii = PyObject_CallMethod(text->object, "isascii", NULL);
+        Py_XDECREF(is_ascii);
+        if (is_ascii == Py_True) text->units = PyUnicode_AsUTF8AndSize(text->object, NULL);
+        if (is_ascii != Py_False) return text->units;
+        text->encoded = PyUnicode_AsUTF16String(text->object);
+        if (!text->encoded && PyErr_ExceptionMatches(PyExc_UnicodeEncodeError)) PyErr_Clear(); /* it has surrogates */
+        if (!text->encoded) return false;
+        text->units = (uint16_t *)PyBytes_AsString(text->encoded) + 1; /* after a byte order mark */
+        text->width = sizeof *text->own;
+        text->length = (size_t)PyBytes_Size(text->encoded) / text->width - 1;
+        return true;
+    }
+    if (!PyUnicode_AsUCS4(text->object, text->wide, MEDIUM, 0)) return false;
+    for (size_t place = 0; place < length; place++) bits |= text->wide[place];
+    for (size_t at = 0; bits < 0x80 && at < length; at++) ((char *)text->own)[at] = (char)text->wide[at];
+    if (bits < 0x80) return (text->units = text->own) != NULL;
+    text->characters = text->units = text->wide;
+    text->kind = text->width = sizeof bits;
+    return bits > 0xFFFF || is_utf16(text);
+}
+#else /* compiled for one Python: the memory of a str is read */
+INLINE bool is_str(Text *text, size_t Py_UNUSED(length)) {
+    if (PyUnicode_READY(text->object)) return false;
+    text->units = PyUnicode_DATA(text->object);
+    text->kind = text->width = PyUnicode_KIND(text->object);
+    if (text->kind == 1) return PyUnicode_IS_ASCII(text->object) || is_utf16(text) || PyErr_NoMemory();
+    return (text->characters = text->units) != NULL;
+}
+#endif
+
+/* The str of well-formed UTF-16 or UTF-32. */
+static PyObject *str_of(size_t width, const void *units, size_t length) {
+    int order = -1; /* the least byte comes first */
+    Py_ssize_t size = (Py_ssize_t)(length * width);
+#ifndef Py_LIMITED_API
+    const uint16_t *narrow = units;
+    uint16_t pairs = 0;
+    for (size_t place = 0; width == 2 && place < length; place++) pairs |= narrow[place] >> 10 == 0xDC00 >> 10;
+    if (!pairs) return PyUnicode_FromKindAndData((int)width, units, (Py_ssize_t)length);
+#endif
+    return (width == 2 ? PyUnicode_DecodeUTF16 : PyUnicode_DecodeUTF32)(units, size, NULL, &order);
+}
+
 INLINE bool is_text(PyObject *object, Text *text) {
-    bool is_str = PyUnicode_Check(object);
-    if (is_str ? PyUnicode_READY(object) : !PyBytes_Check(object)) return false;
-    bool is_utf8 = !is_str || PyUnicode_IS_ASCII(object);
+    bool is = PyUnicode_Check(object);
+    Py_ssize_t length = is ? PyUnicode_GetLength(object) : PyBytes_Check(object) ? PyBytes_Size(object) : -1;
     text->object = object;
-    text->units = is_str ? PyUnicode_DATA(object) : PyBytes_AS_STRING(object);
-    text->length = (size_t)(is_str ? PyUnicode_GET_LENGTH(object) : PyBytes_GET_SIZE(object));
-    text->width = is_utf8 ? 1 : PyUnicode_KIND(object);
+    text->units = text->characters = text->encoded = NULL;
     text->made = NULL;
-    return is_utf8 || text->width != 1 || is_widened(text);
+    text->length = (size_t)length;
+    text->width = 1;
+    if (!is && length >= 0) text->units = PyBytes_AsString(object);
+    return is ? is_str(text, text->length) : length >= 0;
 }
 
 /* Whether what the library reads is the text: a str without surrogates, or bytes, of which those that are written are
    well-formed, or there is an exception. */
 static bool is_read(Way way, const Text *text) {
-    PyObject *it = text->object;
-    if (PyUnicode_Check(it)) {
-        size_t length = (size_t)PyUnicode_GET_LENGTH(it), width = PyUnicode_KIND(it);
-        const uint16_t *narrow = PyUnicode_DATA(it);
-        const Py_UCS4 *wide = PyUnicode_DATA(it);
-        uint16_t in_narrow = 0;
-        Py_UCS4 in_wide = 0;
-        for (size_t place = 0; width == 2 && place < length; place++) in_narrow |= narrow[place] >> 11 == 0xD800 >> 11;
-        for (size_t place = 0; width == 4 && place < length; place++) in_wide |= wide[place] >> 11 == 0xD800 >> 11;
-        return !in_narrow && !in_wide;
-    }
-    PyObject *made = way == ASK ? Py_NewRef(it) : PyUnicode_DecodeUTF8(text->units, (Py_ssize_t)text->length, NULL);
+    size_t length = text->characters ? (size_t)PyUnicode_GetLength(text->object) : 0, kind = text->kind;
+    const uint16_t *narrow = text->characters;
+    const Py_UCS4 *wide = text->characters;
+    uint16_t in_narrow = 0;
+    Py_UCS4 in_wide = 0;
+    for (size_t place = 0; kind == 2 && place < length; place++) in_narrow |= narrow[place] >> 11 == 0xD800 >> 11;
+    for (size_t place = 0; kind == 4 && place < length; place++) in_wide |= wide[place] >> 11 == 0xD800 >> 11;
+    if (way == ASK || !PyBytes_Check(text->object)) return !in_narrow && !in_wide;
+    PyObject *made = PyUnicode_DecodeUTF8(text->units, (Py_ssize_t)text->length, NULL);
     Py_XDECREF(made);
-    return made;
-}
-
-static size_t count_pairs(const uint16_t *units, size_t length) {
-    size_t pairs = 0;
-    for (size_t place = 0; place < length; place++) pairs += Py_UNICODE_IS_LOW_SURROGATE(units[place]);
-    return pairs;
-}
-
-/* The str of well-formed UTF-16 or UTF-32. */
-INLINE PyObject *str_of(int width, const void *units, size_t length) {
-    const uint16_t *from = units, *end = from + length;
-    Py_UCS4 bits = 0;
-    for (size_t place = 0; place < length; place++) bits |= PyUnicode_READ(width, units, place);
-    size_t pairs = width == 2 && bits >= 0xD800 ? count_pairs(units, length) : 0;
-    PyObject *made = PyUnicode_New((Py_ssize_t)(length - pairs), pairs || bits > 0xFFFF ? 0x10FFFF : bits);
-    if (!made) return NULL;
-    int kind = PyUnicode_KIND(made);
-    Py_UCS1 *latin = PyUnicode_DATA(made);
-    Py_UCS2 *narrow = PyUnicode_DATA(made);
-    Py_UCS4 *wide = PyUnicode_DATA(made);
-    if (kind == width) return memcpy(wide, units, length * (size_t)width), made;
-    for (size_t at = 0; kind == 1 && at < length; at++) latin[at] = (Py_UCS1)PyUnicode_READ(width, units, at);
-    for (size_t at = 0; kind == 2 && at < length; at++) narrow[at] = (Py_UCS2)PyUnicode_READ(width, units, at);
-    for (bool is_pair; kind == 4 && from < end; from += 1 + is_pair) {
-        is_pair = Py_UNICODE_IS_HIGH_SURROGATE(*from);
-        *wide++ = is_pair ? Py_UNICODE_JOIN_SURROGATES(from[0], from[1]) : *from;
-    }
     return made;
 }
 
@@ -151,24 +151,28 @@ static PyObject *made_of(Way way, const Text *text, const void *units, size_t le
     if (is_same) return Py_NewRef(text->object);
     if (PyBytes_Check(text->object)) return PyBytes_FromStringAndSize(units, (Py_ssize_t)length);
     if (text->width == 1) return PyUnicode_DecodeUTF8(units, (Py_ssize_t)length, NULL);
-    return text->width == 2 ? str_of(2, units, length) : str_of(4, units, length);
+    return str_of(text->width, units, length);
 }
 
 /* Writes to memory of its own, unless the text is already normalized. */
-static Status write_long(icu_normalizer *handle, Way way, Form form, const Text *text, char **units, size_t *length) {
-    size_t cut = 0, needed, width = text->width;
+static Status write_long(icu_normalizer *handle, Way way, Form form, Text *text, char **units, size_t *length) {
+    size_t cut = 0, needed;
+    bool is = false;
     if (way == NORMALIZE) {
-        Status status = BY_WIDTH(width, split, handle, form, text->units, text->length, &cut);
-        if (status || cut == text->length) return status;
+        Status status = text->width == 4
+            ? icu_normalizer_is_normalized_utf32(handle, form, text->units, text->length, &is)
+            : BY_WIDTH(text->width, split, handle, form, text->units, text->length, &cut);
+        if (status || is || cut == text->length) return status;
     }
+    if (text->width == 4 && !is_utf16(text)) return ICU_NORMALIZER_OUT_OF_MEMORY;
+    size_t width = text->width;
     /* The form is what comes before the cut, followed by the form of the rest. */
     const void *rest = (const char *)text->units + cut * width;
     size_t rest_length = text->length - cut;
     for (size_t room = 4 * rest_length + 64;; room = needed) {
-        char *larger = PyMem_RawRealloc(*units, (cut + room) * width);
+        char *larger = realloc(*units, (cut + room) * width);
         if (!larger) return ICU_NORMALIZER_OUT_OF_MEMORY;
-        *units = larger;
-        void *to = larger + cut * width;
+        void *to = (*units = larger) + cut * width;
         Status status = way == MAP ? BY_WIDTH(width, map, handle, rest, rest_length, to, room, &needed)
             : way == VALIDATE ? BY_WIDTH(width, validate, handle, rest, rest_length, to, room, &needed)
             : BY_WIDTH(width, normalize, handle, form, rest, rest_length, to, room, &needed);
@@ -179,18 +183,16 @@ static Status write_long(icu_normalizer *handle, Way way, Form form, const Text 
 }
 
 static PyObject *written(Normalizer *self, Way way, Form form, Text *text) {
-    bool is_short = way == NORMALIZE && text->length <= SHORT;
-    /* A short text is decomposed in UTF-32 in less time than UTF-16 takes. */
-    bool stays = is_short && (form == ICU_NORMALIZER_NFD || form == ICU_NORMALIZER_NFKD);
-    if (text->width == 4 && !stays && !is_widened(text)) return NULL;
     Status status;
     size_t length;
-    if (is_short && text->length <= SHORT) {
+    /* A short text is decomposed in UTF-32 in less time than UTF-16 takes. */
+    bool stays = form == ICU_NORMALIZER_NFD || form == ICU_NORMALIZER_NFKD, is_short = text->length <= SHORT;
+    if (text->width == 4 && is_short && !stays) is_utf16(text);
+    if (way == NORMALIZE && text->length <= SHORT) {
         Py_UCS4 own[18 * SHORT];
         status = BY_ANY_WIDTH(text->width, normalize, &self->handle, form, text->units, text->length, (void *)own,
             18 * SHORT, &length);
         if (status != ICU_NORMALIZER_BUFFER_TOO_SMALL) return status ? failed(status) : made_of(way, text, own, length);
-        if (text->width == 4 && !is_widened(text)) return NULL;
     }
     char *units = NULL;
     icu_normalizer own = ICU_NORMALIZER_CLOSED;
@@ -200,7 +202,7 @@ static PyObject *written(Normalizer *self, Way way, Form form, Text *text) {
     icu_normalizer_close(&own);
     if (is_shared) PyEval_RestoreThread(state);
     PyObject *made = status ? failed(status) : units ? made_of(way, text, units, length) : Py_NewRef(text->object);
-    PyMem_RawFree(units);
+    free(units);
     return made;
 }
 
@@ -217,20 +219,20 @@ static PyObject *normalized(Normalizer *self, Way way, Form form, Text *text) {
 static PyObject *checked(Normalizer *self, Way way, Form form, Text *text) {
     bool is = false;
     Status status = BY_ANY_WIDTH(text->width, is_normalized, &self->handle, form, text->units, text->length, &is);
-    if (status) return failed(status);
-    return is || is_read(way, text) ? PyBool_FromLong(is) : NULL;
+    return status ? failed(status) : is || is_read(way, text) ? PyBool_FromLong(is) : NULL;
 }
 
 /* Where in a str or bytes so many units of its text end, or its end. */
 static Py_ssize_t place_of(const Text *text, size_t units) {
-    if (units == text->length) return PyObject_Length(text->object);
-    bool has_pairs = text->width == 2 && PyUnicode_KIND(text->object) == PyUnicode_4BYTE_KIND;
-    return (Py_ssize_t)(units - (has_pairs ? count_pairs(text->units, units) : 0));
+    const uint16_t *from = text->units;
+    size_t pairs = 0;
+    for (size_t at = 0; text->width == 2 && at < units; at++) pairs += from[at] >> 10 == 0xDC00 >> 10;
+    return units == text->length ? PyObject_Length(text->object) : (Py_ssize_t)(units - pairs);
 }
 
 static PyObject *mismatched(Normalizer *self, Way way, Form form, Text *text) {
     icu_normalizer_mismatch it = {0, 0, 0, false};
-    if (text->width == 4 && !is_widened(text)) return NULL;
+    if (text->width == 4 && !is_utf16(text)) return PyErr_NoMemory();
     Status status = BY_WIDTH(text->width, first_mismatch, &self->handle, form, text->units, text->length, &it);
     if (status) return failed(status);
     if (!it.exists) Py_RETURN_NONE;
@@ -240,7 +242,7 @@ static PyObject *mismatched(Normalizer *self, Way way, Form form, Text *text) {
 
 static PyObject *divided(Normalizer *self, Way way, Form form, Text *text) {
     size_t cut = 0;
-    if (text->width == 4 && !is_widened(text)) return NULL;
+    if (text->width == 4 && !is_utf16(text)) return PyErr_NoMemory();
     Status status = BY_WIDTH(text->width, split, &self->handle, form, text->units, text->length, &cut);
     if (status) return failed(status);
     if (cut < text->length && !is_read(way, text)) return NULL;
@@ -262,13 +264,15 @@ INLINE PyObject *called(Way way, PyObject *(*answer)(Normalizer *, Way, Form, Te
             has_form ? "2 positional arguments" : "1 positional argument", count);
     if (!names && (!has_form || is_form(self, passed[0], &form)) && is_text(passed[count - 1], &text)) {
         PyObject *made = answer(self, way, form, &text);
-        if (text.made) PyMem_RawFree(text.made);
+        free(text.made);
+        Py_XDECREF(text.encoded);
         if (made) return made;
     }
-    PyObject *method = PyErr_Occurred() ? NULL : PyObject_GetAttrString(it, otherwise);
-    PyObject *made = method ? PyObject_Vectorcall(method, passed, (size_t)count, names) : NULL;
-    Py_XDECREF(method);
-    return made;
+    Py_ssize_t total = count + (names ? PyTuple_Size(names) : 0);
+    PyObject *words = PyErr_Occurred() ? NULL : PyTuple_New(total);
+    if (!words) return NULL;
+    for (Py_ssize_t place = 0; place < total; place++) PyTuple_SetItem(words, place, Py_NewRef(passed[place]));
+    return PyObject_CallMethod(it, "_called", "sNO", otherwise, words, names ? names : Py_None);
 }
 
 #define CALLS(CALL) \
@@ -307,7 +311,7 @@ static PyObject *create(PyTypeObject *type, PyObject *passed, PyObject *Py_UNUSE
     unsigned int limit;
     bool is = PyArg_ParseTuple(passed, "y#|y#y#I", &data, &data_length, &exclusions, &exclusions_length, &table,
         &table_length, &limit);
-    Normalizer *self = is ? (Normalizer *)type->tp_alloc(type, 0) : NULL;
+    Normalizer *self = is ? (Normalizer *)((allocfunc)PyType_GetSlot(type, Py_tp_alloc))(type, 0) : NULL;
     if (!self) return NULL;
     self->handle = (icu_normalizer)ICU_NORMALIZER_CLOSED;
     icu_normalizer_defect defect = {.source = ICU_NORMALIZER_ALL_RECORDS};
@@ -322,28 +326,24 @@ static PyObject *create(PyTypeObject *type, PyObject *passed, PyObject *Py_UNUSE
 }
 
 static void release(PyObject *it) {
-    Normalizer *self = (Normalizer *)it;
     PyTypeObject *type = Py_TYPE(it);
-    icu_normalizer_close(&self->handle);
-    for (size_t form = 0; form < 4; form++) Py_XDECREF(self->words[form]);
-    type->tp_free(it);
+    icu_normalizer_close(&((Normalizer *)it)->handle);
+    for (size_t form = 0; form < 4; form++) Py_XDECREF(((Normalizer *)it)->words[form]);
+    ((freefunc)PyType_GetSlot(type, Py_tp_free))(it);
     Py_DECREF(type);
 }
 
-static PyType_Slot slots[] = {{Py_tp_methods, methods}, {Py_tp_new, create}, {Py_tp_dealloc, release}, {0, NULL}};
-static PyType_Spec spec = {
-    "icu_normalizer._native.Normalizer", sizeof(Normalizer), 0, Py_TPFLAGS_DEFAULT | Py_TPFLAGS_BASETYPE, slots};
+static PyType_Spec spec = {"icu_normalizer._native.Normalizer", sizeof(Normalizer), 0,
+    Py_TPFLAGS_DEFAULT | Py_TPFLAGS_BASETYPE, (PyType_Slot[]){
+        {Py_tp_methods, methods}, {Py_tp_new, create}, {Py_tp_dealloc, release}, {0, NULL}}};
 
 static int add_content(PyObject *module) {
-    PyObject *type = PyType_FromSpec(&spec);
-    int status = type ? PyModule_AddType(module, (PyTypeObject *)type) : -1;
-    Py_XDECREF(type);
+    int status = PyModule_AddObject(module, "Normalizer", PyType_FromSpec(&spec));
     return status ? status : PyModule_AddIntConstant(module, "version", (long)icu_normalizer_version());
 }
 
-static PyModuleDef_Slot module_slots[] = {{Py_mod_exec, add_content}, {0, NULL}};
-static PyModuleDef module = {
-    .m_base = PyModuleDef_HEAD_INIT, .m_name = "icu_normalizer._native", .m_slots = module_slots};
+static PyModuleDef module = {.m_base = PyModuleDef_HEAD_INIT, .m_name = "icu_normalizer._native",
+    .m_slots = (PyModuleDef_Slot[]){{Py_mod_exec, add_content}, {0, NULL}}};
 
 PyMODINIT_FUNC PyInit__native(void) {
     return PyModuleDef_Init(&module);

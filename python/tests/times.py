@@ -1,11 +1,6 @@
 """Times `normalize` beside that of `unicodedata`, on strings of 10 and of 10^6 characters: a ratio for each text and
-form.
-
-times.py [--most RATIO]: the status is 1 if a ratio of 10 characters is greater than that in each of three timings: what
-else runs on the machine slows the shorter call down by more."""
-import argparse
+form."""
 import statistics
-import sys
 import time
 import timeit
 import unicodedata
@@ -82,6 +77,7 @@ LONG = (
     "Latin",
     "Latin, decomposed",
     "Vietnamese",
+    "Greek",
     "Cyrillic",
     "Arabic",
     "Arabic, vocalized",
@@ -106,33 +102,17 @@ def ratio(form, text, samples=51, number=5000):
     return statistics.median(own.timeit(number) / other.timeit(number) for _ in range(samples))
 
 
-def least_ratio(form, text, most):
-    """The ratio, or the least of three if it is greater than what is allowed."""
-    found = ratio(form, text)
-    return min(found, ratio(form, text), ratio(form, text)) if most and found > most else found
-
-
 def row(name, ratios):
     print(f"{name:25}" + "".join(f"{it:7.2f}" for it in ratios), flush=True)
 
 
 def main():
-    parser = argparse.ArgumentParser(description=__doc__)
-    parser.add_argument("--most", type=float)
-    most = parser.parse_args().most
-    greatest = 0
     print(f"{'10 characters':25}" + "".join(f"{form:>7}" for form in FORMS))
     for name, text in TEXTS.items():
-        ratios = [least_ratio(form, text, most) for form in FORMS]
-        greatest = max(greatest, *ratios)
-        row(name, ratios)
+        row(name, [ratio(form, text) for form in FORMS])
     print(f"{'10^6 characters':25}" + "".join(f"{form:>7}" for form in FORMS))
     for name in LONG:
         row(name, [ratio(form, 10**5 * TEXTS[name], samples=5, number=1) for form in FORMS])
-    verdict = f"`normalize` takes at most {greatest:.2f} times as long as `unicodedata` on 10 characters"
-    if most and greatest > most:
-        sys.exit(verdict)
-    print(verdict)
 
 
 if __name__ == "__main__":
