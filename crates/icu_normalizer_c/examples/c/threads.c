@@ -1,6 +1,6 @@
-/* Sixteen threads, each with a handle of its own over the same data: threads DIRECTORY [ROUNDS]. Each shares its handle
-   again, opens one of the copies again, and closes all, while the others do. All also use, share, close and open one
-   handle, which at most one of them has at a time. */
+/* Sixteen threads, each with a handle of its own over the same data: threads DIRECTORY [ROUNDS [own]]. Each shares its
+   handle again, opens one of the copies again, and closes all, while the others do. Without the word `own`, all also
+   use, share, close and open one handle, which at most one of them has at a time. */
 #include "icu_normalizer.h"
 
 #include <pthread.h>
@@ -18,6 +18,7 @@ static void failed(const char *what, int line) {
 
 static const char data[] = "00E4;;;0;;0061 0308;;;;;;;;;\n0308;;;230;;;;;;;;;;;\n# EOF\n", end[] = "# EOF\n";
 static unsigned long rounds = 2000;
+static bool has_common = true;
 static icu_normalizer common = ICU_NORMALIZER_CLOSED;
 
 static void normalizes(icu_normalizer *normalizer) {
@@ -65,7 +66,7 @@ static void *run(void *passed) {
             EXPECT(!icu_normalizer_share(&other, own));
         }
         icu_normalizer_close(&other);
-        use_common(own, round % 16 == 0);
+        if (has_common) use_common(own, round % 16 == 0);
     }
     icu_normalizer_close(own);
     return NULL;
@@ -87,6 +88,7 @@ static char *read_file(const char *directory, const char *name, size_t *length) 
 int main(int count, char **words) {
     EXPECT(count >= 2);
     if (count > 2) rounds = strtoul(words[2], NULL, 10);
+    has_common = count < 4;
     size_t unicode_data_length, exclusions_length;
     char *unicode_data = read_file(words[1], "UnicodeData.txt", &unicode_data_length);
     char *exclusions = read_file(words[1], "CompositionExclusions.txt", &exclusions_length);
