@@ -262,7 +262,7 @@ module _ (m : MadeForm) where
   }
 
   -- the last piece
-  pub compared-last : (mode : ErrorMode) (passed bytes : List ℕ) (cursor cursor' : Cursor) → Agrees m passed bytes cursor → (found : Option Comparison)
+  compared-last : (mode : ErrorMode) (passed bytes : List ℕ) (cursor cursor' : Cursor) → Agrees m passed bytes cursor → (found : Option Comparison)
       → IsPieceCompared mode m passed bytes found cursor' → Compares mode m.reading m.form (passed ++ bytes) (unwrap_or found comparison.Normalized)
   compared-last mode passed bytes cursor cursor' a None h =
       normalized-further passed bytes [] cursor (subst (λ x. Agrees m passed x cursor) (sym (append-nil bytes)) a) (inl refl) h.0
@@ -356,7 +356,7 @@ module _ (m : MadeForm) where
     compares = subst (λ x. Compares mode m.reading m.form x found) (sym p.parts) h;
   }
 
-  pub IsComparison-ended : (mode : ErrorMode) (l n : Option (List ℕ)) (c : List ℕ) (cursor : Cursor) → IsReadTo m l n c cursor → IsAtEnd n → (r : Result Comparison TransferError)
-      → IfOk r (λ found. (passed : List ℕ) → Agrees m passed c cursor → Compares mode m.reading m.form (passed ++ c) found) → IfOk r (IsComparison mode m.reading m.form l)
-  IsComparison-ended mode l n c cursor p end (Ok found) h = IsComparison-last mode l n c cursor p end found (h p.passed p.agrees)
-  IsComparison-ended mode l n c cursor p end (Err e) h = tt
+  pub IsComparison-ended : (mode : ErrorMode) (l n : Option (List ℕ)) (c : List ℕ) (cursor cursor' : Cursor) → (p : IsReadTo m l n c cursor) → IsAtEnd n → (last : Option Comparison)
+      → IsPieceCompared mode m p.passed c last cursor' → IsComparison mode m.reading m.form l (unwrap_or last comparison.Normalized)
+  IsComparison-ended mode l n c cursor cursor' p end last h =
+      IsComparison-last mode l n c cursor p end (unwrap_or last comparison.Normalized) (compared-last mode p.passed c cursor cursor' p.agrees last h)

@@ -69,7 +69,8 @@ pub fn first_mismatch<R: Source>(
     for _ in 0..u64::MAX {
         let searched = carried.bytes().len();
         if !carried.read_block(reader)? {
-            return compare_last(mode, normalizer, carried.bytes(), &mut cursor);
+            let last = compare_piece(mode, normalizer, carried.bytes(), &mut cursor)?;
+            return Ok(last.unwrap_or(Comparison::Normalized));
         }
         let found = compare_settled(mode, normalizer, &mut carried, searched, &mut cursor)?;
         if let Some(found) = found {
@@ -77,22 +78,6 @@ pub fn first_mismatch<R: Source>(
         }
     }
     Err(TransferError::Read)
-}
-
-/// Compares the last bytes with their form.
-fn compare_last(
-    mode: ErrorMode,
-    normalizer: &AnyNormalizer,
-    bytes: &[u8],
-    cursor: &mut Cursor,
-) -> Result<Comparison, TransferError>
-    ensures compared { IfOk result (λ found. (passed : List ℕ) →
-        Agrees (made_by normalizer.now) passed bytes.now cursor.old →
-        Compares mode (reading_of normalizer.now) (kind_by normalizer.now) (passed ++ bytes.now) found) }
-    ensures errors { IfErr result (λ error. error ≡ TransferError.Memory) }
-{
-    let found = compare_piece(mode, normalizer, bytes, cursor)?;
-    Ok(found.unwrap_or(Comparison::Normalized))
 }
 
 /// Compares what is settled of the bytes that are carried with its form, and keeps the rest. All places up to

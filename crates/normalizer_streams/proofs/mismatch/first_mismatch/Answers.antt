@@ -1,5 +1,6 @@
-use Rattle.std.proofs.Common.{◌^◌, ◌-◌, arith, inr}
-use Rattle.icu_normalizer.specs.AnyNormalizers.{made_by}
+use Rattle.std.proofs.Common.{◌^◌, ◌-◌, arith, inr, subst, sym}
+use Rattle.icu_normalizer.specs.AnyNormalizers.{kind_by, made_by, reading_of}
+use Rattle.normalizer_streams.specs.Mismatches.{IsComparison}
 use Rattle.normalizer_streams.proofs.ComparisonLemmas.{IsComparison-ended, IsComparison-some, IsReadTo-block, IsReadTo-more, IsReadTo-none}
 use Rattle.normalizer_streams.proofs.MoveLemmas.{read_is_within}
 use Rattle.normalizer_streams.proofs.mismatch.first_mismatch.Goals as goal
@@ -13,10 +14,12 @@ loop-init g c = record {
 
 pub returns-then-not-branch-clause-compared : goal.returns-then-not-branch-clause-compared
 returns-then-not-branch-clause-compared g c =
-    let m = made_by c.args.normalizer.now in
+    let n = c.args.normalizer.now in
     let block = c.in_ok-read_block.ensures.carries in
-    let reads = IsReadTo-more m _ _ _ _ _ c.loop.cursor _ c.loop.invariant.reads block in
-    IsComparison-ended m c.args.mode _ _ c.read_block.new.self c.loop.cursor reads (block.end c.if-not-branch.true) c.compare_last.result (rw c.bytes.ensures at c.compare_last.ensures.compared)
+    let reads = IsReadTo-more (made_by n) _ _ _ _ _ c.loop.cursor _ c.loop.invariant.reads block in
+    let piece = rw c.bytes.ensures at c.in_ok-last.ensures.compared in
+    subst (IsComparison c.args.mode (reading_of n) (kind_by n) _) (sym c.unwrap_or.ensures)
+    (IsComparison-ended (made_by n) c.args.mode _ _ c.read_block.new.self c.loop.cursor c.compare_piece.new.cursor reads (block.end c.if-not-branch.true) c.in_ok-last.last (piece reads.passed reads.agrees.at))
 
 pub returns-in-Some-clause-compared : goal.returns-in-Some-clause-compared
 returns-in-Some-clause-compared g c =
