@@ -1,6 +1,6 @@
 -- The lines of a text: one after another, and by mappings that make the same.
 use Rattle.std.proofs.Common.{◌≡◌, ℕ, ◌+◌, ◌==◌, ◌<◌, ◌≤◌, suc, Result, Ok, Err, IfOk, List, [], ◌∷◌, ◌++◌, length, drop, get_or, map, Bor, append-nil, append_assoc, refl, sym, ap, ◌∙◌, arith}
-use Rattle.std.specs.Prelude.{bytes_eq, encode_utf8_all, not, ◌&&◌}
+use Rattle.std.specs.Prelude.{bytes_eq, encode_utf8_all, not, ◌&&◌, OnOk}
 use Rattle.std.specs.List.{join_with_byte, list_any}
 use Rattle.std.proofs.lemmas.List.{length-map}
 use Rattle.std.proofs.lemmas.List.Splits.{length-slice_split}
@@ -32,6 +32,13 @@ pub few-lines : {V E : Type 0} (items : V → List (Bor (List ℕ))) (text : Lis
 few-lines items text (Ok v) h =
     omega (arith, ap length h, length-map (items v) (λ (line : Bor (List ℕ)). line.now), length-slice_split (λ c. c == 0x0A) text, count_by-le-length (λ c. c == 0x0A) text)
 few-lines items text (Err e) h = tt
+
+-- a text is appended after a beginning
+pub appended : {V E : Type 0} (r : Result V E) (new now old front rest : List ℕ) → OnOk r (new ≡ now ++ encode_utf8_all rest) → now ≡ old ++ encode_utf8_all front
+    → OnOk r (new ≡ old ++ encode_utf8_all (front ++ rest))
+appended (Ok v) new now old front rest is begins =
+    is ∙ ap (λ x. x ++ encode_utf8_all rest) begins ∙ append_assoc old (encode_utf8_all front) (encode_utf8_all rest) ∙ ap (λ x. old ++ x) (sym (encoded-append front rest))
+appended (Err e) new now old front rest is begins = tt
 
 module _ (task : MapperTask) (m : Mapping) (name : List ℕ) (lines : List (Bor (List ℕ))) (before i : ℕ) (output : List ℕ) where
   -- a line more in a loop

@@ -1,5 +1,5 @@
 //! A target that ends what writes to it.
-ghost use Rattle.std.specs.Prelude.{◌≡◌, None, Some, is_some, true};
+ghost use Rattle.std.specs.Prelude.{◌≡◌, Some, is_some, true};
 ghost use Rattle.std.specs.Option.{option_to_list};
 
 use normalizer_io::{DeviceError, Target};
@@ -7,15 +7,7 @@ use normalizer_io::{DeviceError, Target};
 /// A target that takes one byte, and refuses all others: so who writes to it stops.
 #[derive(Drop)]
 pub(crate) struct FirstByte {
-    byte: Option<u8>,
-}
-
-impl FirstByte {
-    pub(crate) fn new() -> FirstByte
-        ensures { result.byte ≡ None }
-    {
-        FirstByte { byte: None }
-    }
+    pub(crate) byte: Option<u8>,
 }
 
 impl Target for FirstByte {

@@ -1,6 +1,8 @@
 //! What is done with a file by the mapper.
 ghost use Rattle.std.specs.Prelude.{◌≡◌, ◌≢◌, ◌⊎◌, ◌<◌, ◌≤◌, ◌+◌, ◌-◌, ◌^◌, ◌++◌, length, map, string_bytes};
-ghost use Rattle.std.specs.Prelude.{encode_utf8_all, false, if◌then◌else◌, [], IfErr, IfOk, IsErrOf, IsOkUnless};
+ghost use Rattle.std.specs.Prelude.{encode_utf8_all, false, if◌then◌else◌, ℕ, List, [], IfErr, IfOk, IsErrOf, IsOkUnless, OnOk};
+ghost use Rattle.std.specs.Iterator.{IsFinite};
+ghost use Rattle.icu_normalizer.specs.Items.{SpellsUnless};
 ghost use Rattle.icu_normalizer.specs.Mappers.{mapper_data_of, mapper_data_of_borrowed};
 ghost use Rattle.normalizer_io.specs.Transfer.{IsUnrefused};
 ghost use Rattle.normalizer_streams.specs.Streams.{IsEndless};
@@ -20,9 +22,9 @@ use crate::command::{Listing, MapperTask};
 use crate::fault::Fault;
 use crate::first_byte::FirstByte;
 use crate::reply::{Answer, Reply, name_of, write_known};
-use icu_normalizer::IgnoredCharacters::Dropped;
+use icu_normalizer::iterator_laws::text_comes_unless_a_fault_does;
 use icu_normalizer::uts46::{Uts46Mapper, Uts46MapperBorrowed};
-use icu_normalizer::{NormalizeError, is_valid, mapped};
+use icu_normalizer::{NormalizeError, is_valid};
 use normalizer_io::{Source, Target, TransferError};
 use normalizer_streams::{Ending, ErrorMode, LineTask, write_replies};
 use std::alloc::{AllocError, Global};
@@ -85,42 +87,40 @@ impl MapperTask {
         name: &str,
         before: usize,
         lines: &[&[char]],
-    ) -> Result<Vec<u8>, NormalizeError>
+    ) -> Result<String, NormalizeError>
         requires { before + length lines.now < 2 ^ 64 }
-        ensures written { IfOk result (λ output. output.items ≡ replies_to self
+        ensures written { IfOk result (λ output. string_bytes output ≡ replies_to self
             (mapping_of (mapper_data_of_borrowed mapper.now)) name.now before (map (λ line. line.now) lines.now)) }
         ensures refused { IsOkUnless result NormalizeError.Memory }
     {
-        let mut output = Vec::new(alloc);
+        let mut output = String::new(alloc);
         for (index, line) in lines.iter().enumerate() {
-            let reply = self.reply_to(alloc, mapper, name, before + index, line)?;
-            output.extend_from_slice(&reply)?;
+            self.append_reply_to(alloc, mapper, name, before + index, line, &mut output)?;
         }
         Ok(output)
     }
 
-    /// What is written of a line.
-    fn reply_to(
+    /// Appends what is written of a line.
+    fn append_reply_to(
         self,
         alloc: Global,
         mapper: &Uts46MapperBorrowed<'_>,
         name: &str,
         index: usize,
         line: &[char],
-    ) -> Result<Vec<u8>, NormalizeError>
+        output: &mut String,
+    ) -> Result<(), NormalizeError>
         requires { index + 1 < 2 ^ 64 }
-        ensures written { IfOk result (λ reply. reply.items ≡ reply_to self
+        ensures written { OnOk result (string_bytes output.new ≡ string_bytes output.old ++ reply_to self
             (mapping_of (mapper_data_of_borrowed mapper.now)) name.now index line.now) }
         ensures refused { IsOkUnless result NormalizeError.Memory }
     {
         match self {
-            MapperTask::Map => {
-                let mapped = mapped_line(alloc, mapper, index == 0, line)?;
-                Ok(utf8(alloc, &mapped)?.into_bytes())
-            }
+            MapperTask::Map => append_line(mapper, index == 0, line, output),
             MapperTask::Validate(_) => {
                 let valid = is_valid(alloc, mapper, line)?;
-                Ok(told_unless(alloc, valid, name, index + 1)?)
+                let told = told_unless(alloc, valid, name, index + 1)?;
+                Ok(output.push_str(&told)?)
             }
         }
     }
@@ -157,7 +157,7 @@ impl<'a> LineTask for MapperLines<'a> {
         output: &mut Vec<u8>,
     ) -> Result<(), AllocError> {
         match self.reply(alloc, lines, text) {
-            Ok(reply) => output.extend_from_slice(&reply),
+            Ok(reply) => output.extend_from_slice(reply.as_bytes()),
             Err(_) => Err(AllocError),
         }
     }
@@ -203,7 +203,7 @@ impl<'a> MapperLines<'a> {
             R.refusal reader.old reader.new ⊎ IsEndless (R.bytes_left reader.old) }
         ensures read_ahead { ¬ IsErrOf result TransferError.Read → IsUnrefused R.refusal reader.old reader.new }
     {
-        let mut first = FirstByte::new();
+        let mut first = FirstByte { byte: None };
         match write_replies(alloc, mode, self, reader, &mut first) {
             Ok(replied) => Ok(self.reply_by(alloc, listing, replied.is_silent, replied.ending)?),
             Err(TransferError::Write) => Ok(Reply {
@@ -237,9 +237,9 @@ impl<'a> MapperLines<'a> {
     }
 
     /// The reply to a text that comes after so many lines.
-    fn reply(&self, alloc: Global, lines: usize, text: &[char]) -> Result<Vec<u8>, NormalizeError>
+    fn reply(&self, alloc: Global, lines: usize, text: &[char]) -> Result<String, NormalizeError>
         requires { lines + length text.now < 2 ^ 64 - 1 }
-        ensures written { IfOk result (λ output. output.items ≡ reply_after self.now.task
+        ensures written { IfOk result (λ output. string_bytes output ≡ reply_after self.now.task
             (mapper_data_of_borrowed self.now.mapper) self.now.name.now lines text.now) }
         ensures refused { IsOkUnless result NormalizeError.Memory }
     {
@@ -250,13 +250,6 @@ impl<'a> MapperLines<'a> {
     }
 }
 
-/// The bytes of a text.
-fn utf8(alloc: Global, text: &[char]) -> Result<String, AllocError>
-    ensures { IfOk result (λ bytes. string_bytes bytes ≡ encode_utf8_all text.now) }
-{
-    text.iter().copied().collect(alloc)
-}
-
 /// What is between line feeds.
 fn lines_of(alloc: Global, text: &[char]) -> Result<Vec<&[char]>, AllocError>
     ensures lines { IfOk result (λ lines. map (λ line. line.now) lines.items ≡ lines_of text.now) }
@@ -265,32 +258,47 @@ fn lines_of(alloc: Global, text: &[char]) -> Result<Vec<&[char]>, AllocError>
     text.split(|c| *c == '\n').collect(alloc)
 }
 
-/// A line, mapped; but for the first, after a line feed.
-fn mapped_line(
-    alloc: Global,
+/// Appends a line, mapped; but for the first, after a line feed.
+fn append_line(
     mapper: &Uts46MapperBorrowed<'_>,
     is_first: bool,
     line: &[char],
-) -> Result<Vec<char>, NormalizeError>
-    ensures mapped { IfOk result (λ text. text.items
-        ≡ feed_unless is_first ++ (mapping_of (mapper_data_of_borrowed mapper.now)).map line.now) }
+    output: &mut String,
+) -> Result<(), NormalizeError>
+    ensures mapped { OnOk result (string_bytes output.new ≡ string_bytes output.old ++ encode_utf8_all
+        (feed_unless is_first ++ (mapping_of (mapper_data_of_borrowed mapper.now)).map line.now)) }
     ensures refused { IsOkUnless result NormalizeError.Memory }
 {
-    let mut text = feed_unless(alloc, is_first)?;
-    let mapped = mapped(alloc, mapper, Dropped, line.iter().copied())?;
-    text.extend_from_slice(&mapped)?;
-    Ok(text)
+    output.push_str(feed_unless(is_first))?;
+    append_items(mapper.map_normalize(line.iter().copied())?, output)
 }
 
 /// A line feed, or nothing.
-fn feed_unless(alloc: Global, is_first: bool) -> Result<Vec<char>, AllocError>
-    ensures { IfOk result (λ text. text.items ≡ feed_unless is_first) }
+fn feed_unless(is_first: bool) -> &'static str
+    ensures { result.now ≡ encode_utf8_all (feed_unless is_first) }
 {
-    let mut text = Vec::new(alloc);
-    if !is_first {
-        text.push('\n')?;
+    if is_first { "" } else { "\n" }
+}
+
+/// Appends what an iterator yields.
+fn append_items<I: Iterator<Item = Result<char, NormalizeError>> + Drop>(
+    items: I,
+    output: &mut String,
+) -> Result<(), NormalizeError>
+    requires can { I.can_next items }
+    requires ends { IsFinite (I.remaining items) }
+    ensures { (x : List ℕ) → SpellsUnless I.next_gives NormalizeError.Memory items x →
+        OnOk result (string_bytes output.new ≡ string_bytes output.old ++ encode_utf8_all x)
+        × IsOkUnless result NormalizeError.Memory }
+{
+    text_comes_unless_a_fault_does::<NormalizeError, I>();
+    for item in items {
+        match output.push(item?) {
+            Ok(()) => {}
+            Err(_) => return Err(NormalizeError::Memory),
+        }
     }
-    Ok(text)
+    Ok(())
 }
 
 /// The report of a line, unless it is valid.
@@ -299,13 +307,13 @@ fn told_unless(
     is_valid: bool,
     name: &str,
     number: usize,
-) -> Result<Vec<u8>, AllocError>
-    ensures { IfOk result (λ report. report.items ≡ told_unless is_valid name.now number) }
+) -> Result<String, AllocError>
+    ensures { IfOk result (λ report. string_bytes report ≡ told_unless is_valid name.now number) }
 {
     if is_valid {
-        return Ok(Vec::new(alloc));
+        return Ok(String::new(alloc));
     }
-    Ok(invalid_line(alloc, name, number)?.into_bytes())
+    invalid_line(alloc, name, number)
 }
 
 /// The name of the file, and the number of a line.

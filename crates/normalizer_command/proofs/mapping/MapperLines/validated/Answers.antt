@@ -11,4 +11,4 @@ returns-in_ok-name_of-in-Err-Write-clause-replies g c = λ m maps.
     let t = c.args.self.now in
     let failed : TransferError → Result Replied TransferError = λ error. Err error in
     invalidated c.args.listing c.requires.names c.args.mode (mapper_data_of_borrowed t.mapper) m maps t.name.now _ c.write_replies.new.writer.byte
-    (e.write (ap failed c.in-Err-Write.field-0-is)) (rw c.requires.task at (rw c.new-first.ensures at e.front)) _ c.in_ok-name_of-in-Err-Write.ensures
+    (e.write (ap failed c.in-Err-Write.field-0-is)) (rw c.requires.task at e.front) _ c.in_ok-name_of-in-Err-Write.ensures
