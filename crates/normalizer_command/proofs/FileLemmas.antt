@@ -8,7 +8,7 @@ use Rattle.normalizer_command.specs.declared.fault.Fault.{Fault}
 use Rattle.normalizer_command.specs.declared.fault.Fault.TheVariants.{Open, Read, Write, InPlace, Memory, Line, Records, Prepared, IllFormed, Replaced}
 use Rattle.normalizer_streams.specs.Streams.{IsEndless}
 use Rattle.normalizer_command.specs.FileFaults.{IsReadUnrefused, IsTransferFault}
-use Rattle.normalizer_command.specs.Devices.{devices, Devices, Files}
+use Rattle.normalizer_command.specs.Devices.{devices, Files}
 use Rattle.normalizer_command.specs.Outcomes.{AreEach, MayFail, State}
 use Rattle.normalizer_command.specs.Works.{Work}
 use Rattle.normalizer_command.specs.Written.{IsOutcome}

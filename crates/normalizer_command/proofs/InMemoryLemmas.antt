@@ -1,10 +1,11 @@
 -- A run over files in memory, by what it does over devices.
-use Rattle.std.proofs.Common.{◌≡◌, ◌⊎◌, inl, inr, ℕ, Bool, true, false, List, [], ◌∷◌, ◌++◌, Option, Some, None, Result, Ok, Err, IfSome, MatchOption, refl, sym, ap, subst, ◌∙◌, arith, append_assoc, append-nil, length}
-use Rattle.std.specs.Prelude.{All, IsErrOf, nat_lt}
+use Rattle.std.proofs.Common.{◌≡◌, ◌⊎◌, inl, inr, ℕ, true, List, [], ◌∷◌, ◌++◌, Option, Some, None, Result, Ok, Err, IfSome, MatchOption, refl, sym, ap, subst, ◌∙◌, arith, append_assoc, append-nil, length}
+use Rattle.std.specs.Prelude.{All, IsErrOf, max}
 use Rattle.std.specs.Option.{option_map, option_to_list}
 use Rattle.std.specs.Io.KnownBytes.{Appends}
 use Rattle.std.proofs.Math.Seq.{drop-append_seam, take-append_seam}
-use Rattle.std.proofs.lemmas.Bool.{ltb-false, ltb-true, true≢false}
+use Rattle.std.proofs.Math.Nat.{max-zero, zero-max}
+use Rattle.std.proofs.lemmas.Bool.{true≢false}
 use Rattle.std.proofs.lemmas.List.Elements.{All-drop, All-head, All-take}
 use Rattle.std.specs.declared.io.ErrorKind.{ErrorKind}
 use Rattle.std.specs.declared.io.ErrorKind.TheVariants.{NotFound}
@@ -15,22 +16,13 @@ use Rattle.normalizer_command.specs.Devices.{Devices, Files, devices}
 use Rattle.normalizer_command.specs.FileFaults.{is_refusal}
 use Rattle.normalizer_command.specs.FileReports.{Report, Tells}
 use Rattle.normalizer_command.specs.InMemory.{in_memory, reports_of, AreHandled, Effect, IsEffectOf, IsHandled, LacksDataInMemory}
-use Rattle.normalizer_command.specs.Outcomes.{fault_told, greater, status_of, AreDone, AreEach, IsDone, State}
+use Rattle.normalizer_command.specs.Outcomes.{fault_told, status_of, AreDone, AreEach, IsDone, State}
 use Rattle.normalizer_command.specs.Replies.{IsReply}
 use Rattle.normalizer_command.specs.Runs.{IsByData, IsRun, LacksData}
 use Rattle.normalizer_command.specs.Works.{Work}
 use Rattle.normalizer_command.specs.inner.Kept.{IsOfData}
 use Rattle.normalizer_command.specs.declared.fault.Fault.{Fault}
 use Rattle.normalizer_command.specs.declared.fault.Fault.TheVariants.{Open, Read, Write, InPlace, Memory, Line, Records, Prepared, IllFormed, Replaced}
-
--- ---- the greatest of statuses
-
-greater-nil : (a : ℕ) → a ≡ greater a 0
-greater-nil a = by (nat_lt a 0) refl
-  where
-    by : (b : Bool) → nat_lt a 0 ≡ b → a ≡ greater a 0
-    by false is = rw is refl
-    by true is = absurd (omega (arith, ltb-true a 0 is))
 
 -- ---- reports that are known
 
@@ -124,7 +116,7 @@ module _ {W : Type 0} (taken : W → Option (List ℕ)) (items : W → List ℕ)
       effect : Effect
       reported : after ≡ told ++ effect.reports
       written : items t.writer ≡ items s.writer ++ effect.output
-      status : t.status ≡ greater s.status effect.status
+      status : t.status ≡ max s.status effect.status
       handled : AreHandled bytes_of w names effect
 
     nothing : (s t : State W) (after : List Report) → s ≡ t → t.told ≡ Some after → Handled [] s t after
@@ -134,34 +126,26 @@ module _ {W : Type 0} (taken : W → Option (List ℕ)) (items : W → List ℕ)
       effect = record { output = []; reports = []; status = 0 };
       reported = sym (append-nil after);
       written = ap (λ x. items x.writer) (sym same) ∙ sym (append-nil (items s.writer));
-      status = ap (λ x. x.status) (sym same) ∙ greater-nil s.status;
+      status = ap (λ x. x.status) (sym same) ∙ sym (max-zero s.status);
       handled = refl;
     }
 
-    greater-after : (a b c : ℕ) → greater (greater a b) c ≡ greater a (greater b c)
-    greater-after a b c = by (nat_lt a b) (nat_lt b c) (nat_lt a c) refl refl refl
-      where
-        by : (x y z : Bool) → nat_lt a b ≡ x → nat_lt b c ≡ y → nat_lt a c ≡ z → greater (greater a b) c ≡ greater a (greater b c)
-        by true true true p q r = rw (p, q, r) refl
-        by true true false p q r = absurd (omega (arith, ltb-true a b p, ltb-true b c q, ltb-false a c r))
-        by true false z p q r = rw (p, q, p) refl
-        by false true z p q r = rw (p, q) refl
-        by false false true p q r = absurd (omega (arith, ltb-false a b p, ltb-false b c q, ltb-true a c r))
-        by false false false p q r = rw (p, q, r, p) refl
+    greatest : (a b c : ℕ) → max (max a b) c ≡ max a (max b c)
+    greatest a b c = omega arith
 
     joined : (name : List ℕ) (names : List (List ℕ)) (s next t : State W) (outcome : Result Answer Fault) (after : List Report) → (rest : Handled names next t after) → One name s next outcome rest.told
-        → next.status ≡ greater s.status (status_of outcome) → Handled (name ∷ names) s t after
+        → next.status ≡ max s.status (status_of outcome) → Handled (name ∷ names) s t after
     joined name names s next t outcome after rest first status = record {
       told = first.told.told;
       was = first.told.was;
       effect = record {
         output = first.output ++ rest.effect.output;
         reports = reports_of name outcome ++ rest.effect.reports;
-        status = greater (status_of outcome) rest.effect.status;
+        status = max (status_of outcome) rest.effect.status;
       };
       reported = rest.reported ∙ ap (λ x. x ++ rest.effect.reports) first.told.parts ∙ append_assoc first.told.told (reports_of name outcome) rest.effect.reports;
       written = rest.written ∙ ap (λ x. x ++ rest.effect.output) first.written ∙ append_assoc (items s.writer) first.output rest.effect.output;
-      status = rest.status ∙ ap (λ x. greater x rest.effect.status) status ∙ greater-after s.status (status_of outcome) rest.effect.status;
+      status = rest.status ∙ ap (λ x. max x rest.effect.status) status ∙ greatest s.status (status_of outcome) rest.effect.status;
       handled = (outcome, first.output, rest.effect, first.handled, rest.handled, refl);
     }
 
@@ -208,13 +192,6 @@ module _ {W : Type 0} (taken : W → Option (List ℕ)) (items : W → List ℕ)
       → (let e : Effect = record { output = o; reports = r; status = n } in e) ≡ (let e : Effect = record { output = o'; reports = r'; status = n' } in e)
   effect-same o o' r r' n n' a b c = rw (a, b, c) refl
 
-  zero-greater : (n : ℕ) → greater 0 n ≡ n
-  zero-greater n = by (nat_lt 0 n) refl
-    where
-      by : (b : Bool) → nat_lt 0 n ≡ b → greater 0 n ≡ n
-      by true is = rw is refl
-      by false is = rw is (omega (arith, ltb-false 0 n is))
-
   -- what is so of the work by data
   by-data : (f : Files) (command : Command) (path : List ℕ) (P Q : Work → Type 0) → ((w : Work) → P w → Q w) → IsByData f command path P → IsByData f command path Q
   by-data f command path P Q each held = elim held [
@@ -247,7 +224,7 @@ module _ {W : Type 0} (taken : W → Option (List ℕ)) (items : W → List ℕ)
         let told : h.told ≡ [] = some-same h.told [] (sym h.was ∙ none) in
         let output : items t.writer ≡ h.effect.output = h.written ∙ ap (λ x. x ++ h.effect.output) empty in
         let reports : after ≡ h.effect.reports = h.reported ∙ ap (λ x. x ++ h.effect.reports) told in
-        let status : t.status ≡ h.effect.status = h.status ∙ ap (λ x. greater x h.effect.status) zero ∙ zero-greater h.effect.status in
+        let status : t.status ≡ h.effect.status = h.status ∙ ap (λ x. max x h.effect.status) zero ∙ zero-max h.effect.status in
         subst (AreHandled bytes_of w names) (sym (effect-same (items t.writer) h.effect.output after h.effect.reports t.status h.effect.status output reports status)) h.handled
 
     lacks : LacksData (in_memory bytes_of) command path s t → LacksDataInMemory bytes_of command path (record { output = items t.writer; reports = after; status = t.status })

@@ -67,7 +67,7 @@ written (Some form) mode names = Some (OfForm Write mode form, names)
 -- A word and those after it request a command: check FORM NAMES, where FORM NAMES, validate NAMES, map NAMES or FORM
 -- NAMES, if the flags have a meaning for it.
 abbrev pub command_of : (word : List ℕ) (after : List (List ℕ)) → Flags → Option Asked
-command_of word after f = if bytes_eq word (codes "check") then compared (Some (names_by f)) (mode_of f) after
+command_of word after f = if bytes_eq word (codes "check") then with_form (names_by f) (mode_of f) after
     else (if bytes_eq word (codes "where") then compared (places_by f) (mode_of f) after
     else (if bytes_eq word (codes "validate") then validated (places_by f) (mode_of f) after
     else (if is_plain f then (if bytes_eq word (codes "map") then Some (OfMapper Map (mode_of f), after)

@@ -56,10 +56,13 @@ abbrev pub NeedsFile : Purpose → UcdFile → Type 0
 NeedsFile Forms IdnaMappingTable = ⊥
 NeedsFile purpose file = ⊤
 
--- why a file of a directory that is needed can't be read
+-- why a file of a directory can't be read, and is needed
+abbrev pub IsUnread : Files → (directory : List ℕ) → UcdFile → Fault → Type 0
+IsUnread f directory file fault =
+    IsFileFault (f.cannot_open (path_of directory file)) (f.read_refused (path_of directory file)) ⊥ ⊤ fault
+
 abbrev pub IsReadFault : Files → (directory : List ℕ) → Purpose → UcdFile → Fault → Type 0
-IsReadFault f directory purpose file fault = NeedsFile purpose file
-    × IsFileFault (f.cannot_open (path_of directory file)) (f.read_refused (path_of directory file)) ⊥ ⊤ fault
+IsReadFault f directory purpose file fault = NeedsFile purpose file × IsUnread f directory file fault
 
 -- why there are no data: this file of the directory can't be read, or the bytes of the files make none
 abbrev pub IsFilesFault : Files → (directory : List ℕ) → Purpose → UcdFile → Fault → Type 0

@@ -1,6 +1,6 @@
 -- The program over files in memory: what it writes and reports, and its exit status. No device is named.
 use Rattle.std.specs.Prelude.{◌≡◌, ◌⊎◌, ℕ, false, List, [], ◌∷◌, ◌++◌, Option, Some, None, Result, Ok, Err, ⊤}
-use Rattle.std.specs.Prelude.{bytes_eq, if◌then◌else◌, map, string_bytes}
+use Rattle.std.specs.Prelude.{bytes_eq, if◌then◌else◌, map, max, string_bytes}
 use Rattle.std.specs.Option.{option_map, option_to_list}
 use Rattle.std.specs.declared.io.ErrorKind.TheVariants.{NotFound}
 use Rattle.normalizer_ucd.specs.declared.error.UcdFile.{UcdFile}
@@ -8,7 +8,7 @@ use Rattle.normalizer_command.specs.DataFaults.{name_of, IsDataFault}
 use Rattle.normalizer_command.specs.Devices.{Files}
 use Rattle.normalizer_command.specs.FileFaults.{is_refusal}
 use Rattle.normalizer_command.specs.FileReports.{Report}
-use Rattle.normalizer_command.specs.Outcomes.{fault_told, greater, status_of}
+use Rattle.normalizer_command.specs.Outcomes.{fault_told, status_of}
 use Rattle.normalizer_command.specs.Replies.{IsReply}
 use Rattle.normalizer_command.specs.Runs.{IsByData}
 use Rattle.normalizer_command.specs.Works.{Work}
@@ -64,7 +64,7 @@ AreHandled bytes_of w (name ∷ names) e = (outcome : Result Answer Fault) × (o
     × (e ≡ record {
       output = output ++ rest.output;
       reports = reports_of name outcome ++ rest.reports;
-      status = greater (status_of outcome) rest.status;
+      status = max (status_of outcome) rest.status;
     })
 
 -- there are no data, which one report says

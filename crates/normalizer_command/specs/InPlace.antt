@@ -1,5 +1,5 @@
 -- What becomes of files in place, one after another: each whole file stays as it is, or a new one takes its place.
-use Rattle.std.specs.Prelude.{◌≡◌, ◌⊎◌, ℕ, Bool, true, false, List, Option, Result, IfOk, IfErr, MatchBool, MatchOption, OnErr, OnOk}
+use Rattle.std.specs.Prelude.{◌≡◌, ◌⊎◌, ℕ, Bool, true, false, List, Option, Result, IfOk, IfErr, MatchBool, MatchOption, OnErr, OnOk, max}
 use Rattle.std.specs.declared.io.ErrorKind.{ErrorKind}
 use Rattle.normalizer_io.specs.Replacing.{Adds, Replacement}
 use Rattle.normalizer_streams.specs.Streams.{IsEndless}
@@ -7,7 +7,7 @@ use Rattle.normalizer_streams.specs.declared.ill_formed.Ending.TheVariants.{Whol
 use Rattle.normalizer_command.specs.Devices.{Files}
 use Rattle.normalizer_command.specs.FileFaults.{IsFileFault}
 use Rattle.normalizer_command.specs.FileReports.{Tells}
-use Rattle.normalizer_command.specs.Outcomes.{fault_told, greater, status_of, AreEach, State}
+use Rattle.normalizer_command.specs.Outcomes.{fault_told, status_of, AreEach, State}
 use Rattle.normalizer_command.specs.Works.{OfForm, OfMapper, Work}
 use Rattle.normalizer_command.specs.Written.{Replies}
 use Rattle.normalizer_command.specs.declared.command.Listing.TheVariants.{Nothing}
@@ -67,7 +67,7 @@ pub record IsDoneInPlace {P : Type 0} (f : Files) (replaced : P → Option (List
   pub kept : OnErr outcome (replaced t.writer ≡ replaced s.writer)
   pub why : IfErr outcome (MayFailInPlace f refused name)
   pub told : MatchOption (fault_told outcome) (t.told ≡ s.told) (λ fault. Tells s.told t.told (name, fault))
-  pub status : t.status ≡ greater s.status (status_of outcome)
+  pub status : t.status ≡ max s.status (status_of outcome)
 
 abbrev pub AreDoneInPlace : {P : Type 0} → Files → (replaced : P → Option (List Replacement)) → (refused : ErrorKind → Type 0)
     → Work → (names : List (List ℕ)) → State P → State P → Type 0

@@ -1,7 +1,7 @@
 -- What is written of the data of a path.
 use Rattle.std.specs.Prelude.{◌≡◌, ◌⊎◌, ℕ, List, Option, Some, None, Ok}
 use Rattle.std.specs.Option.{option_map}
-use Rattle.std.specs.Prelude.{codes, decimal, unwrap_or, ◌∷◌, ◌++◌, [], ◌==◌, if◌then◌else◌, ⊤}
+use Rattle.std.specs.Prelude.{codes, decimal, unwrap_or, ◌∷◌, ◌++◌, [], ◌==◌, if◌then◌else◌}
 use Rattle.std.specs.Io.KnownBytes.{Appends}
 use Rattle.icu_normalizer.specs.Building.{Builds}
 use Rattle.icu_normalizer.specs.Packed.{Packed}
@@ -13,13 +13,13 @@ use Rattle.normalizer_prepared.specs.declared.reading.PreparedData.{PreparedData
 use Rattle.normalizer_ucd.specs.Versions.{stated_version}
 use Rattle.normalizer_ucd.specs.declared.error.UcdFile.{UcdFile}
 use Rattle.normalizer_ucd.specs.declared.error.UcdFile.TheVariants.{CompositionExclusions}
-use Rattle.normalizer_command.specs.DataFaults.{name_of, IsFilesFault}
+use Rattle.normalizer_command.specs.DataFaults.{name_of, IsFilesFault, IsUnread}
 use Rattle.normalizer_command.specs.Devices.{Devices, Files}
 use Rattle.normalizer_command.specs.FileFaults.{IsFileFault}
 use Rattle.normalizer_command.specs.FileReports.{Tells}
 use Rattle.normalizer_command.specs.Outcomes.{State}
 use Rattle.normalizer_command.specs.PreparedFiles.{fault_of_prepared, IsDirectory, IsFileAt}
-use Rattle.normalizer_command.specs.UnicodeFiles.{path_of, AreFiles, AreRecorded, IsFile}
+use Rattle.normalizer_command.specs.UnicodeFiles.{AreFiles, AreRecorded, IsFile}
 use Rattle.normalizer_command.specs.declared.fault.Fault.{Fault}
 use Rattle.normalizer_command.specs.declared.fault.Fault.TheVariants.{Write}
 use Rattle.normalizer_command.specs.declared.unicode_files.Purpose.TheVariants.{Both}
@@ -88,8 +88,7 @@ IsVersionFault f path None fault = f.can_open path
     × (IsFileFault (λ _. ⊥) (f.read_refused path) ⊥ (f.unrefused path) fault
     ⊎ ((prepared : List ℕ) × IsFileAt f path prepared
     × ((e : PreparedError) × IsFirstFault prepared e × (fault ≡ fault_of_prepared e))))
-IsVersionFault f path (Some file) fault = IsDirectory f path
-    × IsFileFault (f.cannot_open (path_of path file)) (f.read_refused (path_of path file)) ⊥ ⊤ fault
+IsVersionFault f path (Some file) fault = IsDirectory f path × IsUnread f path file fault
 
 abbrev pub IsVersionRun : {W : Type 0} → Devices W → (path : List ℕ) → State W → State W → Type 0
 IsVersionRun d path s t = WritesMade d path (IsVersionText d.files path) (IsVersionFault d.files path) s t

@@ -1,6 +1,6 @@
 -- What becomes of files, one after another.
 use Rattle.std.specs.Prelude.{◌≡◌, ◌⊎◌, ◌==◌, ℕ, List, [], ◌∷◌, Option, Some, None, Result, Ok, Err, IsErrOf, OnOk}
-use Rattle.std.specs.Prelude.{MatchOption, nat_lt, if◌then◌else◌}
+use Rattle.std.specs.Prelude.{MatchOption, max, if◌then◌else◌}
 use Rattle.normalizer_io.specs.Transfer.{IsUnrefused}
 use Rattle.normalizer_command.specs.declared.reply.Answer.{Answer}
 use Rattle.normalizer_command.specs.declared.reply.Answer.TheVariants.{Done, No, Ended}
@@ -40,10 +40,6 @@ fault_told (Ok (Ended (Whole count))) = if count == 0 then None else Some (Repla
 fault_told (Ok (Ended (Stopped at))) = Some (IllFormed at)
 fault_told (Err fault) = Some fault
 
--- the greater of two
-abbrev pub greater : ℕ → ℕ → ℕ
-greater a b = if nat_lt a b then b else a
-
 -- why a file may fail. A source of 2^64 - 1 bytes may count as failed. If memory ran out, the file was opened, and no read
 -- or write failed
 abbrev pub MayFail : {W : Type 0} → Devices W → (name : List ℕ) → W → W → Fault → Type 0
@@ -59,7 +55,7 @@ pub record IsDone {W : Type 0} (d : Devices W) (w : Work) (name : List ℕ) (s t
   pub is : IsOutcome w name (d.files.bytes_of name) (d.taken s.writer) (d.taken t.writer) (MayFail d name s.writer t.writer)
       (t.writer ≡ s.writer) outcome
   pub told : MatchOption (fault_told outcome) (t.told ≡ s.told) (λ fault. Tells s.told t.told (name, fault))
-  pub status : t.status ≡ greater s.status (status_of outcome)
+  pub status : t.status ≡ max s.status (status_of outcome)
 
 -- this is so of each file in turn, and of none after a failed write
 unfoldable pub AreEach : {W : Type 0} → (Is : List ℕ → State W → State W → Result Answer Fault → Type 0)

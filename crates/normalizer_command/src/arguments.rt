@@ -7,9 +7,9 @@ ghost use Rattle.clap.specs.Walk.{rows_of, rule_of};
 ghost use Rattle.clap.specs.Takes.{takes};
 ghost use Rattle.clap.specs.Values.{kind_of};
 ghost use Rattle.clap.specs.declared.error.kind.ErrorKind.TheVariants.{OutOfMemory};
-ghost use Rattle.normalizer_command.specs.CommandLine.{after_rule, flag_rule, path_rule, short_flag_rule, uninorm};
+ghost use Rattle.normalizer_command.specs.CommandLine.{after_rule, flag_rule, short_flag_rule, uninorm};
 ghost use Rattle.normalizer_command.specs.CommandLine.{with_listing, with_options, word_rule};
-ghost use Rattle.normalizer_command.specs.Arguments.{command_of, compared, form_of, goes_in_place, is_plain, mode_of};
+ghost use Rattle.normalizer_command.specs.Arguments.{command_of, form_of, goes_in_place, is_plain, mode_of};
 ghost use Rattle.normalizer_command.specs.Arguments.{names_by, or_input, places_by, prepared_by, wanted, wanted_in};
 ghost use Rattle.normalizer_command.specs.Arguments.{with_form, AreFlags, Requests};
 
@@ -192,10 +192,13 @@ fn command_of<'n, 'a>(
 {
     let mode = mode_of(flags);
     if is_same(word, "check") {
-        return compared(Some(names_by(flags)), mode, after);
+        return with_form(names_by(flags), mode, after);
     }
     if is_same(word, "where") {
-        return compared(places_by(flags), mode, after);
+        return match places_by(flags) {
+            Some(listing) => with_form(listing, mode, after),
+            None => Err(NO_OPTION),
+        };
     }
     if is_same(word, "validate") {
         return match places_by(flags) {
@@ -219,21 +222,6 @@ fn command_of<'n, 'a>(
 }
 
 /// A comparison with the form that is named first, of which this is listed.
-fn compared<'n, 'a>(
-    listing: Option<Listing>,
-    mode: ErrorMode,
-    words: &'n [&'a str],
-) -> Result<Asked<'n, 'a>, &'static str>
-    ensures asked { IfOk result (λ asked. compared listing mode (map (λ name. name.now) words.now)
-        ≡ Some (asked.0, map (λ name. name.now) asked.1.now)) }
-    ensures unclear { OnErr result (compared listing mode (map (λ name. name.now) words.now) ≡ None) }
-{
-    match listing {
-        Some(listing) => with_form(listing, mode, words),
-        None => Err(NO_OPTION),
-    }
-}
-
 fn with_form<'n, 'a>(
     listing: Listing,
     mode: ErrorMode,
@@ -313,7 +301,7 @@ fn is_plain(flags: Flags) -> bool
     !(flags.quiet || flags.names || flags.null)
 }
 
-fn is_same(a: &str, b: &str) -> bool
+pub(crate) fn is_same(a: &str, b: &str) -> bool
     ensures { result ≡ bytes_eq a.now b.now }
 {
     a == b
@@ -344,7 +332,8 @@ fn command<'a>(alloc: Global) -> Result<Command<'a>, AllocError>
 fn with_options<'a>(alloc: Global, command: Command<'a>) -> Result<Command<'a>, AllocError>
     ensures { IfOk result (λ all. app_of all ≡ with_options (app_of command.entry)) }
 {
-    let command = command.arg(path(alloc))?.arg(flag(alloc, "strict"))?;
+    let path = Arg::new(alloc, "data").long("data");
+    let command = command.arg(path)?.arg(flag(alloc, "strict"))?;
     with_listing(alloc, command)?.arg(short_flag(alloc, "version", 'V'))
 }
 
@@ -365,13 +354,6 @@ fn files<'a>(alloc: Global) -> Arg<'a>
     Arg::new(alloc, "file")
         .action(ArgAction::Append)
         .num_args(0..)
-}
-
-fn path<'a>(alloc: Global) -> Arg<'a>
-    ensures rule { rule_of result ≡ path_rule }
-    ensures local { result.global ≡ false }
-{
-    Arg::new(alloc, "data").long("data")
 }
 
 fn flag<'a>(alloc: Global, name: &'a str) -> Arg<'a>

@@ -14,7 +14,7 @@ ghost use Rattle.normalizer_command.specs.Works.{work_by, Does};
 use crate::command::Command;
 use crate::devices::Inputs;
 use crate::fault::{Fault, PreparedFault};
-use crate::unicode_files::{FileFault, built, purpose_of, read_files};
+use crate::unicode_files::{FileFault, OUT_OF_MEMORY, built, purpose_of, read_files};
 use crate::worker::{Worker, worker_for};
 use icu_normalizer::{FormData, MappingData};
 use normalizer_io::read_all;
@@ -126,9 +126,6 @@ fn by_files<I: Inputs>(
     let data = built(alloc, &files)?;
     match worker_for(&data, command) {
         Ok(worker) => Ok(worker),
-        Err(_) => Err(FileFault {
-            file: UcdFile::UnicodeData,
-            fault: Fault::Memory,
-        }),
+        Err(_) => Err(OUT_OF_MEMORY),
     }
 }

@@ -2,14 +2,14 @@
 ghost use Rattle.std.specs.Prelude.{◌≡◌, Some};
 ghost use Rattle.normalizer_command.specs.Messages.{character_of, name_of_marker, text_of_error, text_of_fault};
 ghost use Rattle.normalizer_command.specs.Messages.{text_of_prepared, text_of_records, text_of_unfit, words_of};
-ghost use Rattle.normalizer_command.specs.FileFaults.{fault_of_file, fault_of_transfer};
+ghost use Rattle.normalizer_command.specs.FileFaults.{fault_of_transfer};
 ghost use Rattle.normalizer_command.specs.PreparedFiles.{fault_of_data, fault_of_prepared};
 
 use icu_normalizer::{BuildError, DataError, DataMarkerInfo, NormalizeError, RecordAtFault};
 use normalizer_io::TransferError;
 use normalizer_prepared::{Fault as FileFault, PreparedError};
 use normalizer_streams::Position;
-use normalizer_ucd::{LineFault, Place, UcdError};
+use normalizer_ucd::{LineFault, Place};
 use std::alloc::{AllocError, AllocFailed};
 use std::fmt;
 use std::io::ErrorKind;
@@ -113,7 +113,7 @@ fn words_of(fault: FileFault) -> &'static str
 
 /// The digits of a code point.
 #[derive(Clone, Copy)]
-struct CodePoint(u32);
+pub(crate) struct CodePoint(pub(crate) u32);
 
 impl fmt::Display for CodePoint {
     ghost use Rattle.normalizer_command.specs.Mismatches.{code_point_digits};
@@ -266,17 +266,6 @@ impl From<NormalizeError> for Fault {
 
     fn from(_error: NormalizeError) -> Fault {
         Fault::Memory
-    }
-}
-
-impl From<UcdError> for Fault {
-    ghost from_gives = { λ error fault. fault ≡ fault_of_file error };
-
-    fn from(error: UcdError) -> Fault {
-        match error {
-            UcdError::Line(fault) => Fault::Line(fault),
-            UcdError::Memory => Fault::Memory,
-        }
     }
 }
 

@@ -1,8 +1,8 @@
 //! A command over files.
-ghost use Rattle.std.specs.Prelude.{◌≡◌, ◌↔◌, IsErrOf, IsTrue, MatchOption, OnOk, map};
+ghost use Rattle.std.specs.Prelude.{◌≡◌, ◌↔◌, IsErrOf, IsTrue, MatchOption, OnOk, map, max};
 ghost use Rattle.normalizer_command.specs.Devices.{devices};
 ghost use Rattle.normalizer_command.specs.FileReports.{Tells};
-ghost use Rattle.normalizer_command.specs.Outcomes.{fault_told, greater, state, status_of, AreDone, MayFail};
+ghost use Rattle.normalizer_command.specs.Outcomes.{fault_told, state, status_of, AreDone, MayFail};
 ghost use Rattle.normalizer_command.specs.Works.{Does, Work};
 ghost use Rattle.normalizer_command.specs.Written.{IsOutcome};
 
@@ -10,53 +10,52 @@ use crate::devices::{Inputs, Reports};
 use crate::fault::Fault;
 use crate::message::Message;
 use crate::reply::Answer;
+use crate::run::Run;
 use crate::worker::Worker;
 use normalizer_io::Target;
 use normalizer_streams::Ending;
-use std::alloc::Global;
 
-/// Does a worker's work with each file in turn, up to a failed write, and returns the exit status: the greatest of
-/// those of the files.
-pub(crate) fn over_files<I: Inputs, W: Target, R: Reports>(
-    alloc: Global,
-    worker: &Worker,
-    names: &[&str],
-    inputs: &I,
-    writer: &mut W,
-    reports: &mut R,
-) -> u8
-    ensures { (w : Work) → Does worker.now w →
-        AreDone (devices (I.files inputs.now) W.bytes_taken W.refusal) w (map (λ name. name.now) names.now)
-        (state writer.old (R.reports reports.old) 0) (state writer.new (R.reports reports.new) result) }
-{
-    let mut status = 0;
-    for name in names {
-        let outcome = over_file(alloc, worker, inputs, name, writer);
-        tell(reports, name, outcome);
-        status = greater(status, status_of(outcome));
-        if is_refused_write(outcome) {
-            return status;
+impl<I: Inputs> Run<'_, I> {
+    /// Does a worker's work with each file in turn, up to a failed write, and returns the exit status: the greatest of
+    /// those of the files.
+    pub(crate) fn over_files<W: Target, R: Reports>(
+        &self,
+        worker: &Worker,
+        writer: &mut W,
+        reports: &mut R,
+    ) -> u8
+        ensures { (w : Work) → Does worker.now w → AreDone (devices (I.files self.now.inputs.now) W.bytes_taken W.refusal)
+            w (map (λ name. name.now) self.now.names.now)
+            (state writer.old (R.reports reports.old) 0) (state writer.new (R.reports reports.new) result) }
+    {
+        let mut status = 0;
+        for name in self.names {
+            let outcome = self.over_file(worker, name, writer);
+            tell(reports, name, outcome);
+            status = greater(status, status_of(outcome));
+            if is_refused_write(outcome) {
+                return status;
+            }
         }
+        status
     }
-    status
-}
 
-/// Reads one file, and writes the reply to it.
-fn over_file<I: Inputs, W: Target>(
-    alloc: Global,
-    worker: &Worker,
-    inputs: &I,
-    name: &str,
-    writer: &mut W,
-) -> Result<Answer, Fault>
-    ensures opened { OnOk result ((I.files inputs.now).can_open name.now) }
-    ensures is { (w : Work) → Does worker.now w → IsOutcome w name.now
-        ((I.files inputs.now).bytes_of name.now) (W.bytes_taken writer.old) (W.bytes_taken writer.new)
-        (MayFail (devices (I.files inputs.now) W.bytes_taken W.refusal) name.now writer.old writer.new)
-        (writer.new ≡ writer.old) result }
-{
-    let mut input = inputs.open(name)?;
-    worker.handle(alloc, name, &mut input, writer)
+    /// Reads one file, and writes the reply to it.
+    fn over_file<W: Target>(
+        &self,
+        worker: &Worker,
+        name: &str,
+        writer: &mut W,
+    ) -> Result<Answer, Fault>
+        ensures opened { OnOk result ((I.files self.now.inputs.now).can_open name.now) }
+        ensures is { (w : Work) → Does worker.now w → IsOutcome w name.now
+            ((I.files self.now.inputs.now).bytes_of name.now) (W.bytes_taken writer.old) (W.bytes_taken writer.new)
+            (MayFail (devices (I.files self.now.inputs.now) W.bytes_taken W.refusal) name.now writer.old writer.new)
+            (writer.new ≡ writer.old) result }
+    {
+        let mut input = self.inputs.open(name)?;
+        worker.handle(self.alloc, name, &mut input, writer)
+    }
 }
 
 /// Reports why a file failed, if it did, and what was ill-formed in it.
@@ -104,7 +103,7 @@ pub(crate) fn status_of(outcome: Result<Answer, Fault>) -> u8
 
 /// The greater of two.
 pub(crate) fn greater(a: u8, b: u8) -> u8
-    ensures { result ≡ greater a b }
+    ensures { result ≡ max a b }
 {
     if a < b { b } else { a }
 }

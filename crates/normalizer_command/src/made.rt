@@ -1,25 +1,24 @@
 //! What is written of the data of a path: their version, or the data as one file.
-ghost use Rattle.std.specs.Prelude.{◌≡◌, ℕ, IfErr, IfOk, List, Ok, ⊤, string_bytes};
+ghost use Rattle.std.specs.Prelude.{◌≡◌, ℕ, IfErr, IfOk, List, Ok, string_bytes};
 ghost use Rattle.normalizer_prepared.specs.Files.{held_in, IsFirstFault};
 ghost use Rattle.normalizer_prepared.specs.declared.fault.PreparedError.{PreparedError};
 ghost use Rattle.normalizer_prepared.specs.declared.reading.PreparedData.{PreparedData};
 ghost use Rattle.normalizer_ucd.specs.declared.error.UcdFile.TheVariants.{CompositionExclusions};
-ghost use Rattle.normalizer_command.specs.DataFaults.{IsFilesFault};
+ghost use Rattle.normalizer_command.specs.DataFaults.{IsFilesFault, IsUnread};
 ghost use Rattle.normalizer_command.specs.Devices.{devices};
-ghost use Rattle.normalizer_command.specs.FileFaults.{IsFileFault};
 ghost use Rattle.normalizer_command.specs.Made.{unicode_text, version_of, version_text, IsPrepared, IsPrepareRun};
 ghost use Rattle.normalizer_command.specs.Made.{IsVersionFault, IsVersionRun, IsVersionText};
 ghost use Rattle.normalizer_command.specs.Outcomes.{state};
 ghost use Rattle.normalizer_command.specs.PreparedFiles.{fault_of_prepared};
-ghost use Rattle.normalizer_command.specs.UnicodeFiles.{path_of, IsFile};
+ghost use Rattle.normalizer_command.specs.UnicodeFiles.{IsFile};
 ghost use Rattle.normalizer_command.specs.declared.unicode_files.Purpose.TheVariants.{Both};
 ghost use Rattle.normalizer_command.specs.inner.Writes.{IsWriteOf};
 
 use crate::data::{DataFault, bytes_if_file};
 use crate::devices::{Inputs, Reports};
 use crate::fault::Fault;
-use crate::run::tell;
-use crate::unicode_files::{FileFault, Purpose, built, read_file, read_files};
+use crate::run::failed;
+use crate::unicode_files::{FileFault, OUT_OF_MEMORY, Purpose, built, read_file, read_files};
 use normalizer_io::{Target, write_all};
 use normalizer_prepared::{PreparedData, prepared_data};
 use normalizer_ucd::{UcdFile, stated_version};
@@ -40,14 +39,10 @@ pub fn write_version<I: Inputs, W: Target, R: Reports>(
     ensures { IsVersionRun (devices (I.files inputs.now) W.bytes_taken W.refusal) path.now
         (state writer.old (R.reports reports.old) 0) (state writer.new (R.reports reports.new) result) }
 {
-    let text = match version_at(alloc, path, inputs) {
-        Ok(text) => text,
-        Err(error) => {
-            tell(path, error, reports);
-            return 2;
-        }
-    };
-    write_made(path, text.as_bytes(), writer, reports)
+    match version_at(alloc, path, inputs) {
+        Ok(text) => write_made(path, text.as_bytes(), writer, reports),
+        Err(error) => failed(path, error, reports),
+    }
 }
 
 /// Writes the file of prepared data of Unicode's files in a directory, with those of its mapping table, if there is one.
@@ -62,14 +57,10 @@ pub fn write_prepared<I: Inputs, W: Target, R: Reports>(
     ensures { IsPrepareRun (devices (I.files inputs.now) W.bytes_taken W.refusal) directory.now
         (state writer.old (R.reports reports.old) 0) (state writer.new (R.reports reports.new) result) }
 {
-    let file = match prepared(alloc, directory, inputs) {
-        Ok(file) => file,
-        Err(error) => {
-            tell(directory, DataFault::from(error), reports);
-            return 2;
-        }
-    };
-    write_made(directory, &file, writer, reports)
+    match prepared(alloc, directory, inputs) {
+        Ok(file) => write_made(directory, &file, writer, reports),
+        Err(error) => failed(directory, DataFault::from(error), reports),
+    }
 }
 
 /// Writes what was made of the data of a path, and returns the exit status.
@@ -82,11 +73,10 @@ fn write_made<W: Target, R: Reports>(
     ensures { IsWriteOf (W.bytes_taken writer.old) (W.bytes_taken writer.new) (W.refusal writer.old writer.new)
         path.now bytes.now (R.reports reports.old) (R.reports reports.new) result }
 {
-    if write_all(writer, bytes).is_ok() {
-        return 0;
+    match write_all(writer, bytes) {
+        Ok(()) => 0,
+        Err(_) => failed(path, DataFault::from(Fault::Write), reports),
     }
-    tell(path, DataFault::from(Fault::Write), reports);
-    2
 }
 
 /// The versions, a line each.
@@ -119,8 +109,7 @@ fn text_of_directory<I: Inputs>(alloc: Global, path: &str, inputs: &I) -> Result
     ensures text { IfOk result (λ text. (exclusions : List ℕ)
         × IsFile (I.files inputs.now) path.now CompositionExclusions exclusions
         × (string_bytes text ≡ version_text (version_of exclusions))) }
-    ensures why { IfErr result (λ e. IsFileFault ((I.files inputs.now).cannot_open (path_of path.now e.file))
-        ((I.files inputs.now).read_refused (path_of path.now e.file)) ⊥ ⊤ e.fault) }
+    ensures why { IfErr result (λ e. IsUnread (I.files inputs.now) path.now e.file e.fault) }
 {
     let file = UcdFile::CompositionExclusions;
     let exclusions = read_file(alloc, inputs, path, file)?;
@@ -180,8 +169,3 @@ fn prepared<I: Inputs>(alloc: Global, directory: &str, inputs: &I) -> Result<Vec
         Err(_) => Err(OUT_OF_MEMORY),
     }
 }
-
-const OUT_OF_MEMORY: FileFault = FileFault {
-    file: UcdFile::UnicodeData,
-    fault: Fault::Memory,
-};

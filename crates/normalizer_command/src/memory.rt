@@ -1,11 +1,11 @@
 //! The program over files in memory: from the bytes of its data to what it writes and reports.
 ghost use Rattle.std.specs.Prelude.{◌≡◌, [], true, map, option_copied, string_bytes, All, IfOk, None, Some, cond};
-ghost use Rattle.std.specs.Prelude.{bytes_eq};
 ghost use Rattle.normalizer_command.specs.FileFaults.{is_refusal};
 ghost use Rattle.normalizer_command.specs.InMemory.{bytes_in, effect_of, in_memory, IsEffectOf};
 ghost use Rattle.normalizer_command.specs.Messages.{name_in, report_of};
 ghost use Rattle.normalizer_command.specs.inner.Kept.{kept_report, kept_reports, IsOfData};
 
+use crate::arguments::is_same;
 use crate::command::Command;
 use crate::devices::{Inputs, Reports};
 use crate::fault::Fault;
@@ -109,12 +109,6 @@ fn bytes_of<'a>(files: &[NamedFile<'a>], name: &str) -> Option<&'a [u8]>
         }
     }
     None
-}
-
-fn is_same(a: &str, b: &str) -> bool
-    ensures { result ≡ bytes_eq a.now b.now }
-{
-    a == b
 }
 
 /// The reports of a run, unless one was lost.

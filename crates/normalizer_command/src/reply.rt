@@ -4,7 +4,7 @@ ghost use Rattle.normalizer_io.specs.Transfer.{IsUnrefused};
 ghost use Rattle.normalizer_streams.specs.Streams.{IsEndless};
 ghost use Rattle.normalizer_command.specs.Listings.{listed};
 ghost use Rattle.normalizer_command.specs.Making.{Makes, Making};
-ghost use Rattle.normalizer_command.specs.Mismatches.{code_point_digits, mismatch_in_words, mismatch_line, position};
+ghost use Rattle.normalizer_command.specs.Mismatches.{mismatch_in_words, mismatch_line, position};
 ghost use Rattle.normalizer_command.specs.Mismatches.{TellsComparison};
 ghost use Rattle.normalizer_command.specs.Works.{OfForm};
 ghost use Rattle.normalizer_command.specs.Written.{Replies};
@@ -12,7 +12,7 @@ ghost use Rattle.normalizer_command.specs.declared.command.Task.TheVariants.{Com
 ghost use Rattle.normalizer_command.specs.inner.Known.{IsKnownWritten};
 
 use crate::command::{LineEnd, Listing};
-use crate::fault::Fault;
+use crate::fault::{CodePoint, Fault};
 use icu_normalizer::AnyNormalizer;
 use normalizer_io::{Source, Target, TransferError, write_all};
 use normalizer_streams::{Comparison, Ending, ErrorMode, Mismatch, Position, first_mismatch};
@@ -144,15 +144,6 @@ fn mismatch_in_words(alloc: Global, found: char, wanted: char) -> Result<String,
     if found == wanted {
         return String::from_str(alloc, "ill-formed UTF-8");
     }
-    let found = code_point_digits(alloc, found)?;
-    let wanted = code_point_digits(alloc, wanted)?;
+    let (found, wanted) = (CodePoint(found as u32), CodePoint(wanted as u32));
     format!(in alloc; "found U+{found}, wanted U+{wanted}")
-}
-
-/// Upper-case hexadecimal digits, at least four.
-fn code_point_digits(alloc: Global, character: char) -> Result<String, AllocError>
-    ensures { IfOk result (λ text. string_bytes text ≡ code_point_digits character) }
-{
-    let number = character as u32;
-    format!(in alloc; "{number:04X}")
 }

@@ -10,8 +10,6 @@ ghost use Rattle.normalizer_command.specs.Runs.{IsRun, IsRunInPlace};
 use crate::command::Command;
 use crate::data::{DataFault, worker_at};
 use crate::devices::{Inputs, Reports};
-use crate::files::over_files;
-use crate::in_place::over_files_in_place;
 use crate::message::Message;
 use normalizer_io::{Replacer, Target};
 use std::alloc::Global;
@@ -42,18 +40,8 @@ impl<I: Inputs> Run<'_, I> {
             (state writer.old (R.reports reports.old) 0) (state writer.new (R.reports reports.new) result) }
     {
         match worker_at(self.alloc, self.inputs, self.path, self.command) {
-            Ok(worker) => over_files(
-                self.alloc,
-                &worker,
-                self.names,
-                self.inputs,
-                writer,
-                reports,
-            ),
-            Err(error) => {
-                tell(self.path, error, reports);
-                2
-            }
+            Ok(worker) => self.over_files(&worker, writer, reports),
+            Err(error) => failed(self.path, error, reports),
         }
     }
 
@@ -65,24 +53,23 @@ impl<I: Inputs> Run<'_, I> {
             (state replacer.old (R.reports reports.old) 0) (state replacer.new (R.reports reports.new) result) }
     {
         match worker_at(self.alloc, self.inputs, self.path, self.command) {
-            Ok(worker) => over_files_in_place(
-                self.alloc,
-                &worker,
-                self.names,
-                self.inputs,
-                replacer,
-                reports,
-            ),
-            Err(error) => {
-                tell(self.path, error, reports);
-                2
-            }
+            Ok(worker) => self.over_files_in_place(&worker, replacer, reports),
+            Err(error) => failed(self.path, error, reports),
         }
     }
 }
 
+/// Reports why the data of a path failed, and returns the exit status.
+pub(crate) fn failed<R: Reports>(path: &str, error: DataFault, reports: &mut R) -> u8
+    ensures told { Tells (R.reports reports.old) (R.reports reports.new) (name_of path.now error.file, error.fault) }
+    ensures status { result ≡ 2 }
+{
+    tell(path, error, reports);
+    2
+}
+
 /// Reports why the data of a path failed.
-pub(crate) fn tell<R: Reports>(path: &str, error: DataFault, reports: &mut R)
+fn tell<R: Reports>(path: &str, error: DataFault, reports: &mut R)
     ensures { Tells (R.reports reports.old) (R.reports reports.new) (name_of path.now error.file, error.fault) }
 {
     let fault = error.fault;

@@ -1,8 +1,7 @@
 //! The data of a directory of Unicode's files.
-ghost use Rattle.std.specs.Prelude.{◌≡◌, List, [], ⊤, IfErr, IfOk, IfSome, OnOk, string_bytes, unwrap_or};
+ghost use Rattle.std.specs.Prelude.{◌≡◌, List, [], IfErr, IfOk, IfSome, OnOk, string_bytes, unwrap_or};
 ghost use Rattle.std.specs.List.{flat_map};
-ghost use Rattle.std.specs.Option.{option_and_then, option_map};
-ghost use Rattle.icu_normalizer.specs.AtFault.{IsFirstAtFault};
+ghost use Rattle.std.specs.Option.{option_map};
 ghost use Rattle.icu_normalizer.specs.Building.{Builds, IsSmallest};
 ghost use Rattle.icu_normalizer.specs.Built.{data_in};
 ghost use Rattle.icu_normalizer.specs.MapperRanges.{entries_of};
@@ -10,7 +9,7 @@ ghost use Rattle.icu_normalizer.specs.RecordValue.{RecordValue, Uts46RecordValue
 ghost use Rattle.normalizer_ucd.specs.FallibleReads.{Gives};
 ghost use Rattle.normalizer_ucd.specs.RecordPlaces.{place_of_record};
 ghost use Rattle.normalizer_ucd.specs.declared.error.LineFault.{LineFault};
-ghost use Rattle.normalizer_command.specs.DataFaults.{file_of, IsFaultOf, IsFaultOfRecords, NeedsFile};
+ghost use Rattle.normalizer_command.specs.DataFaults.{file_of, IsFaultOf, IsFaultOfRecords, IsReadFault, IsRecordsFault, IsUnread};
 ghost use Rattle.normalizer_command.specs.FileFaults.{fault_of_file, IsFileFault};
 ghost use Rattle.normalizer_command.specs.UnicodeFiles.{mapper_records_of, path_of, purpose_of, AreFiles, AreRecorded};
 ghost use Rattle.normalizer_command.specs.UnicodeFiles.{IsFile, IsTable};
@@ -18,9 +17,7 @@ ghost use Rattle.normalizer_command.specs.UnicodeFiles.{IsFile, IsTable};
 use crate::command::Command;
 use crate::devices::Inputs;
 use crate::fault::{Fault, RecordsFault};
-use icu_normalizer::{
-    BuildError, Built, Record, Records, Uts46Range, Uts46Record, records_of_ranges,
-};
+use icu_normalizer::{BuildError, Built, Record, Records, Uts46Range, records_of_ranges};
 use normalizer_io::read_all;
 use normalizer_ucd::{
     Disallowed, Place, UcdError, UcdFile, place_of_record, records_of_unicode_data,
@@ -56,6 +53,12 @@ pub(crate) struct FileFault {
     pub(crate) file: UcdFile,
     pub(crate) fault: Fault,
 }
+
+/// Memory ran out, which is said of the first file.
+pub(crate) const OUT_OF_MEMORY: FileFault = FileFault {
+    file: UcdFile::UnicodeData,
+    fault: Fault::Memory,
+};
 
 /// The path of a file in a directory.
 fn path(alloc: Global, directory: &str, file: UcdFile) -> Result<String, AllocError>
@@ -94,9 +97,7 @@ pub(crate) fn read_files<I: Inputs>(
 ) -> Result<DataFiles, FileFault>
     ensures files { IfOk result (λ r. AreFiles (I.files inputs.now) directory.now purpose
         r.unicode_data.items r.exclusions.items (option_map (λ v. v.items) r.table)) }
-    ensures fault { IfErr result (λ e. IsFileFault ((I.files inputs.now).cannot_open (path_of directory.now e.file))
-        ((I.files inputs.now).read_refused (path_of directory.now e.file)) ⊥ ⊤ e.fault) }
-    ensures needed { IfErr result (λ e. NeedsFile purpose e.file) }
+    ensures fault { IfErr result (λ e. IsReadFault (I.files inputs.now) directory.now purpose e.file e.fault) }
 {
     let unicode_data = read_file(alloc, inputs, directory, UcdFile::UnicodeData)?;
     let exclusions = read_file(alloc, inputs, directory, UcdFile::CompositionExclusions)?;
@@ -116,9 +117,7 @@ fn read_table<I: Inputs>(
     purpose: Purpose,
 ) -> Result<Option<Vec<u8>>, FileFault>
     ensures table { IfOk result (λ t. IsTable (I.files inputs.now) directory.now purpose (option_map (λ v. v.items) t)) }
-    ensures fault { IfErr result (λ e. IsFileFault ((I.files inputs.now).cannot_open (path_of directory.now e.file))
-        ((I.files inputs.now).read_refused (path_of directory.now e.file)) ⊥ ⊤ e.fault) }
-    ensures needed { IfErr result (λ e. NeedsFile purpose e.file) }
+    ensures fault { IfErr result (λ e. IsReadFault (I.files inputs.now) directory.now purpose e.file e.fault) }
 {
     if purpose == Purpose::Forms {
         return Ok(None);
@@ -140,8 +139,7 @@ pub(crate) fn read_file<I: Inputs>(
     file: UcdFile,
 ) -> Result<Vec<u8>, FileFault>
     ensures bytes { IfOk result (λ v. IsFile (I.files inputs.now) directory.now file v.items) }
-    ensures fault { IfErr result (λ e. IsFileFault ((I.files inputs.now).cannot_open (path_of directory.now e.file))
-        ((I.files inputs.now).read_refused (path_of directory.now e.file)) ⊥ ⊤ e.fault) }
+    ensures fault { IfErr result (λ e. IsUnread (I.files inputs.now) directory.now e.file e.fault) }
     ensures file { IfErr result (λ e. e.file ≡ file) }
 {
     let Ok(path) = path(alloc, directory, file) else {
@@ -195,58 +193,32 @@ fn of_ranges(
         (unwrap_or (option_map (λ v. v.items) files.now.table) []) r) records.now (flat_map entries_of ranges.now)
         result.file result.fault }
 {
-    match records_of_ranges(alloc, ranges) {
-        Ok(uts46) => of_records(alloc, files, records, &uts46, error),
-        Err(AllocError) => FileFault {
-            file: UcdFile::UnicodeData,
-            fault: Fault::Memory,
-        },
-    }
-}
-
-/// Why records of the files can't be built.
-fn of_records(
-    alloc: Global,
-    files: &DataFiles,
-    records: &[Record],
-    uts46: &[Uts46Record],
-    error: BuildError,
-) -> FileFault
-    requires { IsSmallest records.now uts46.now error }
-    ensures { IsFaultOfRecords (λ r. place_of_record files.now.unicode_data.items
-        (unwrap_or (option_map (λ v. v.items) files.now.table) []) r) records.now uts46.now result.file result.fault }
-{
-    let fault = if matches!(error, BuildError::Memory) {
-        Err(AllocError)
-    } else {
-        records_fault(alloc, files, records, uts46, error)
-    };
-    match fault {
+    match records_fault(alloc, files, records, ranges, error) {
         Ok(fault) => FileFault {
             file: file_of(fault.place),
             fault: Fault::Records(fault),
         },
-        Err(AllocError) => FileFault {
-            file: UcdFile::UnicodeData,
-            fault: Fault::Memory,
-        },
+        Err(AllocError) => OUT_OF_MEMORY,
     }
 }
 
-/// The first record at fault, and the line that states it.
+/// The first record at fault, and the line that states it, unless memory ran out.
 fn records_fault(
     alloc: Global,
     files: &DataFiles,
     records: &[Record],
-    uts46: &[Uts46Record],
+    ranges: &[Uts46Range],
     error: BuildError,
 ) -> Result<RecordsFault, AllocError>
-    requires { IsSmallest records.now uts46.now error }
-    ensures { IfOk result (λ f. (f.error ≡ error) × IsFirstAtFault records.now uts46.now error f.at_fault
-        × (f.place ≡ option_and_then (λ r. place_of_record files.now.unicode_data.items
-        (unwrap_or (option_map (λ v. v.items) files.now.table) []) r) f.at_fault)) }
+    requires { IsSmallest records.now (flat_map entries_of ranges.now) error }
+    ensures { IfOk result (IsRecordsFault (λ r. place_of_record files.now.unicode_data.items
+        (unwrap_or (option_map (λ v. v.items) files.now.table) []) r) records.now (flat_map entries_of ranges.now)) }
 {
-    let at_fault = Records::first_at_fault(alloc, records, uts46, error)?;
+    if matches!(error, BuildError::Memory) {
+        return Err(AllocError);
+    }
+    let uts46 = records_of_ranges(alloc, ranges)?;
+    let at_fault = Records::first_at_fault(alloc, records, &uts46, error)?;
     let place = match at_fault {
         Some(at_fault) => place_of_record(
             alloc,
@@ -309,12 +281,11 @@ fn of_file(error: UcdError) -> FileFault
     ensures fault { result.fault ≡ fault_of_file error }
     ensures file { (fault : LineFault) → error ≡ UcdError.Line fault → result.file ≡ fault.place.file }
 {
-    let file = match error {
-        UcdError::Line(fault) => fault.place.file,
-        UcdError::Memory => UcdFile::UnicodeData,
-    };
-    FileFault {
-        file,
-        fault: Fault::from(error),
+    match error {
+        UcdError::Line(fault) => FileFault {
+            file: fault.place.file,
+            fault: Fault::Line(fault),
+        },
+        UcdError::Memory => OUT_OF_MEMORY,
     }
 }

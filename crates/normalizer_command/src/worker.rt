@@ -6,8 +6,7 @@ ghost use Rattle.icu_normalizer.specs.RecordValue.{RecordValue, Uts46RecordValue
 ghost use Rattle.normalizer_streams.specs.Streams.{IsEndless};
 ghost use Rattle.normalizer_command.specs.FileFaults.{IsReadUnrefused, IsTransferFault};
 ghost use Rattle.normalizer_command.specs.InPlace.{is_done, IsInForm};
-ghost use Rattle.normalizer_command.specs.Making.{Makes, Making};
-ghost use Rattle.normalizer_command.specs.Works.{work_by, Does, OfForm, Work};
+ghost use Rattle.normalizer_command.specs.Works.{work_by, Does, Work};
 ghost use Rattle.normalizer_command.specs.Written.{IsOutcome};
 
 use crate::command::{Command, Listing, MapperTask, Task};
@@ -64,8 +63,13 @@ impl Worker {
             (writer.new ≡ writer.old) result }
     {
         match self {
-            Worker::OfForm(task, mode, normalizer) => {
-                task.handle(alloc, *mode, normalizer, name, input, writer)
+            Worker::OfForm(Task::Write, mode, normalizer) => {
+                let ending = write_form(alloc, *mode, normalizer, input, writer)?;
+                Ok(Answer::Ended(ending))
+            }
+            Worker::OfForm(Task::Compare(listing), mode, normalizer) => {
+                let reply = compared(alloc, *listing, *mode, normalizer, name, input);
+                write_known(reply, writer)
             }
             Worker::OfMapper(task, mode, mapper) => {
                 task.handle(alloc, *mode, mapper, name, input, writer)
@@ -99,33 +103,4 @@ fn is_done(answer: Answer) -> bool
     ensures { result ≡ is_done answer }
 {
     matches!(answer, Answer::Done)
-}
-
-impl Task {
-    /// Does its work with what an open file has, and writes the reply.
-    fn handle<S: Source, W: Target>(
-        self,
-        alloc: Global,
-        mode: ErrorMode,
-        normalizer: &AnyNormalizer,
-        name: &str,
-        input: &mut S,
-        writer: &mut W,
-    ) -> Result<Answer, Fault>
-        ensures { (m : Making) → Makes normalizer.now m → IsOutcome (OfForm self mode m) name.now
-            (S.bytes_left input.old) (W.bytes_taken writer.old) (W.bytes_taken writer.new)
-            (IsTransferFault S.bytes_left S.refusal W.refusal (input.old, writer.old) (input.new, writer.new))
-            (writer.new ≡ writer.old) result }
-    {
-        match self {
-            Task::Write => {
-                let ending = write_form(alloc, mode, normalizer, input, writer)?;
-                Ok(Answer::Ended(ending))
-            }
-            Task::Compare(listing) => {
-                let reply = compared(alloc, listing, mode, normalizer, name, input);
-                write_known(reply, writer)
-            }
-        }
-    }
 }

@@ -66,7 +66,7 @@ fn over_files(rt: &HostRuntime, request: &FileRequest<'_>, unclear: &[String]) -
     };
     let mut reports = ErrorStream::new(rt, &closed);
     let status = if request.in_place {
-        run.run_in_place(&mut Renamed::new(rt), &mut reports)
+        run.run_in_place(&mut Renamed(rt), &mut reports)
     } else {
         run.run(&mut Printed::new(rt, &closed), &mut reports)
     };
@@ -85,24 +85,12 @@ fn of_data(rt: &HostRuntime, named: Option<&str>, is_version: bool) -> u8 {
         Err(reason) => return failed(rt, reason),
     };
     let closed = Cell::new(false);
-    let inputs = Named::new(rt, &[], false);
+    let (alloc, path, inputs) = (rt.alloc(), path.as_str(), Named::new(rt, &[], false));
     let (mut output, mut reports) = (Printed::new(rt, &closed), ErrorStream::new(rt, &closed));
     let status = if is_version {
-        write_version(
-            rt.alloc(),
-            path.as_str(),
-            &inputs,
-            &mut output,
-            &mut reports,
-        )
+        write_version(alloc, path, &inputs, &mut output, &mut reports)
     } else {
-        write_prepared(
-            rt.alloc(),
-            path.as_str(),
-            &inputs,
-            &mut output,
-            &mut reports,
-        )
+        write_prepared(alloc, path, &inputs, &mut output, &mut reports)
     };
     if closed.get() { CLOSED } else { status }
 }

@@ -41,24 +41,18 @@ impl Target for NewFile {
 
 /// Replaces files of the system. Of a link, the file that it leads to is replaced.
 #[derive(Drop)]
-pub(crate) struct Renamed<'a> {
-    rt: &'a HostRuntime,
-}
+pub(crate) struct Renamed<'a>(pub(crate) &'a HostRuntime);
 
-impl<'a> Renamed<'a> {
-    pub(crate) fn new(rt: &'a HostRuntime) -> Renamed<'a> {
-        Renamed { rt }
-    }
-
+impl Renamed<'_> {
     /// A new file beside the one of this name, `.uninorm-` and the first number that isn't taken.
     fn created(&self, name: &str) -> io::Result<NewFile> {
-        let alloc = self.rt.alloc();
-        let named = fs::canonicalize(self.rt, name)?;
+        let alloc = self.0.alloc();
+        let named = fs::canonicalize(self.0, name)?;
         for number in 0..NAMES {
             let path = named.with_file_name(alloc, &format!(in alloc; ".uninorm-{number}")?)?;
             let mut options = OpenOptions::new();
             options.write(true).create_new(true).mode(PRIVATE);
-            match options.open(self.rt, path.as_path()) {
+            match options.open(self.0, path.as_path()) {
                 Err(error) if error.kind() == ErrorKind::AlreadyExists => {}
                 Err(error) => return Err(error),
                 Ok(file) => {
@@ -75,7 +69,7 @@ impl<'a> Renamed<'a> {
 
     /// Gives a new file the owner, the group and the mode of the one of this name, and flushes it.
     fn finished(&self, file: &NewFile, name: &str) -> io::Result<()> {
-        let (named, new) = (fs::metadata(self.rt, name)?, file.file.metadata()?);
+        let (named, new) = (fs::metadata(self.0, name)?, file.file.metadata()?);
         if (named.uid(), named.gid()) != (new.uid(), new.gid()) {
             fchown(&file.file, Some(named.uid()), Some(named.gid()))?;
         }
@@ -103,8 +97,8 @@ impl Replacer for Renamed<'_> {
     }
 
     fn rename(&mut self, file: &NewFile, name: &str) -> Result<(), ErrorKind> {
-        fs::canonicalize(self.rt, name)
-            .and_then(|named| fs::rename(self.rt, file.path.as_path(), named))
+        fs::canonicalize(self.0, name)
+            .and_then(|named| fs::rename(self.0, file.path.as_path(), named))
             .map_err(|error| error.kind())
     }
 
@@ -113,6 +107,6 @@ impl Replacer for Renamed<'_> {
     }
 
     fn remove(&mut self, file: &NewFile) {
-        let _ = fs::remove_file(self.rt, file.path.as_path());
+        let _ = fs::remove_file(self.0, file.path.as_path());
     }
 }
