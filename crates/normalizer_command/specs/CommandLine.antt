@@ -26,16 +26,9 @@ flag_rule name = record (new_rule name) { long = Some name; action = Some SetTru
 abbrev pub short_flag_rule : (name : List ℕ) → (letter : ℕ) → Rule
 short_flag_rule name letter = record (flag_rule name) { short = Some letter }
 
--- --quiet or -q, --name-only or -l, --null or -0, --in-place or -i
-abbrev pub with_listing : App → App
-with_listing a =
-    with_rule (with_rule (with_rule (with_rule a (short_flag_rule (codes "quiet") 113))
-    (short_flag_rule (codes "name-only") 108)) (short_flag_rule (codes "null") 48)) (short_flag_rule (codes "in-place") 105)
-
--- these, --data, --strict, and --version or -V
-abbrev pub with_options : App → App
-with_options a =
-    with_rule (with_listing (with_rule (with_rule a path_rule) (flag_rule (codes "strict")))) (short_flag_rule (codes "version") 86)
-
+-- --strict; --quiet or -q, --name-only or -l, --null or -0, --in-place or -i; and --version or -V
 abbrev pub uninorm : App
-uninorm = with_options (with_rule (with_rule (new_app (codes "uninorm")) word_rule) after_rule)
+uninorm = with_rule (with_rule (with_rule (with_rule (with_rule (with_rule (with_rule (with_rule (with_rule (new_app (codes "uninorm"))
+    word_rule) after_rule) path_rule) (flag_rule (codes "strict"))) (short_flag_rule (codes "quiet") 113))
+    (short_flag_rule (codes "name-only") 108)) (short_flag_rule (codes "null") 48)) (short_flag_rule (codes "in-place") 105))
+    (short_flag_rule (codes "version") 86)

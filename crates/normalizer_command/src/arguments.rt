@@ -8,7 +8,6 @@ ghost use Rattle.clap.specs.Takes.{takes};
 ghost use Rattle.clap.specs.Values.{kind_of};
 ghost use Rattle.clap.specs.declared.error.kind.ErrorKind.TheVariants.{OutOfMemory};
 ghost use Rattle.normalizer_command.specs.CommandLine.{after_rule, flag_rule, short_flag_rule, uninorm};
-ghost use Rattle.normalizer_command.specs.CommandLine.{with_listing, with_options, word_rule};
 ghost use Rattle.normalizer_command.specs.Arguments.{command_of, form_of, goes_in_place, is_plain, mode_of};
 ghost use Rattle.normalizer_command.specs.Arguments.{names_by, or_input, places_by, prepared_by, wanted, wanted_in};
 ghost use Rattle.normalizer_command.specs.Arguments.{with_form, AreFlags, Requests};
@@ -323,28 +322,16 @@ fn or_input<'a>(alloc: Global, names: &[&'a str]) -> Result<Vec<&'a str>, AllocE
 fn command<'a>(alloc: Global) -> Result<Command<'a>, AllocError>
     ensures { IfOk result (λ command. app_of command ≡ uninorm) }
 {
-    let command = Command::new(alloc, "uninorm")
+    Command::new(alloc, "uninorm")
         .arg(Arg::new(alloc, "command"))?
-        .arg(files(alloc))?;
-    with_options(alloc, command)
-}
-
-fn with_options<'a>(alloc: Global, command: Command<'a>) -> Result<Command<'a>, AllocError>
-    ensures { IfOk result (λ all. app_of all ≡ with_options (app_of command.entry)) }
-{
-    let path = Arg::new(alloc, "data").long("data");
-    let command = command.arg(path)?.arg(flag(alloc, "strict"))?;
-    with_listing(alloc, command)?.arg(short_flag(alloc, "version", 'V'))
-}
-
-fn with_listing<'a>(alloc: Global, command: Command<'a>) -> Result<Command<'a>, AllocError>
-    ensures { IfOk result (λ all. app_of all ≡ with_listing (app_of command.entry)) }
-{
-    command
+        .arg(files(alloc))?
+        .arg(Arg::new(alloc, "data").long("data"))?
+        .arg(flag(alloc, "strict"))?
         .arg(short_flag(alloc, "quiet", 'q'))?
         .arg(short_flag(alloc, "name-only", 'l'))?
         .arg(short_flag(alloc, "null", '0'))?
-        .arg(short_flag(alloc, "in-place", 'i'))
+        .arg(short_flag(alloc, "in-place", 'i'))?
+        .arg(short_flag(alloc, "version", 'V'))
 }
 
 fn files<'a>(alloc: Global) -> Arg<'a>
