@@ -1,18 +1,17 @@
 -- A piece that is compared with its form, after what agrees, and before what comes next.
-use Rattle.std.proofs.Common.{◌≡◌, ℕ, ◌+◌, ◌<◌, ◌≤◌, ◌⊎◌, inl, inr, Bool, true, IfNone, IfOk, IfSome, Result, Ok, Err, unwrap_or, List, [], ◌∷◌, ◌++◌, length, take, drop, Option, Some, None, MatchOption, refl, sym, ap, subst, ◌∙◌, arith, append_assoc, append-nil, length-append, length-drop, length-take, take-append-drop}
+use Rattle.std.proofs.Common.{◌≡◌, ℕ, ◌+◌, ◌<◌, ◌≤◌, ◌⊎◌, inl, inr, Bool, true, IfNone, IfSome, unwrap_or, List, [], ◌∷◌, ◌++◌, length, take, drop, Option, Some, None, MatchOption, refl, sym, ap, subst, ◌∙◌, arith, append_assoc, append-nil, length-append, length-drop, take-append-drop}
 use Rattle.std.proofs.Math.Seq.{drop-append-add, take-append-add, take-length}
 use Rattle.std.proofs.lemmas.List.{drop-append-le, drop_all, take-append-le}
-use Rattle.std.specs.Io.KnownBytes.{Consumes, IsAtEnd}
+use Rattle.std.specs.Io.KnownBytes.{IsAtEnd}
 use Rattle.std.proofs.KnownBytes.{Consumes-nil, Consumes-trans}
 use Rattle.icu_normalizer.proofs.InputCutLemmas.{is_normalized_iff_input_cut, zero_input_qualifies}
 use Rattle.icu_normalizer.proofs.StepLemmas.{decoded-nil, first-right}
 use Rattle.icu_normalizer.specs.BoundaryBefore.{HasBoundaryBefore}
 use Rattle.icu_normalizer.specs.Encodings.{Encoding, decoded_in}
 use Rattle.icu_normalizer.specs.Forms.{MadeForm}
-use Rattle.icu_normalizer.specs.InputCut.{IsErrorAt, IsInputNormalized}
+use Rattle.icu_normalizer.specs.InputCut.{IsErrorAt}
 use Rattle.icu_normalizer.specs.InputOffence.{IsInputOffence}
 use Rattle.icu_normalizer.specs.NormalForms.{normal_form}
-use Rattle.normalizer_io.specs.declared.outcome.TransferError.{TransferError}
 use Rattle.normalizer_streams.specs.declared.ill_formed.Ending.{Ending}
 use Rattle.normalizer_streams.specs.declared.ill_formed.Ending.TheVariants.{Stopped, Whole}
 use Rattle.normalizer_streams.specs.declared.ill_formed.ErrorMode.{ErrorMode}
@@ -23,7 +22,7 @@ use Rattle.normalizer_streams.specs.declared.mismatch.Mismatch.{Mismatch}
 use Rattle.normalizer_streams.specs.declared.position.Cursor.{Cursor}
 use Rattle.normalizer_streams.specs.declared.position.Position.{Position}
 use Rattle.normalizer_streams.specs.IllFormed.{first_of, steps_of, ill_formed, Ends, IsFirstIllFormed, IsWellFormedBy}
-use Rattle.normalizer_streams.specs.Mismatches.{Compares, IsComparison, IsMismatchOf, IsNormalizedBy, IsTextOf}
+use Rattle.normalizer_streams.specs.Mismatches.{Compares, IsComparison, IsNormalizedBy, IsTextOf}
 use Rattle.normalizer_streams.specs.Positions.{byte_after, counted, line_after, IsPositionAfter}
 use Rattle.normalizer_streams.specs.inner.Agreements.{Agrees, AgreesFurther, BeginsPartBy, IsMismatchIn, IsPieceCompared, IsReadTo}
 use Rattle.normalizer_streams.specs.inner.Moves.{Carries}

@@ -1,17 +1,15 @@
 -- The first ill-formed sequence of units and of bytes, and how many there are.
-use Rattle.std.proofs.Common.{◌≡◌, ℕ, zero, suc, ◌+◌, ◌*◌, ◌-◌, ◌^◌, ◌<◌, ◌≤◌, ◌⊎◌, inl, inr, Bool, true, false, cond, min, List, [], ◌∷◌, ◌++◌, length, take, drop, refl, sym, ap, subst, ◌∙◌, arith, length-drop, length-take, take-append-drop}
-use Rattle.std.specs.Prelude.{All, count_by, Option, Some, None, IfSome}
+use Rattle.std.proofs.Common.{◌≡◌, ℕ, zero, suc, ◌+◌, ◌-◌, ◌<◌, ◌≤◌, ◌⊎◌, inl, inr, Bool, true, false, cond, List, [], ◌∷◌, ◌++◌, length, take, drop, refl, sym, ap, subst, ◌∙◌, arith, length-drop, take-append-drop}
+use Rattle.std.specs.Prelude.{All, count_by}
 use Rattle.std.proofs.lemmas.Bool.{cases_Bool}
-use Rattle.std.proofs.lemmas.List.{drop-drop, drop_all, take_all}
+use Rattle.std.proofs.lemmas.List.{drop-drop, drop_all}
 use Rattle.std.proofs.lemmas.List.Elements.{All-append, All-nil, All-cons, All-head, All-same, All-tail}
 use Rattle.std.proofs.lemmas.List.Sums.{sum_by-cons}
 use Rattle.icu_normalizer.specs.DecodingSteps.{steps, IsWellFormed}
 use Rattle.icu_normalizer.specs.Encodings.{Encoding, first_in}
-use Rattle.icu_normalizer.specs.InputCut.{IsErrorAt}
 use Rattle.icu_normalizer.specs.Step.{Step}
-use Rattle.icu_normalizer.proofs.EncodingRules.{IsDecoding-first}
 use Rattle.icu_normalizer.proofs.StepLemmas.{IsRight, rest-shorter, steps-append, steps-nil, steps-some, steps-take}
-use Rattle.normalizer_streams.specs.IllFormed.{steps_of, ill_formed, IsFirstIllFormed, IsWellFormedBy}
+use Rattle.normalizer_streams.specs.IllFormed.{IsFirstIllFormed, IsWellFormedBy}
 use Rattle.normalizer_streams.specs.inner.Errors.{IsFirstErrorAt}
 use Rattle.normalizer_streams.proofs.CarriedLemmas.{take-sum}
 

@@ -1,17 +1,17 @@
 -- Lines that were replied to, and what is replied to the pieces that come next.
-use Rattle.std.proofs.Common.{◌≡◌, ℕ, ◌+◌, ◌-◌, ◌<◌, ◌≤◌, ◌%◌, ◌⊎◌, inl, inr, zero, suc, Bool, true, false, List, [], ◌∷◌, ◌++◌, None, Some, Option, IfNone, IfSome, refl, sym, ap, subst, ◌∙◌, append_assoc, append-nil, length, length-append, map, take, drop, get_or, arith, length-drop, length-take, take-append-drop}
+use Rattle.std.proofs.Common.{◌≡◌, ℕ, ◌+◌, ◌-◌, ◌<◌, ◌≤◌, ◌⊎◌, inl, inr, zero, suc, Bool, true, false, List, [], ◌∷◌, ◌++◌, None, Some, Option, IfNone, IfSome, refl, sym, ap, subst, ◌∙◌, append_assoc, append-nil, length, length-append, map, take, drop, get_or, arith, length-take, take-append-drop}
 use Rattle.std.specs.Prelude.{◌&&◌, ◌==◌, not}
 use Rattle.std.specs.Io.KnownBytes.{Appends, IsAtEnd}
 use Rattle.std.proofs.KnownBytes.{Appends-nil, Appends-trans, Consumes-nil, Consumes-trans}
 use Rattle.std.proofs.Math.Dec.{eqb-suc-zero}
-use Rattle.std.proofs.lemmas.Bool.{cases_Bool, eq-eqb, true≢false}
+use Rattle.std.proofs.lemmas.Bool.{cases_Bool, true≢false}
 use Rattle.std.proofs.lemmas.List.{length-map, map-append, take_all, take_more}
 use Rattle.std.proofs.lemmas.List.Sums.{count_by-le-length}
-use Rattle.icu_normalizer.specs.DecodingSteps.{read, steps, steps_past}
+use Rattle.icu_normalizer.specs.DecodingSteps.{read, steps_past}
 use Rattle.icu_normalizer.specs.Encodings.{Encoding}
 use Rattle.icu_normalizer.specs.Step.{Step}
 use Rattle.icu_normalizer.specs.Utf8.{row_of}
-use Rattle.icu_normalizer.proofs.StepLemmas.{steps-nil, steps-some}
+use Rattle.icu_normalizer.proofs.StepLemmas.{steps-some}
 use Rattle.normalizer_io.specs.Transfer.{AppendsFront}
 use Rattle.normalizer_streams.specs.declared.ill_formed.Ending.{Ending}
 use Rattle.normalizer_streams.specs.declared.ill_formed.Ending.TheVariants.{Stopped, Whole}
@@ -28,7 +28,6 @@ use Rattle.normalizer_streams.specs.Streams.{IsFormCutOff}
 use Rattle.normalizer_streams.specs.inner.LineMoves.{EndsLine, IsPieceCutOff, IsPieceReplied, IsReplied, IsWholePiece, MovesLines}
 use Rattle.normalizer_streams.specs.inner.Moves.{Carries}
 use Rattle.normalizer_streams.specs.inner.Watches.{text_in, IsNoted, Joins, Watches}
-use Rattle.normalizer_streams.proofs.CarriedLemmas.{take-sum}
 use Rattle.normalizer_streams.proofs.ErrorLemmas.{find_ill_formed}
 use Rattle.normalizer_streams.proofs.MoveLemmas.{all_that_was_left, nothing_left, rest_is, rest_of, AppendsFront-after, AppendsFront-more, Ends-stopped, Ends-whole}
 use Rattle.normalizer_streams.proofs.PassLemmas.{steps_of-nil, well_formed-joined, IsFirstIllFormed-after, IsFirstIllFormed-more}

@@ -1,5 +1,5 @@
 -- Moves, one after another, and where they end.
-use Rattle.std.proofs.Common.{◌≡◌, ℕ, ◌+◌, ◌<◌, ◌≤◌, inl, inr, Bool, List, [], ◌++◌, None, Some, Option, IfNone, IfSome, MatchOption, Result, Ok, Err, OnOk, OnErr, true, refl, sym, ap, subst, ◌∙◌, append_assoc, append-nil, length, length-append, take, drop, arith, take-append-drop}
+use Rattle.std.proofs.Common.{◌≡◌, ℕ, ◌+◌, ◌≤◌, inl, inr, Bool, List, [], ◌++◌, None, Some, Option, IfNone, IfSome, MatchOption, Result, Ok, Err, OnErr, true, refl, sym, ap, subst, ◌∙◌, append_assoc, append-nil, length, length-append, take, drop, arith, take-append-drop}
 use Rattle.std.proofs.Math.Seq.{take-append_seam, take-append-add}
 use Rattle.std.specs.Io.KnownBytes.{Appends, Consumes, IsAtEnd, Keeps}
 use Rattle.std.proofs.KnownBytes.{Appends-nil, Appends-trans, Consumes-kept, Consumes-nil, Consumes-trans}
@@ -10,13 +10,13 @@ use Rattle.normalizer_streams.specs.declared.ill_formed.ErrorMode.{ErrorMode}
 use Rattle.normalizer_streams.specs.declared.ill_formed.ErrorMode.TheVariants.{Fatal, Replacement}
 use Rattle.normalizer_streams.specs.declared.watch.Stop.{Stop}
 use Rattle.normalizer_streams.specs.declared.watch.Watch.{Watch}
-use Rattle.normalizer_streams.specs.IllFormed.{steps_of, ill_formed, Ends, IsFirstIllFormed}
+use Rattle.normalizer_streams.specs.IllFormed.{ill_formed, Ends, IsFirstIllFormed}
 use Rattle.normalizer_streams.specs.Positions.{byte_after, counted, line_after}
 use Rattle.normalizer_streams.specs.Streams.{IsFormCutOff, IsFormWritten, IsRun, IsWrittenToRun}
 use Rattle.normalizer_streams.specs.inner.Moves.{Carries, IsCut, IsPassed, IsSettled, Moves, Passes, Stops}
 use Rattle.normalizer_streams.specs.inner.Watches.{text_in, IsNoted, Watches}
 use Rattle.normalizer_streams.proofs.ErrorLemmas.{find_ill_formed}
-use Rattle.normalizer_streams.proofs.PassLemmas.{front-apart, steps_of-append, steps_of-nil, well_formed-joined, BeginsAs-front, BeginsAs-less, BeginsWhole-more, IsFirstIllFormed-after, IsFirstIllFormed-more, IsPassed-more, IsPassed-none, IsPassed-settled, Joins-front, MayFollow-front, MayFollow-more, MayFollow-self}
+use Rattle.normalizer_streams.proofs.PassLemmas.{front-apart, steps_of-append, well_formed-joined, BeginsAs-front, BeginsAs-less, BeginsWhole-more, IsFirstIllFormed-after, IsFirstIllFormed-more, IsPassed-more, IsPassed-none, IsPassed-settled, MayFollow-more, MayFollow-self}
 
 -- what follows of either result
 pub OnErr-always : {A E P : Type 0} (r : Result A E) → P → OnErr r P

@@ -1,10 +1,8 @@
 -- Bytes that were passed, apart from whatever may come after them.
-use Rattle.std.proofs.Common.{◌≡◌, ℕ, ◌+◌, ◌<◌, ◌≤◌, Bool, true, false, List, [], ◌∷◌, ◌++◌, length, take, drop, refl, sym, ap, subst, ◌∙◌, arith, append_assoc, append-nil, length-append, length-take, length-drop, take-append-drop}
-use Rattle.std.specs.Prelude.{All}
+use Rattle.std.proofs.Common.{◌≡◌, ℕ, ◌<◌, false, List, [], ◌∷◌, ◌++◌, length, take, drop, refl, sym, ap, subst, ◌∙◌, arith, append_assoc, length-append, length-take, take-append-drop}
 use Rattle.std.proofs.Math.Seq.{drop-append_seam}
 use Rattle.std.proofs.lemmas.Bool.{true≢false}
 use Rattle.std.proofs.lemmas.List.Elements.{All-append, All-same}
-use Rattle.icu_normalizer.specs.DecodingSteps.{steps}
 use Rattle.icu_normalizer.specs.Encodings.{Encoding}
 use Rattle.icu_normalizer.specs.Step.{Step}
 use Rattle.icu_normalizer.proofs.Utf8Lemmas.{IsDecoding-utf8}

@@ -1,5 +1,5 @@
 -- A whole character with a boundary before it divides the form of bytes, whatever comes after them.
-use Rattle.std.proofs.Common.{◌≡◌, ℕ, ◌<◌, true, false, List, ◌++◌, length, take, drop, sym, ap, subst, ◌∙◌, ◌+◌, ◌∷◌, get_or, get_or-drop, arith, length-drop, length-take, length-append, append_assoc, take-append-drop}
+use Rattle.std.proofs.Common.{◌≡◌, ℕ, ◌<◌, false, List, ◌++◌, length, take, drop, sym, ap, subst, ◌∙◌, ◌+◌, ◌∷◌, get_or, get_or-drop, arith, length-drop, length-append}
 use Rattle.std.specs.Prelude.{slice_index}
 use Rattle.std.proofs.Math.Seq.{drop-append_seam, take-append_seam}
 use Rattle.std.proofs.lemmas.Bool.{false_from_ne_true, true≢false}

@@ -119,7 +119,7 @@ fn write_settled<W: Target>(
     Ok(stop)
 }
 
-/// Writes the form of a piece, up to where the text ends, which it returns.
+/// Writes the form of a piece, up to where the text ends, which it returns. The form is made in a buffer.
 fn write_piece<W: Target>(
     normalizer: &AnyNormalizer,
     piece: &[u8],
@@ -142,7 +142,11 @@ fn write_piece<W: Target>(
     ensures ahead { OnOk result (IsUnrefused W.refusal writer.old writer.new) }
 {
     let stop = watch.note(piece);
-    write_form_of(normalizer, text_in(piece, stop), form, writer)?;
+    form.clear();
+    let Ok(()) = normalizer.append_form(text_in(piece, stop), form) else {
+        return Err(TransferError::Memory);
+    };
+    write_all(writer, form.as_bytes())?;
     Ok(stop)
 }
 
@@ -154,28 +158,5 @@ pub(crate) fn text_in(piece: &[u8], stop: Option<Stop>) -> &[u8]
     match stop {
         None => piece,
         Some(stop) => &piece[..stop.place],
-    }
-}
-
-/// Writes the form of some bytes, which is made in a buffer.
-fn write_form_of<W: Target>(
-    normalizer: &AnyNormalizer,
-    bytes: &[u8],
-    form: &mut String,
-    writer: &mut W,
-) -> Result<(), TransferError>
-    ensures form { OnOk result
-        (Appends (W.bytes_taken writer.old) (W.bytes_taken writer.new) (form_by normalizer.now bytes.now)) }
-    ensures front { OnErr result
-        (AppendsFront (W.bytes_taken writer.old) (W.bytes_taken writer.new) (form_by normalizer.now bytes.now)) }
-    ensures errors { IfErr result (λ error. (error ≡ TransferError.Write) ⊎ (error ≡ TransferError.Memory)) }
-    ensures write { IsErrOf result TransferError.Write → W.refusal writer.old writer.new }
-    ensures memory { IsErrOf result TransferError.Memory → writer.new ≡ writer.old }
-    ensures ahead { OnOk result (IsUnrefused W.refusal writer.old writer.new) }
-{
-    form.clear();
-    match normalizer.append_form(bytes, form) {
-        Ok(()) => write_all(writer, form.as_bytes()),
-        Err(_) => Err(TransferError::Memory),
     }
 }

@@ -1,5 +1,5 @@
 -- The first ill-formed sequence of units.
-use Rattle.std.specs.Prelude.{◌≡◌, ℕ, List, take}
+use Rattle.std.specs.Prelude.{ℕ, List, take}
 use Rattle.icu_normalizer.specs.DecodingSteps.{IsWellFormed}
 use Rattle.icu_normalizer.specs.Encodings.{Encoding, first_in}
 use Rattle.icu_normalizer.specs.InputCut.{IsErrorAt}

@@ -1,7 +1,7 @@
 use Rattle.std.proofs.Common.{length, subst, sym, take}
 use Rattle.std.proofs.Math.Seq.{take-length}
 use Rattle.normalizer_streams.specs.Mismatches.{IsTextOf}
-use Rattle.normalizer_streams.specs.declared.ill_formed.ErrorMode.TheVariants.{Fatal, Replacement}
+use Rattle.normalizer_streams.specs.declared.ill_formed.ErrorMode.TheVariants.{Replacement}
 use Rattle.normalizer_streams.proofs.ComparisonLemmas.{Ends-found, Ends-replaced}
 use Rattle.normalizer_streams.proofs.mismatch.end_of_text.Goals as goal
 

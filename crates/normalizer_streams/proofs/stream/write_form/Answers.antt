@@ -1,4 +1,4 @@
-use Rattle.std.proofs.Common.{◌≡◌, ◌<◌, ◌++◌, Err, length, ap, rules, arith, inr, refl, subst, sym, ⊎_elim, ◌^◌, ◌-◌}
+use Rattle.std.proofs.Common.{◌≡◌, Err, length, ap, rules, arith, inr, refl, subst, sym, ⊎_elim, ◌^◌, ◌-◌}
 use Rattle.std.proofs.KnownBytes.{Keeps-refl}
 use Rattle.std.proofs.Math.Seq.{take-append_seam}
 use Rattle.normalizer_streams.specs.Streams.{form_by, may_continue, IsFormCutOff}

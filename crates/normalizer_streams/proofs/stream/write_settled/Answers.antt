@@ -1,5 +1,5 @@
 use Rattle.std.proofs.Common.{ℕ, List, ◌++◌, Err, ap, arith, refl, subst, sym, ⊎_elim}
-use Rattle.normalizer_streams.specs.Streams.{form_by, may_continue, IsRun}
+use Rattle.normalizer_streams.specs.Streams.{form_by, may_continue}
 use Rattle.normalizer_streams.specs.inner.Moves.{IsCut, IsPassed}
 use Rattle.normalizer_streams.specs.inner.Watches.{Watches}
 use Rattle.normalizer_streams.specs.declared.ill_formed.ErrorMode.{ErrorMode}
