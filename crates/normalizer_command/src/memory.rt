@@ -1,5 +1,5 @@
 //! The program over files in memory: from the bytes of its data to what it writes and reports.
-ghost use Rattle.std.specs.Prelude.{◌≡◌, [], true, map, option_copied, string_bytes, All, IfOk, None, Some, cond};
+ghost use Rattle.std.specs.Prelude.{◌≡◌, true, map, option_copied, string_bytes, All, IfOk, None, Some, cond};
 ghost use Rattle.normalizer_command.specs.FileFaults.{is_refusal};
 ghost use Rattle.normalizer_command.specs.InMemory.{bytes_in, effect_of, in_memory, IsEffectOf};
 ghost use Rattle.normalizer_command.specs.Messages.{name_in, report_of};
@@ -61,7 +61,11 @@ pub fn run_in_memory(
         (map (λ name. name.now) names.now) (effect_of outcome)) }
 {
     let mut output = Output(Vec::new(alloc));
-    let mut reports = KeptReports::new(alloc);
+    let mut reports = KeptReports {
+        alloc,
+        kept: Vec::new(alloc),
+        is_whole: true,
+    };
     let run = Run {
         alloc,
         command,
@@ -120,17 +124,6 @@ struct KeptReports {
 }
 
 impl KeptReports {
-    fn new(alloc: Global) -> KeptReports
-        ensures none { result.kept.items ≡ [] }
-        ensures whole { result.is_whole ≡ true }
-    {
-        KeptReports {
-            alloc,
-            kept: Vec::new(alloc),
-            is_whole: true,
-        }
-    }
-
     /// Whether none was lost, and none is of a refusal.
     fn are_of_data(&self) -> bool
         ensures whole { result ≡ true → self.now.is_whole ≡ true }

@@ -14,5 +14,5 @@ returns c =
     let whole : c.run-status.new.reports.is_whole ≡ true = first_of (search rules, grind (arith, common_steps), cc) in
     let of_data : All IsOfData (kept_reports c.run-status.new.reports.kept.items) = first_of (search rules, grind (arith, common_steps), cc) in
     effect-of-run (λ t. Some t.0.items) (λ t. t.0.items) (λ t. refl) (λ _ _. ⊤) (bytes_in c.args.files.now) c.args.command c.args.path.now _ _ _ (kept_reports c.run-status.new.reports.kept.items)
-    (known-none c.new-reports.result.is_whole c.new-reports.result.kept.items c.new-reports.ensures.whole c.new-reports.ensures.none) c.new.ensures.items refl
+    (known-none c.new-2.result.items c.new-2.ensures.items) c.new.ensures.items refl
     (known-all c.run-status.new.reports.is_whole c.run-status.new.reports.kept.items whole) of_data c.run-status.ensures
