@@ -123,7 +123,7 @@ impl<'data, I: Iterator<Item = char> + Drop> Decomposition<'data, I> {
         ensures refused { IfErr result (λ e. (e ≡ NormalizeError.Memory)
             × HasYieldedLongBy I.next_gives characters.entry ignored delegate) }
     {
-        let first = read_from(&characters, 0, delegate.next());
+        let first = read_from(&characters, 0, &mut delegate);
         if is_at_boundary(&characters, ignored, first) {
             // The list is made in its place. If it was made before anything is read on, it would be copied.
             return Ok(Decomposition {
@@ -219,7 +219,7 @@ impl<'data, I: Iterator<Item = char> + Drop> Decomposition<'data, I> {
             return Some(Ok(given));
         }
         let read = self.pending?;
-        let following = read_from(&self.characters, 0, self.delegate.next());
+        let following = read_from(&self.characters, 0, &mut self.delegate);
         match self.next_chunk(read, following) {
             Ok(character) => Some(Ok(ClassedChar {
                 character,

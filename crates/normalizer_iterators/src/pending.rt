@@ -1,11 +1,13 @@
 //! Characters that were read from a delegate, with their words.
 ghost use Rattle.std.specs.Prelude.{◌≡◌, ◌↔◌, ◌∷◌, [], ℕ, List, false, IfSome, IsTrue};
+ghost use Rattle.std.specs.Iterator.{IsFinite};
 ghost use Rattle.normal_forms.specs.ShortRuns.{continues};
 ghost use Rattle.normalizer_tables.specs.Characters.{Characters, class_of, has_class_form, list_of, word_of};
 ghost use Rattle.normalizer_tables.specs.ShortLists.{text_of};
 ghost use Rattle.normalizer_tables.specs.Ignored.{ignored_list};
 ghost use Rattle.normalizer_tables.specs.Readings.{reading_by};
 ghost use Rattle.normalizer_tables.specs.Passthrough.{IsPassthrough};
+ghost use Rattle.normalizer_iterators.specs.Delegate.{HasRead, IsReadyAfter};
 ghost use Rattle.normalizer_iterators.specs.Reads.{character_of, HasNoFlag, HasOwnWord, HasOwnWords};
 
 use normalizer_tables::characters::{CharacterData, IgnoredCharacters};
@@ -192,15 +194,18 @@ fn one_of(members: &Members<'_>) -> Option<char>
     }
 }
 
-/// A character that was read, if one was. Its word is looked up from this number on, unless it is passthrough.
+/// Reads a character from a delegate. Its word is looked up from this number on, unless it is passthrough.
 #[inline(always)]
-pub(crate) fn read_from(
+pub(crate) fn read_from<I: Iterator<Item = char> + Drop>(
     characters: &CharacterData<'_>,
     bound: u32,
-    character: Option<char>,
+    delegate: &mut I,
 ) -> Option<PendingChar>
-    ensures character { character_of result ≡ character }
+    requires can { I.can_next delegate.old }
+    requires ends { IsFinite (I.remaining delegate.old) }
+    ensures read { HasRead I.next_gives I.remaining delegate.old (character_of result) delegate.new }
+    ensures ready { IsReadyAfter I.can_next I.remaining (character_of result) delegate.new }
     ensures word { HasOwnWords characters.now result }
 {
-    Some(PendingChar::new(characters, bound, character?))
+    Some(PendingChar::new(characters, bound, delegate.next()?))
 }

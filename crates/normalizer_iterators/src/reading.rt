@@ -43,7 +43,7 @@ pub(crate) fn read_on<I: Iterator<Item = char> + Drop>(
             return Ok(Some(read));
         }
         push_list(characters, ignored, read, waiting)?;
-        next = read_from(characters, 0, delegate.next());
+        next = read_from(characters, 0, delegate);
     }
     waiting.put_in_order()?;
     Ok(None)

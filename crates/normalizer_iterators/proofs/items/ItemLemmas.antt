@@ -3,6 +3,7 @@ use Rattle.std.proofs.Common.{◌≡◌, ℕ, Bool, IfOk, IfErr, IsOk, List, [],
 use Rattle.std.proofs.Common.{None, Result, Ok, Err, All, MatchOption, MatchResult, refl, sym, ap, subst, append-nil, ◌∙◌}
 use Rattle.std.proofs.lemmas.List.Elements.{All-nil, All-cons, All-head, All-tail}
 use Rattle.std.specs.Iterator.{Yields}
+use Rattle.normal_forms.specs.Forms.{nfd}
 use Rattle.normal_forms.specs.Reading.{Reading}
 use Rattle.normal_forms.specs.ShortRuns.{HasShortRuns}
 use Rattle.normalizer_text.specs.DecodingSteps.{Spells}
@@ -203,20 +204,18 @@ module _ {I : Type 0} (from : Source I) where
 
 -- ---- the result of a constructor
 
-module _ {I S : Type 0} (source_gives : I → Option ℕ → I → Type 0) (WillYield : S → List ℕ → Type 0) (StaysShort : S → Type 0) (steps : S → Option (Result ℕ NormalizeError) → S → Type 0)
-    (unless : (s : S) (x : List ℕ) → WillYield s x → SpellsUnless steps Memory s x) (always : (s : S) (x : List ℕ) → WillYield s x → StaysShort s → SpellsOk steps s x) (f : ℕ
-    → Bool) (d : Reading) (form : Reading → List ℕ → List ℕ) (source : I) where
-  -- the runs of a text may be short by any reading that has the same lists
-  pub YieldsForm-made : (IsMade : S → Type 0) → ((it : S) → IsMade it → YieldsFormOfRun source_gives steps f d (form d) source it)
-      → (IsShort : List ℕ → Type 0) → ((x : List ℕ) → HasShortRuns f d x → IsShort x) → (made : Result S NormalizeError)
-      → IfOk made (λ it. (x : List ℕ) → Spells source_gives source x → WillYield it (form d x)) → IfOk made (λ it. (x : List ℕ) → Spells source_gives source x → IsShort x → StaysShort it)
-      → ((x : List ℕ) → Spells source_gives source x → IsShort x → IsOk made) → IfOk made IsMade → IfErr made (λ e. (e ≡ Memory) × HasYieldedLong source_gives f d source)
-      → YieldsForm source_gives steps f d form source made
-  YieldsForm-made IsMade ran IsShort is_short (Ok it) text short succeeds came refused = record {
-    text = λ x h. unless it (form d x) (text x h);
-    short = λ x h runs. always it (form d x) (text x h) (short x h (is_short x runs));
-    run = ran it came;
-    refused = refused;
-  }
-  YieldsForm-made IsMade ran IsShort is_short (Err e) text short succeeds came refused =
-      record { text = tt; short = λ x h runs. absurd (cc (succeeds x h (is_short x runs))); run = tt; refused = refused }
+pub YieldsForm-decomposition : {I : Type 0} (from : Source I) (f : ℕ → Bool) (d : Reading) (source : I) (made : Result (Decomposition I) NormalizeError)
+    → IfOk made (λ it. (x : List ℕ) → Spells from.next_gives source x → WillYield (Spells from.next_gives) it (nfd d x))
+    → IfOk made (λ it. (x : List ℕ) → Spells from.next_gives source x → HasShortRuns f d x → StaysShort from.next_gives it)
+    → ((x : List ℕ) → Spells from.next_gives source x → HasShortRuns f d x → IsOk made)
+    → IfOk made (IsFormOfSource from.next_gives (λ e. WillYield (MayYield from.next_gives e)) (nfd d) source)
+    → IfOk made (λ it. IsLong from.next_gives it → HasYieldedLong from.next_gives f d source)
+    → IfErr made (λ e. (e ≡ Memory) × HasYieldedLong from.next_gives f d source) → YieldsForm from.next_gives (DecompositionSteps from) f d nfd source made
+YieldsForm-decomposition from f d source (Ok it) text short succeeds came long refused = record {
+  text = λ x h. SpellsUnless-decomposition from it (nfd d x) (text x h);
+  short = λ x h runs. SpellsOk-decomposition from it (nfd d x) (text x h) (short x h runs);
+  run = YieldsFormOfRun-decomposition from f d (nfd d) source it came long;
+  refused = refused;
+}
+YieldsForm-decomposition from f d source (Err e) text short succeeds came long refused =
+    record { text = tt; short = λ x h runs. absurd (cc (succeeds x h runs)); run = tt; refused = refused }

@@ -2,7 +2,7 @@
 use Rattle.std.proofs.Common.{◌≡◌, ℕ, ◌+◌, ◌*◌, ◌<◌, Bool, List, [], ◌∷◌, ◌++◌, length, refl, sym, ap, ◌∙◌, subst, arith, Option, Some, None, OnSome, MatchOption, option_to_list, Result, Ok, Err}
 use Rattle.std.proofs.Common.{append-nil}
 use Rattle.std.specs.Option.{ForSome}
-use Rattle.std.specs.Iterator.{size, IsFinite}
+use Rattle.std.specs.Iterator.{size}
 use Rattle.normal_forms.specs.Reading.{Reading}
 use Rattle.normal_forms.specs.Decomposition.{expand}
 use Rattle.normal_forms.specs.Order.{order, insert, is_reorderable}
@@ -24,7 +24,7 @@ use Rattle.normalizer_iterators.specs.declared.composition.passing.Given.{Given}
 use Rattle.normalizer_iterators.specs.declared.composition.passing.Given.TheVariants.{Itself, FirstMember}
 use Rattle.normalizer_iterators.specs.declared.decomposition.Decomposition.{Decomposition}
 use Rattle.normalizer_iterators.specs.declared.error.NormalizeError.{NormalizeError}
-use Rattle.normalizer_iterators.specs.Delegate.{ComesAfter, Extent, IsReadyAfter, MayYield, SpellsAfter, Source}
+use Rattle.normalizer_iterators.specs.Delegate.{ComesAfter, Extent, HasRead, IsReadyAfter, MayYield, SpellsAfter, Source}
 use Rattle.normalizer_iterators.specs.DecompositionItems.{IsLong, StaysShort, WillYield, pending_of, reading_of}
 use Rattle.normalizer_iterators.specs.Delegate.Extent.{so_far}
 use Rattle.normalizer_iterators.specs.LazyComposing.{IsComposingPassthrough, IsNormalizedApart, IsNormalizedApartIn, PassthroughHasBoundaries, SuitsLazyComposing}
@@ -130,8 +130,8 @@ module _ {I : Type 0} (from : Source I) (pairs : List Pair) (s : Decomposition I
     first_apart : IsNormalizedApartIn s.characters pairs s.ignored c
     first_apart = here.apart c pending
 
-    module _ (following : Option ℕ) (t : Decomposition I) (step : from.next_gives s.delegate following t.delegate)
-        (near : OnSome following (from.can_next t.delegate × IsFinite (from.remaining t.delegate) × (size (from.remaining t.delegate) < size (from.remaining s.delegate))))
+    module _ (following : Option ℕ) (t : Decomposition I) (read : HasRead from.next_gives from.remaining s.delegate following t.delegate)
+        (ready : IsReadyAfter from.can_next from.remaining following t.delegate)
         (apart : ForSome following (IsNormalizedApartIn s.characters pairs s.ignored)) (reads : pending_of t ≡ following) (empty : ordered_text t.waiting ≡ []) (characters : t.characters ≡ s.characters)
         (ignored : t.ignored ≡ s.ignored) where
       to_come : (y : List ℕ) → WillYield (Spells from.next_gives) s y → (own : List ℕ) × (rest : List ℕ) × (y ≡ own ++ rest)
@@ -140,7 +140,7 @@ module _ {I : Type 0} (from : Source I) (pairs : List Pair) (s : Decomposition I
           let d = reading_of s in
           let D = reading_by s.characters s.ignored pairs in
           let source : Spells from.next_gives s.delegate h.unread = subst (λ o. SpellsAfter from.next_gives o s.delegate h.unread) pending h.source in
-          let next = spelled_next from.next_gives s.delegate following t.delegate h.unread step source in
+          let next = spelled_next from.next_gives s.delegate following t.delegate h.unread read.step source in
           let rest = option_to_list following ++ next.0 in
           let begins = begins_apart (Spells from.next_gives) s.characters pairs s.ignored following t.delegate next.0 apart next.2 in
           let all : y ≡ nfd d (c ∷ rest) =
@@ -170,7 +170,7 @@ module _ {I : Type 0} (from : Source I) (pairs : List Pair) (s : Decomposition I
             nfd d (c ∷ rest),
             subst (λ o. IsToCome (MayYield from.next_gives e) (nfd d) o s.delegate (ordered_text s.waiting) (nfd d (c ∷ rest))) (sym pending) (record {
               unread = rest;
-              source = MayYield-next from.next_gives e s.delegate following t.delegate h.unread step h.source;
+              source = MayYield-next from.next_gives e s.delegate following t.delegate h.unread read.step h.source;
               text = sym (ap (λ l. l ++ nfd d (c ∷ rest)) here.waiting);
             }),
             sym (composed (c ∷ rest)) ∙ composed_form-boundary D (c ∷ []) rest begins
@@ -199,7 +199,7 @@ module _ {I : Type 0} (from : Source I) (pairs : List Pair) (s : Decomposition I
           let base : P (Some c) = (
             record {
               unread = rest;
-              source = MayYield-next from.next_gives so_far s.delegate following t.delegate comes.unread step comes.source;
+              source = MayYield-next from.next_gives so_far s.delegate following t.delegate comes.unread read.step comes.source;
               text = sym (ap (λ l. l ++ nfd d (c ∷ rest)) here.waiting);
             },
             λ short. by_s.2 (HasShortRuns-rest f d (c ∷ []) rest short),
@@ -212,7 +212,7 @@ module _ {I : Type 0} (from : Source I) (pairs : List Pair) (s : Decomposition I
           let f = has_class_form s.characters in
           let d = reading_of s in
           let source : Spells from.next_gives s.delegate h.unread = subst (λ o. SpellsAfter from.next_gives o s.delegate h.unread) pending h.source in
-          let next = spelled_next from.next_gives s.delegate following t.delegate h.unread step source in
+          let next = spelled_next from.next_gives s.delegate following t.delegate h.unread read.step source in
           let short : HasShortRuns f d (c ∷ h.unread) = subst (λ o. HasShortRuns f d (option_to_list o ++ h.unread)) pending h.short in
           rw (characters, ignored, reads)
           (record {
@@ -225,27 +225,21 @@ module _ {I : Type 0} (from : Source I) (pairs : List Pair) (s : Decomposition I
       fewer_by None after before h = omega arith
       fewer_by (Some e) after before h = omega arith
 
-      ready_by : (o : Option ℕ) → OnSome o (from.can_next t.delegate × IsFinite (from.remaining t.delegate) × (size (from.remaining t.delegate) < size (from.remaining s.delegate))) → IsReadyAfter from.can_next from.remaining o t.delegate
-          × OnSome o (size (from.remaining t.delegate) < size (from.remaining s.delegate))
-      ready_by None h = (tt, tt)
-      ready_by (Some e) h = ((h.0, h.1), h.2)
-
       pub YieldsItself-next : YieldsItself from pairs s c t
       YieldsItself-next =
-          let both = ready_by following near in
           record {
             text = to_come;
             came = came_to_come;
             short = short_to_come;
             long = long_to_come;
-            ready = rw reads both.0;
+            ready = rw reads ready;
             at_passed = record { waiting = empty; apart = rw (reads, characters, ignored) apart };
             kept = characters;
             fewer =
                 let before =
                 ap (λ l. length l + longest_list * reads_left (pending_of s) (size (from.remaining s.delegate))) here.waiting ∙ ap (λ p. 0 + longest_list * reads_left p (size (from.remaining s.delegate))) pending in
                 let after = ap (λ l. length l + longest_list * reads_left (pending_of t) (size (from.remaining t.delegate))) empty ∙ ap (λ p. 0 + longest_list * reads_left p (size (from.remaining t.delegate))) reads in
-                omega (arith, before, after, fewer_by following (size (from.remaining t.delegate)) (size (from.remaining s.delegate)) both.1);
+                omega (arith, before, after, fewer_by following (size (from.remaining t.delegate)) (size (from.remaining s.delegate)) read.nearer);
           }
 
     pub YieldsStarter-next : (t : Decomposition I) (first : ℕ) → t.characters ≡ s.characters → t.ignored ≡ s.ignored

@@ -3,7 +3,7 @@ use Rattle.std.proofs.Common.{◌≡◌, ℕ, ◌+◌, ◌<◌, ◌≤◌, Bool,
 use Rattle.std.proofs.Common.{slice_get, inl, inr, append_assoc, append-nil}
 use Rattle.std.proofs.lemmas.List.{drop_more, drop_all, length-append}
 use Rattle.std.proofs.lemmas.List.Elements.{All-nil, All-push}
-use Rattle.std.specs.Iterator.{Count, size, IsFinite, Yields}
+use Rattle.std.specs.Iterator.{Count, size, Yields}
 use Rattle.std.specs.List.{AllPass}
 use Rattle.normal_forms.specs.Decomposition.{expand}
 use Rattle.normal_forms.specs.Order.{order}
@@ -169,44 +169,29 @@ pub record ReadsAhead {I : Type 0} (from : Source I) (has_class_form : ℕ → B
   pub behind : (before : I) → HasRead from.next_gives from.remaining before first delegate → (now : I) × ReadSoFar from.next_gives from.remaining has_class_form d before waiting now waiting_now × HasRead from.next_gives from.remaining now next delegate_now
 
 module _ {I : Type 0} (from : Source I) where
-  pub IsReadyAfter-next : (before after : I) (given : Option ℕ) → OnSome given (from.can_next after × IsFinite (from.remaining after) × (size (from.remaining after) < size (from.remaining before))) → IsReadyAfter from.can_next from.remaining given after
-  IsReadyAfter-next before after None h = tt
-  IsReadyAfter-next before after (Some c) h = (h.0, h.1)
-
-  pub HasRead-next : (before after : I) (given : Option ℕ) → from.next_gives before given after → OnSome given (from.can_next after × IsFinite (from.remaining after) × (size (from.remaining after) < size (from.remaining before)))
-      → HasRead from.next_gives from.remaining before given after
-  HasRead-next before after None step h = record { step = step; nearer = tt }
-  HasRead-next before after (Some c) step h = record { step = step; nearer = h.2 }
-
-  -- what was given may be held otherwise
-  pub HasRead-as : (before after : I) (given read : Option ℕ) → read ≡ given → from.next_gives before given after
-      → OnSome given (from.can_next after × IsFinite (from.remaining after) × (size (from.remaining after) < size (from.remaining before))) → HasRead from.next_gives from.remaining before read after
-  HasRead-as before after given read same step h = rw same (HasRead-next before after given step h)
-
   -- nothing is read on if a boundary comes before the first character
-  pub ReadsOn-none : (f : ℕ → Bool) (d : Reading) (before after : I) (given read : Option ℕ) (waiting : WaitingList) → read ≡ given → from.next_gives before given after
-      → OnSome given (from.can_next after × IsFinite (from.remaining after) × (size (from.remaining after) < size (from.remaining before)))
-      → ordered_text waiting ≡ [] → unordered_text waiting ≡ [] → AgreesWith d waiting → IfSome read (λ c. continues f d c ≡ false) → ReadsOn from f d before waiting read after waiting
-  ReadsOn-none f d before after given read waiting same step near front open_marks agrees at_boundary =
-      let r = HasRead-as before after given read same step near in
+  pub ReadsOn-none : (f : ℕ → Bool) (d : Reading) (before after : I) (read : Option ℕ) (waiting : WaitingList) → HasRead from.next_gives from.remaining before read after
+      → IsReadyAfter from.can_next from.remaining read after → ordered_text waiting ≡ [] → unordered_text waiting ≡ [] → AgreesWith d waiting → IfSome read (λ c. continues f d c ≡ false)
+      → ReadsOn from f d before waiting read after waiting
+  ReadsOn-none f d before after read waiting r ready front open_marks agrees at_boundary =
       ReadSoFar-done from f d before before after waiting waiting waiting read (ReadSoFar-none from f d before waiting agrees) r.step at_boundary
-      (front ∙ sym (reordered-nothing d waiting [] front open_marks ∙ order-nil d)) open_marks (rw same (IsReadyAfter-next before after given near)) r.nearer
+      (front ∙ sym (reordered-nothing d waiting [] front open_marks ∙ order-nil d)) open_marks ready r.nearer
 
   module _ (f : ℕ → Bool) (d : Reading) (first : Option ℕ) (delegate : I) (waiting : WaitingList) where
     pub ReadsAhead-none : IsReadyAfter from.can_next from.remaining first delegate → AgreesWith d waiting → ReadsAhead from f d first delegate waiting first delegate waiting
     ReadsAhead-none ready agrees = record { ready = ready; agrees = agrees; behind = λ before read. (before, ReadSoFar-none from f d before waiting agrees, read) }
 
     pub ReadsAhead-more : (c : ℕ) (now after : I) (w new : WaitingList) (next : Option ℕ) → ReadsAhead from f d first delegate waiting (Some c) now w → continues f d c ≡ true
-        → ((rest : List ℕ) → reordered_text d w (d.list c ++ rest) ≡ reordered_text d new rest) → AgreesWith d new → item_count new ≡ item_count w + length (d.list c) → from.next_gives now next after
-        → OnSome next (from.can_next after × IsFinite (from.remaining after) × (size (from.remaining after) < size (from.remaining now))) → ReadsAhead from f d first delegate waiting next after new
-    ReadsAhead-more c now after w new next before continuing text agrees more step near = record {
-      ready = IsReadyAfter-next now after next near;
+        → ((rest : List ℕ) → reordered_text d w (d.list c ++ rest) ≡ reordered_text d new rest) → AgreesWith d new → item_count new ≡ item_count w + length (d.list c) → HasRead from.next_gives from.remaining now next after
+        → IsReadyAfter from.can_next from.remaining next after → ReadsAhead from f d first delegate waiting next after new
+    ReadsAhead-more c now after w new next before continuing text agrees more came ready = record {
+      ready = ready;
       agrees = agrees;
       behind = λ start read.
           let last = before.behind start read in (
             now,
             ReadSoFar-more from f d start last.0 now waiting w new c last.1 last.2.step continuing text agrees more last.2.nearer,
-            HasRead-next now after next step near,
+            came,
           );
     }
 

@@ -55,7 +55,7 @@ pub(crate) fn next_passthrough<I: Iterator<Item = char> + Drop>(
     let following = read_from(
         &decomposed.characters,
         bounds.composition,
-        decomposed.delegate.next(),
+        &mut decomposed.delegate,
     );
     if are_passthrough(&decomposed.characters, bounds, following) {
         decomposed.pending = following;

@@ -24,13 +24,12 @@ loop-next-preserved g c =
     let continuing : continues f d c.in-Some.read.character ≡ true = continues-else f d c.in-Some.read.character (λ at_boundary. sym c.if-has_boundary_before.false ∙ c.has_boundary_before.ensures.1 at_boundary) in
     let pushed = c.in_ok-push_list.ensures in
     record {
-      ahead = rw c.read_from-next.ensures.character
-          (ReadsAhead-more g.I.Iterator f d _ _ _ c.in-Some.read.character _ _ _ _ _ ahead continuing
+      ahead = ReadsAhead-more g.I.Iterator f d _ _ _ c.in-Some.read.character _ _ _ _ _ ahead continuing
           (pushed.text d same ahead.agrees)
           (pushed.classes d same ahead.agrees)
           (omega (arith, pushed.held, ap length members))
-          c.next.ensures.steps
-          (c.next.ensures.goes.on ahead.ready.1));
+          c.read_from-next.ensures.read
+          c.read_from-next.ensures.ready;
       words = c.read_from-next.ensures.word;
     }
 

@@ -1,8 +1,7 @@
 use Rattle.std.proofs.Common.{refl, ap, ◌∙◌, Ok, Err, []}
 use Rattle.normalizer_iterators.specs.Reads.{character_of}
 use Rattle.normalizer_iterators.specs.WaitingList.{AgreesWith}
-use Rattle.normalizer_iterators.proofs.items.DecompositionLemmas.{Steps-ended, Steps-front, Steps-read, class-first, ready_behind}
-use Rattle.normalizer_iterators.proofs.reads.ReadingLemmas.{HasRead-as}
+use Rattle.normalizer_iterators.proofs.items.DecompositionLemmas.{Steps-ended, Steps-front, Steps-read, class-first}
 use Rattle.normalizer_tables.specs.Readings.{reading_by}
 use Rattle.normalizer_iterators.proofs.decomposition.Decomposition.next_with_class.Goals as goal
 
@@ -65,27 +64,18 @@ pub returns-in-Ok-clause-class : goal.returns-in-Ok-clause-class
 returns-in-Ok-clause-class g c =
     let s = c.args.self.now in
     let pending = ap character_of c.in_ok-read.was in
-    let ready = ready_behind g.I.Iterator.can_next g.I.Iterator.remaining s c.in_ok-read.read.character pending c.requires in
-    let near = c.next.ensures.goes.on ready.1 in
-    let read = HasRead-as g.I.Iterator _ _ _ _ c.read_from-following.ensures.character c.next.ensures.steps near in
-    class-first g.I.Iterator s c.in_ok-read.read.character c.in-Ok.character _ _ _ _ pending (c.in-Ok.ensures.ok s.delegate read)
+    class-first g.I.Iterator s c.in_ok-read.read.character c.in-Ok.character _ _ _ _ pending (c.in-Ok.ensures.ok s.delegate c.read_from-following.ensures.read)
 
 pub returns-in-Ok-clause-steps : goal.returns-in-Ok-clause-steps
 returns-in-Ok-clause-steps g c =
     let s = c.args.self.now in
     let pending = ap character_of c.in_ok-read.was in
-    let ready = ready_behind g.I.Iterator.can_next g.I.Iterator.remaining s c.in_ok-read.read.character pending c.requires in
-    let near = c.next.ensures.goes.on ready.1 in
-    let read = HasRead-as g.I.Iterator _ _ _ _ c.read_from-following.ensures.character c.next.ensures.steps near in
-    Steps-read g.I.Iterator s c.in_ok-read.read.character pending c.in_default.ensures.none.0 _ _ read _ c.in-Ok.ensures.kept.0
+    Steps-read g.I.Iterator s c.in_ok-read.read.character pending c.in_default.ensures.none.0 _ _ c.read_from-following.ensures.read _ c.in-Ok.ensures.kept.0
     c.in-Ok.ensures.kept.1 (Ok c.in-Ok.character) c.in-Ok.ensures.ok tt
 
 pub returns-in-Err-clause-steps : goal.returns-in-Err-clause-steps
 returns-in-Err-clause-steps g c =
     let s = c.args.self.now in
     let pending = ap character_of c.in_ok-read.was in
-    let ready = ready_behind g.I.Iterator.can_next g.I.Iterator.remaining s c.in_ok-read.read.character pending c.requires in
-    let near = c.next.ensures.goes.on ready.1 in
-    let read = HasRead-as g.I.Iterator _ _ _ _ c.read_from-following.ensures.character c.next.ensures.steps near in
-    Steps-read g.I.Iterator s c.in_ok-read.read.character pending c.in_default.ensures.none.0 _ _ read _ c.in-Err.ensures.kept.0
+    Steps-read g.I.Iterator s c.in_ok-read.read.character pending c.in_default.ensures.none.0 _ _ c.read_from-following.ensures.read _ c.in-Err.ensures.kept.0
     c.in-Err.ensures.kept.1 (Err c.in-Err.error) tt c.in-Err.ensures.err
