@@ -87,34 +87,22 @@ module _ {I : Type 0} (pairs : List Pair) (n t : Decomposition I) (a r : ℕ) (t
 
 -- ---- the composition so far
 
--- the starter has become `composite`, and what is buffered doesn't join
+-- the starter has become `composite`, and what is buffered, if it is left in place, doesn't join
 pub record ComposedSoFar {I : Type 0} (from : Source I) (d : Reading) (starter : ℕ) (old : Decomposition I) (composite : ℕ)
-    (now : Decomposition I) : Type 0 where
+    (left : List ℕ) (now : Decomposition I) : Type 0 where
   pub text : (all : List ℕ) → decomposition.WillYield (Spells from.next_gives) old all → (y : List ℕ)
-      × (compose_after d starter [] all ≡ composed_before d composite (ordered_text now.waiting) y) × decomposition.WillYield (Spells from.next_gives) now y
+      × (compose_after d starter [] all ≡ composed_before d composite left y) × decomposition.WillYield (Spells from.next_gives) now y
   pub came : (e : Extent) (y : List ℕ) → decomposition.WillYield (MayYield from.next_gives e) now y → (all : List ℕ) × decomposition.WillYield (MayYield from.next_gives e) old all
-      × (compose_after d starter [] all ≡ composed_before d composite (ordered_text now.waiting) y)
+      × (compose_after d starter [] all ≡ composed_before d composite left y)
   pub short : decomposition.StaysShort from.next_gives old → decomposition.StaysShort from.next_gives now
   pub long : decomposition.IsLong from.next_gives now → decomposition.IsLong from.next_gives old
   pub ready : decomposition.CanDecompose from.can_next from.remaining now
   pub kept : now.characters ≡ old.characters
   pub fewer : decomposition.items_left from.remaining now ≤ decomposition.items_left from.remaining old
 
--- the starter has become `a` by what came before n
-pub record JoinedSoFar {I : Type 0} (from : Source I) (d : Reading) (starter : ℕ) (old : Decomposition I) (a : ℕ) (n : Decomposition I) : Type 0 where
-  pub text : (all : List ℕ) → decomposition.WillYield (Spells from.next_gives) old all → (y : List ℕ)
-      × (compose_after d starter [] all ≡ compose_after d a [] y) × decomposition.WillYield (Spells from.next_gives) n y
-  pub came : (e : Extent) (y : List ℕ) → decomposition.WillYield (MayYield from.next_gives e) n y → (all : List ℕ) × decomposition.WillYield (MayYield from.next_gives e) old all
-      × (compose_after d starter [] all ≡ compose_after d a [] y)
-  pub short : decomposition.StaysShort from.next_gives old → decomposition.StaysShort from.next_gives n
-  pub long : decomposition.IsLong from.next_gives n → decomposition.IsLong from.next_gives old
-  pub ready : decomposition.CanDecompose from.can_next from.remaining n
-  pub kept : n.characters ≡ old.characters
-  pub fewer : decomposition.items_left from.remaining n ≤ decomposition.items_left from.remaining old
-
 module _ {I : Type 0} (from : Source I) where
-  pub JoinedSoFar-none : (d : Reading) (starter : ℕ) (old : Decomposition I) → decomposition.CanDecompose from.can_next from.remaining old → JoinedSoFar from d starter old starter old
-  JoinedSoFar-none d starter old ready = record {
+  pub ComposedSoFar-none : (d : Reading) (starter : ℕ) (old : Decomposition I) → decomposition.CanDecompose from.can_next from.remaining old → ComposedSoFar from d starter old starter [] old
+  ComposedSoFar-none d starter old ready = record {
     text = λ all h. (all, refl, h);
     came = λ e y h. (y, h, refl);
     short = λ h. h;
@@ -125,9 +113,9 @@ module _ {I : Type 0} (from : Source I) where
   }
 
   -- it is composed with what is buffered
-  pub ComposedSoFar-buffered : (pairs : List Pair) (starter : ℕ) (old : Decomposition I) (a r : ℕ) (n t : Decomposition I) → JoinedSoFar from (reading_by old.characters Dropped pairs) starter old a n
+  pub ComposedSoFar-buffered : (pairs : List Pair) (starter : ℕ) (old : Decomposition I) (a r : ℕ) (n t : Decomposition I) → ComposedSoFar from (reading_by old.characters Dropped pairs) starter old a [] n
       → ComposesInPlace pairs a n.waiting r t.waiting → length (ordered_text t.waiting) ≤ length (ordered_text n.waiting) → (t.characters ≡ n.characters) × (t.ignored ≡ n.ignored)
-      → (t.pending ≡ n.pending) × (t.delegate ≡ n.delegate) → ComposedSoFar from (reading_by old.characters Dropped pairs) starter old r t
+      → (t.pending ≡ n.pending) × (t.delegate ≡ n.delegate) → ComposedSoFar from (reading_by old.characters Dropped pairs) starter old r (ordered_text t.waiting) t
   ComposedSoFar-buffered pairs starter old a r n t before text fewer kept unread =
       let same : reading_by n.characters Dropped pairs ≡ reading_by old.characters Dropped pairs = ap (λ k. reading_by k Dropped pairs) before.kept in
       let IsComposed : List ℕ → List ℕ → Type 0
@@ -170,7 +158,7 @@ module _ {I : Type 0} (from : Source I) where
       left : decomposition.items_left from.remaining t ≤ decomposition.items_left from.remaining n
       left = rw (unread.0, unread.1) (omega (arith, fewer))
 
-  module _ (d : Reading) (starter : ℕ) (old : Decomposition I) (composite : ℕ) (now : Decomposition I) (before : ComposedSoFar from d starter old composite now) where
+  module _ (d : Reading) (starter : ℕ) (old : Decomposition I) (composite : ℕ) (now : Decomposition I) (before : ComposedSoFar from d starter old composite (ordered_text now.waiting) now) where
     -- what is buffered doesn't join
     pub ComposesStarter-buffered : (ordered_text now.waiting ≡ [] → ⊥) → ComposesStarter from.next_gives from.remaining d starter old composite None now
     ComposesStarter-buffered some = record {
@@ -190,8 +178,8 @@ module _ {I : Type 0} (from : Source I) where
       open_after : (y : List ℕ) → composed_before d composite (ordered_text now.waiting) y ≡ compose_after d composite [] y
       open_after y = ap (λ l. composed_before d composite l y) none
 
-      pub JoinedSoFar-next : (c r : ℕ) (next : Decomposition I) → decomposition.DecompositionSteps from now (Some (Ok c)) next → d.pair composite c ≡ Some r → JoinedSoFar from d starter old r next
-      JoinedSoFar-next c r next step pair =
+      pub ComposedSoFar-joined : (c r : ℕ) (next : Decomposition I) → decomposition.DecompositionSteps from now (Some (Ok c)) next → d.pair composite c ≡ Some r → ComposedSoFar from d starter old r [] next
+      ComposedSoFar-joined c r next step pair =
           let joins : join d composite [] c ≡ Some r = join-above d composite [] c (is_above-nil d c) ∙ pair in
           record {
             text = λ all h.

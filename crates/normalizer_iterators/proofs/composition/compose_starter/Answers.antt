@@ -5,13 +5,13 @@ use Rattle.normalizer_tables.specs.declared.characters.IgnoredCharacters.TheVari
 use Rattle.normal_forms.specs.Boundary.{BeginsAtBoundary}
 use Rattle.normalizer_iterators.specs.LazyComposing.{SuitsLazyComposing}
 use Rattle.normalizer_iterators.proofs.passthrough.PassthroughItemLemmas.{IsAtPassthrough-stands, BeginsAtBoundary-to_come}
-use Rattle.normalizer_iterators.proofs.composing.StarterLemmas.{JoinedSoFar-none, JoinedSoFar-next, ComposedSoFar-buffered, ComposesStarter-buffered, ComposesStarter-starts, ComposesStarter-ends, ComposesStarter-passes}
+use Rattle.normalizer_iterators.proofs.composing.StarterLemmas.{ComposedSoFar-none, ComposedSoFar-joined, ComposedSoFar-buffered, ComposesStarter-buffered, ComposesStarter-starts, ComposesStarter-ends, ComposesStarter-passes}
 use Rattle.normalizer_iterators.proofs.composition.compose_starter.Goals as goal
 
 pub loop-bounds-init : goal.loop-bounds-init
 loop-bounds-init g c =
     let made = c.compose_buffered-composite.ensures in
-    ComposedSoFar-buffered g.I.Iterator c.args.pairs.now _ _ _ _ _ _ (JoinedSoFar-none g.I.Iterator _ _ _ c.requires.can) made.text made.fewer made.kept made.unread
+    ComposedSoFar-buffered g.I.Iterator c.args.pairs.now _ _ _ _ _ _ (ComposedSoFar-none g.I.Iterator _ _ _ c.requires.can) made.text made.fewer made.kept made.unread
 
 pub returns-then-is_at_passthrough-clause-ok : goal.returns-then-is_at_passthrough-clause-ok
 returns-then-is_at_passthrough-clause-ok g c =
@@ -49,7 +49,7 @@ loop-bounds-preserved g c =
     let step = rw c.in-Ok.is at c.in-Some.ensures.steps in
     let made = c.compose_buffered-composite-in-loop-bounds.ensures in
     ComposedSoFar-buffered g.I.Iterator c.args.pairs.now _ _ _ _ _ _
-    (JoinedSoFar-next g.I.Iterator _ _ _ _ _ before none c.in-Ok.given.character _ _ step (sym c.compose.ensures ∙ c.in-Some-compose.is)) made.text made.fewer made.kept made.unread
+    (ComposedSoFar-joined g.I.Iterator _ _ _ _ _ before none c.in-Ok.given.character _ _ step (sym c.compose.ensures ∙ c.in-Some-compose.is)) made.text made.fewer made.kept made.unread
 
 pub returns-clause-ok : goal.returns-clause-ok
 returns-clause-ok g c =
