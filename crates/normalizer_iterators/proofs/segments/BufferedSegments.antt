@@ -1,10 +1,9 @@
 -- Segments: what is buffered, and what it composes to.
-use Rattle.std.proofs.Common.{◌≡◌, ℕ, ◌+◌, ◌<◌, ◌≤◌, Bool, true, false, List, [], ◌∷◌, ◌++◌, All, Some, None, length, drop, take, refl, sym, ap, subst, ◌∙◌, arith, eq-eqb, inl, inr, slice_get, append-nil, append_assoc, Result, Ok, Err, IfOk}
+use Rattle.std.proofs.Common.{◌≡◌, ℕ, ◌+◌, ◌<◌, ◌≤◌, Bool, true, false, List, [], ◌∷◌, ◌++◌, Some, None, length, drop, take, refl, sym, ap, subst, ◌∙◌, arith, eq-eqb, inl, inr, slice_get, append-nil, append_assoc}
 use Rattle.std.specs.Prelude.{option_to_list}
 use Rattle.std.proofs.lemmas.Bool.{cases_Bool, cond-true, cond-false, eqb-true, ne_eqb}
 use Rattle.std.specs.Option.{ForSome}
 use Rattle.std.proofs.lemmas.List.{append_cancel_right}
-use Rattle.std.proofs.lemmas.List.Elements.{All-drop, All-head, All-map, All-tail, All-take}
 use Rattle.normal_forms.specs.CompositionByStarters.{compose_after, compose_by_starters}
 use Rattle.normal_forms.specs.Decomposition.{expand}
 use Rattle.normal_forms.specs.Forms.{nfd}
@@ -12,13 +11,10 @@ use Rattle.normal_forms.specs.Order.{order}
 use Rattle.normal_forms.specs.Reading.{Reading, IsMark, IsStarter, is_starter}
 use Rattle.normal_forms.specs.ShortRuns.{buffer_limit, continues, leading_length, HasShortRuns}
 use Rattle.normal_forms.proofs.boundaries.ChunkLemmas.{chunk_bound}
-use Rattle.normal_forms.proofs.composing.ComposeLemmas.{compose_after-nil, compose_by_starters-mark, compose_by_starters-nil, compose_by_starters-starter}
+use Rattle.normal_forms.proofs.composing.ComposeLemmas.{compose_after-nil, compose_by_starters-nil, compose_by_starters-starter}
 use Rattle.normal_forms.proofs.ordering.ExpandLemmas.{expand-append}
 use Rattle.normal_forms.proofs.ordering.OrderLemmas.{insert-starter, order-cons}
-use Rattle.normalizer_tables.specs.Characters.{Characters}
 use Rattle.normalizer_tables.specs.Pairs.{Pair}
-use Rattle.normalizer_tables.specs.Readings.{reading_by}
-use Rattle.normalizer_tables.specs.declared.characters.IgnoredCharacters.TheVariants.{Dropped}
 use Rattle.normalizer_text.specs.declared.decoding_step.Step.{Step}
 use Rattle.normalizer_text.specs.Encodings.{Encoding, first_in, decoded_in}
 use Rattle.normalizer_text.specs.DecodingSteps.{IsBoundary}
@@ -28,15 +24,13 @@ use Rattle.normalizer_iterators.specs.declared.waiting.WaitingList.{WaitingList}
 use Rattle.normalizer_iterators.specs.ComposingInPlace.{composed_before, ComposesInPlace}
 use Rattle.normalizer_iterators.specs.inner.Segments.{HasPairsOf}
 use Rattle.normalizer_iterators.specs.LazyReading.{SuitsLazyReading}
-use Rattle.normalizer_iterators.specs.Waiting.{HasClassesOf}
 use Rattle.normalizer_iterators.specs.WaitingList.{ordered_text, reordered_text, unordered_text, item_count, AgreesWith}
 use Rattle.normalizer_iterators.specs.inner.MarkReads.{after_starter, starter_of, MarksReadTo}
 use Rattle.normalizer_iterators.specs.declared.segment.SegmentBuffer.{SegmentBuffer}
 use Rattle.normalizer_iterators.specs.Segment.{characters_left, EndsFront, HasRead, IsDecomposed}
-use Rattle.normalizer_tables.specs.declared.characters.IgnoredCharacters.{IgnoredCharacters}
 use Rattle.normalizer_iterators.proofs.reads.LazyLemmas.{at_boundary-parts}
 use Rattle.normalizer_iterators.proofs.reads.ReadingLemmas.{drop_member, no_member, reordered-nothing}
-use Rattle.normalizer_iterators.proofs.segments.SegmentLemmas.{decoded-left, AgreesWith-reading_by}
+use Rattle.normalizer_iterators.proofs.segments.SegmentLemmas.{decoded-left}
 
 -- ---- a starter at the front
 
