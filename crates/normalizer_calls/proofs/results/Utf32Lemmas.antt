@@ -1,10 +1,10 @@
 -- Text whose units are its characters.
-use Rattle.std.proofs.Common.{◌≡◌, ℕ, ◌<◌, ◌≤◌, ◌==◌, true, length, inl, inr, List, [], ◌∷◌, ◌++◌, append-nil, append_assoc, refl, sym, ap, subst, ◌∙◌, Ok, arith}
+use Rattle.std.proofs.Common.{◌≡◌, ℕ, ◌==◌, true, length, List, [], ◌∷◌, ◌++◌, append-nil, append_assoc, refl, sym, ap, subst, ◌∙◌, Ok, arith}
 use lib.Utf8.{scalar}
 use Rattle.std.proofs.lemmas.Bool.{cond-true, eqb-true}
 use Rattle.std.proofs.lemmas.List.Elements.{All-append, All-cons, All-head, All-nil, All-tail}
 use Rattle.std.specs.Char.{IsScalar}
-use Rattle.std.specs.Prelude.{All, Bool, Option, Some, None, Result}
+use Rattle.std.specs.Prelude.{All, Option, Some, None, Result}
 use Rattle.normalizer_text.specs.DecodingSteps.{Spells}
 use Rattle.normalizer_iterators.specs.declared.error.NormalizeError.{NormalizeError}
 use Rattle.normalizer_iterators.specs.declared.error.NormalizeError.TheVariants.{Memory}

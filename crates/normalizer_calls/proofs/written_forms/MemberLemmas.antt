@@ -1,13 +1,12 @@
 -- Writing the members of a list, as if from an iterator.
-use Rattle.std.proofs.Common.{◌≡◌, ℕ, zero, suc, ◌+◌, ◌<◌, ◌≤◌, List, [], ◌∷◌, ◌++◌, length, length-take, drop, take, Option, Some, None, Result, Ok, arith, refl, ap, sym, subst, ◌∙◌}
+use Rattle.std.proofs.Common.{◌≡◌, ℕ, zero, suc, ◌+◌, ◌<◌, ◌≤◌, List, [], ◌∷◌, length, drop, take, Option, Some, None, Result, Ok, arith, refl, ap, sym, subst, ◌∙◌}
 use Rattle.std.specs.Prelude.{All, IfSome, slice_get}
 use Rattle.std.proofs.lemmas.List.{append_cancel_right, drop_all, drop-drop}
 use Rattle.std.proofs.lemmas.List.Elements.{All-nil, All-cons}
 use Rattle.normalizer_text.specs.declared.decoding_step.Step.{Step}
 use Rattle.normalizer_text.specs.Encodings.{Encoding, first_in, decoded_in}
-use Rattle.normalizer_text.specs.DecodingSteps.{steps, IsBoundary}
-use Rattle.normalizer_text.proofs.steps.StepBoundaries.{boundary-first, boundary-le, decoded-take-drop, steps-take-drop}
-use Rattle.normalizer_text.proofs.steps.StepLemmas.{decoded-some, steps-some}
+use Rattle.normalizer_text.proofs.steps.StepBoundaries.{boundary-first, decoded-take-drop}
+use Rattle.normalizer_text.proofs.steps.StepLemmas.{decoded-some}
 use Rattle.normalizer_iterators.specs.declared.error.NormalizeError.{NormalizeError}
 use Rattle.normalizer_iterators.specs.declared.error.NormalizeError.TheVariants.{Memory}
 use Rattle.normalizer_iterators.specs.Items.{Answers, HasEnded, SpellsUnless}

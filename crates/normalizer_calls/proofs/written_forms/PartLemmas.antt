@@ -24,7 +24,7 @@ use Rattle.normalizer_iterators.specs.declared.error.NormalizeError.TheVariants.
 use Rattle.normalizer_calls.specs.inner.PassthroughRuns.{Divides, IsPart, StandsInInput}
 use Rattle.normalizer_calls.specs.Writing.{TookBeginning}
 use Rattle.normalizer_calls.proofs.passthrough.PassthroughLemmas.{normal_form-nil, Divides-start}
-use Rattle.normalizer_calls.proofs.written_forms.WritingLemmas.{Answered}
+use Rattle.normalizer_calls.proofs.written_forms.WritingLemmas.{Answered, TookBeginning-nothing}
 use Rattle.normalizer_calls.specs.inner.WrittenParts.{NothingOffered, Target, WritesText, WrotePart}
 
 -- ---- short runs of a front
@@ -69,10 +69,6 @@ pub record WroteUpTo {S U : Type 0} (e : Encoding) (into : Target S U) (d : Read
   pub took : into.text_taken now ≡ into.text_taken old ++ encoded_form e d form (take position units)
   pub ahead : (later : S) → into.refusal now later → into.refusal old later
 
--- the text in two parts
-text-parts : (e : Encoding) (units : List ℕ) (n : ℕ) → IsBoundary (first_in e) units n → decoded_in e units ≡ decoded_in e (take n units) ++ decoded_in e (drop n units)
-text-parts e = decoded-take-drop e
-
 module _ (e : Encoding) (d : Reading) (form : Form) where
   form_of_nothing : normal_form d form (decoded_in e []) ≡ []
   form_of_nothing = ap (normal_form d form) (decoded-nil e) ∙ normal_form-nil d form form
@@ -89,13 +85,13 @@ module _ {e : Encoding} {d : Reading} {form : Form} where
     -- the form of all is that of the part and that of the others
     pub form-parts : normal_form d form (decoded_in e units) ≡ normal_form d form (decoded_in e (take end units)) ++ normal_form d form (decoded_in e (drop end units))
     form-parts =
-        ap (normal_form d form) (text-parts e units end part.boundary)
+        ap (normal_form d form) (decoded-take-drop e units end part.boundary)
         ∙ part.divides [] (decoded_in e (drop end units)) [] (sym (append-nil (decoded_in e (drop end units))))
 
     pub HasShortRuns-part : {f : ℕ → Bool} {segment : List ℕ} → segment ≡ take end units → HasShortRuns f d (decoded_in e units) → HasShortRuns f d (decoded_in e segment)
     HasShortRuns-part {f = f} is h =
         subst (λ l. HasShortRuns f d (decoded_in e l)) (sym is)
-        (HasShortRuns-front f d (decoded_in e (take end units)) (decoded_in e (drop end units)) (subst (HasShortRuns f d) (text-parts e units end part.boundary) h))
+        (HasShortRuns-front f d (decoded_in e (take end units)) (decoded_in e (drop end units)) (subst (HasShortRuns f d) (decoded-take-drop e units end part.boundary) h))
 
     -- the part is a segment
     module _ {segment : List ℕ} (is : segment ≡ take end units) where
@@ -130,12 +126,7 @@ module _ {e : Encoding} {d : Reading} {form : Form} where
           fault = λ _. answer.written.fault;
           refusal = λ _. record {
             before = old;
-            beginning = record {
-              front = [];
-              rest = normal_form d form (decoded_in e units);
-              parts = refl;
-              took = sym (append-nil (into.text_taken old)) ∙ ap (λ l. into.text_taken old ++ l) (sym (encoded_in-nil e));
-            };
+            beginning = TookBeginning-nothing e into.text_taken (normal_form d form (decoded_in e units)) old;
             piece = decoded_in e (take end units);
             kind = inr (record {
               place = 0;
@@ -224,10 +215,10 @@ module _ {e : Encoding} {d : Reading} {form : Form} where
       -- what comes before a place in the rest
       text_to : (n : ℕ) → IsBoundary (first_in e) rest n → decoded_in e (take (position + n) units) ≡ decoded_in e (take position units) ++ decoded_in e (take n rest)
       text_to n b = append_cancel_right _ _ (decoded_in e (drop (position + n) units))
-          (sym (text-parts e units (position + n) (boundary_behind n b))
-          ∙ text-parts e units position so_far.boundary
+          (sym (decoded-take-drop e units (position + n) (boundary_behind n b))
+          ∙ decoded-take-drop e units position so_far.boundary
           ∙ ap (λ l. decoded_in e (take position units) ++ decoded_in e l) (sym is)
-          ∙ ap (λ l. decoded_in e (take position units) ++ l) (text-parts e rest n b)
+          ∙ ap (λ l. decoded_in e (take position units) ++ l) (decoded-take-drop e rest n b)
           ∙ sym (append_assoc (decoded_in e (take position units)) (decoded_in e (take n rest)) (decoded_in e (drop n rest)))
           ∙ ap (λ l. (decoded_in e (take position units) ++ decoded_in e (take n rest)) ++ decoded_in e l) (rest_behind n))
 
@@ -235,11 +226,11 @@ module _ {e : Encoding} {d : Reading} {form : Form} where
           → normal_form d form (decoded_in e (take (position + n) units)) ≡ normal_form d form (decoded_in e (take position units)) ++ normal_form d form (decoded_in e (take n rest))
       form_to n b =
           ap (normal_form d form) (text_to n b)
-          ∙ so_far.divides (decoded_in e (take n rest)) (decoded_in e (drop n rest)) (ap (decoded_in e) (sym is) ∙ text-parts e rest n b)
+          ∙ so_far.divides (decoded_in e (take n rest)) (decoded_in e (drop n rest)) (ap (decoded_in e) (sym is) ∙ decoded-take-drop e rest n b)
 
       form_of_all : normal_form d form (decoded_in e units) ≡ normal_form d form (decoded_in e (take position units)) ++ normal_form d form (decoded_in e rest)
       form_of_all =
-          ap (normal_form d form) (text-parts e units position so_far.boundary ∙ ap (λ l. decoded_in e (take position units) ++ decoded_in e l) (sym is))
+          ap (normal_form d form) (decoded-take-drop e units position so_far.boundary ∙ ap (λ l. decoded_in e (take position units) ++ decoded_in e l) (sym is))
           ∙ so_far.divides (decoded_in e rest) [] (ap (decoded_in e) (sym is) ∙ sym (append-nil (decoded_in e rest)))
 
       -- one more part was written
@@ -271,7 +262,7 @@ module _ {e : Encoding} {d : Reading} {form : Form} where
       pub HasShortRuns-behind : {f : ℕ → Bool} → HasShortRuns f d (decoded_in e units) → HasShortRuns f d (decoded_in e rest)
       HasShortRuns-behind {f = f} h =
           subst (λ l. HasShortRuns f d (decoded_in e l)) (sym is)
-          (HasShortRuns-rest f d (decoded_in e (take position units)) (decoded_in e (drop position units)) (subst (HasShortRuns f d) (text-parts e units position so_far.boundary) h))
+          (HasShortRuns-rest f d (decoded_in e (take position units)) (decoded_in e (drop position units)) (subst (HasShortRuns f d) (decoded-take-drop e units position so_far.boundary) h))
 
       -- a beginning of the form of the rest, after what was written
       beginning_behind : (to : S) → TookBeginning e into.text_taken (normal_form d form (decoded_in e rest)) now to → TookBeginning e into.text_taken (normal_form d form (decoded_in e units)) old to

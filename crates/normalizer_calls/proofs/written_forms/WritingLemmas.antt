@@ -25,6 +25,10 @@ module _ {S U : Type 0} (into : Target S U) where
   abbrev pub AnsweredHint : S → ℕ → Result ⊤ SinkError → S → Type 0
   AnsweredHint = AnswersHint into.text_taken into.refusal into.refusal_effect into.refuses into.length_hint
 
+-- nothing was written
+abbrev pub TookBeginning-nothing : {S : Type 0} (e : Encoding) (taken : S → List ℕ) (text : List ℕ) (s : S) → TookBeginning e taken text s s
+TookBeginning-nothing e taken text s = record { front = []; rest = text; parts = refl; took = sym (append-nil (taken s)) ∙ ap (λ units. taken s ++ units) (sym (encoded_in-nil e)) }
+
 -- a beginning was written of what an iterator yields from `start`, and it has come to `items`
 pub record WroteSoFar {S U I : Type 0} (e : Encoding) (into : Target S U) (gives : I → Option (Result ℕ NormalizeError) → I → Type 0)
     (start : I) (old : S) (items : I) (now : S) : Type 0 where
@@ -35,7 +39,7 @@ pub record WroteSoFar {S U I : Type 0} (e : Encoding) (into : Target S U) (gives
 module _ {S U I : Type 0} {e : Encoding} {into : Target S U} {gives : I → Option (Result ℕ NormalizeError) → I → Type 0} where
   pub WroteSoFar-none : {start : I} {old : S} → WroteSoFar e into gives start old start old
   WroteSoFar-none {old = old} = record {
-    text = λ x h. (record { front = []; rest = x; parts = refl; took = sym (append-nil (into.text_taken old)) ∙ ap (λ units. into.text_taken old ++ units) (sym (encoded_in-nil e)) }, h);
+    text = λ x h. (TookBeginning-nothing e into.text_taken x old, h);
     ahead = λ later h. h;
     room = λ x h. (x, h);
   }
@@ -131,7 +135,7 @@ module _ {S U : Type 0} (e : Encoding) (into : Target S U) {old : S} {n : ℕ} w
         fault = λ _. told.units.written.fault;
         refusal = λ _. record {
           before = old;
-          beginning = record { front = []; rest = text; parts = refl; took = sym (append-nil (into.text_taken old)) ∙ ap (λ units. into.text_taken old ++ units) (sym nothing) };
+          beginning = TookBeginning-nothing e into.text_taken text old;
           piece = [];
           kind = inl (omega arith);
           rest = text;
