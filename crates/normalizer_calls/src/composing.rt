@@ -1,8 +1,6 @@
 //! What the composing form makes of text.
-ghost use Rattle.std.specs.Prelude.{[], true, IsTrue};
+ghost use Rattle.std.specs.Prelude.{true, IsTrue};
 ghost use Rattle.normalizer_tables.specs.conditions.PairConditions.{is_taken_as_boundary};
-ghost use Rattle.normalizer_tables.specs.Readings.{reading_by};
-ghost use Rattle.normalizer_tables.specs.declared.characters.IgnoredCharacters.TheVariants.{Dropped};
 ghost use Rattle.normalizer_calls.specs.Forms.{composing_by};
 ghost use Rattle.normalizer_calls.specs.inner.FormsLeft.{HasNoSecond};
 
@@ -12,24 +10,24 @@ use crate::utf32::{Utf32Chars, yields};
 use crate::writing::{first_item, write_items};
 use normalizer_iterators::{NormalizeError, SegmentBuffer};
 use normalizer_passing::PassBytes;
-use normalizer_tables::characters::IgnoredCharacters;
+use normalizer_tables::characters::{CharacterData, IgnoredCharacters};
 use normalizer_tables::members::Members;
+use normalizer_tables::word::{is_backward_combining, is_non_round_trip};
 use normalizer_tables::{CanonicalCompositions, may_be_second};
 use normalizer_text::output::Output;
-use normalizer_text::{Chars, Step, Units};
-use std::alloc::{AllocError, Global};
+use normalizer_text::{Chars, Units};
 
 impl<'a> Forming for ComposingForm<'a> {
     ghost made_form = { composing_by };
 
-    ghost read_by = { λ f. reading_by f.characters Dropped [] };
+    ghost read_by = { λ f. f.characters };
 
     ghost held_back = { true };
 
     ghost beginning = { λ f c. is_taken_as_boundary f.characters f.bounds c };
 
-    fn allocator(&self) -> Global {
-        self.characters.allocator()
+    fn characters(&self) -> &CharacterData<'_> {
+        &self.characters
     }
 
     #[inline(always)]
@@ -43,7 +41,12 @@ impl<'a> Forming for ComposingForm<'a> {
 
     #[inline(always)]
     fn run_may_begin(&self, character: char) -> Option<bool> {
-        self.run_begins(character)
+        let word = self.characters.word_of(character);
+        if !self.begins_by(character, word) {
+            return None;
+        }
+        let has_no_flag = !is_non_round_trip(word) && !is_backward_combining(word);
+        Some(has_no_flag || (character as u32) < self.bounds.composition)
     }
 
     #[inline(always)]
@@ -56,21 +59,6 @@ impl<'a> Forming for ComposingForm<'a> {
         } else {
             None
         }
-    }
-
-    fn read_first<U: Units>(
-        &self,
-        units: U,
-        first: Step,
-        buffer: &mut SegmentBuffer,
-    ) -> Result<usize, AllocError> {
-        let dropped = IgnoredCharacters::Dropped;
-        let end = buffer.read(&self.characters, dropped, units, first)?;
-        Ok(end)
-    }
-
-    fn read_more(&self, step: Step, buffer: &mut SegmentBuffer) -> bool {
-        buffer.add(&self.characters, IgnoredCharacters::Dropped, step)
     }
 
     #[inline(always)]

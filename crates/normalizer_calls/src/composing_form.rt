@@ -1,10 +1,10 @@
 //! The composing form over borrowed data.
-ghost use Rattle.std.specs.Prelude.{◌≡◌, true, false, All, IfOk, MatchOption};
+ghost use Rattle.std.specs.Prelude.{◌≡◌, All, IfOk};
 ghost use Rattle.std.specs.Iterator.{IsFinite};
 ghost use Rattle.normal_forms.specs.Forms.{nfc};
 ghost use Rattle.normalizer_tables.specs.Ignored.{ignored_list};
 ghost use Rattle.normalizer_tables.specs.Characters.{word_of};
-ghost use Rattle.normalizer_tables.specs.conditions.PairConditions.{is_composing_passthrough, is_taken_as_boundary};
+ghost use Rattle.normalizer_tables.specs.conditions.PairConditions.{is_taken_as_boundary};
 ghost use Rattle.normalizer_tables.specs.conditions.PairConditions.{HasOrderedLists};
 ghost use Rattle.normalizer_tables.specs.declared.characters.IgnoredCharacters.TheVariants.{Dropped};
 ghost use Rattle.normalizer_iterators.specs.Iterating.{YieldsFormBy};
@@ -17,7 +17,7 @@ use normalizer_passing::PassBytes;
 use normalizer_tables::CanonicalCompositions;
 use normalizer_tables::characters::{CharacterData, IgnoredCharacters};
 use normalizer_tables::condition::Bounds;
-use normalizer_tables::word::{is_backward_combining, is_non_round_trip};
+use normalizer_tables::word::is_backward_combining;
 
 /// NFC, or NFKC over compatibility data.
 #[derive(Drop)]
@@ -54,17 +54,6 @@ impl<'a> ComposingForm<'a> {
         composed(characters, dropped, self.pairs, self.bounds, iter)
     }
 
-    /// Whether a composing loop passes a character, by its word.
-    #[tactic(auto, unfolding(normalizer_tables::specs::conditions::PairConditions::is_composing_passthrough))]
-    #[inline(always)]
-    pub(crate) fn passes_by(&self, character: char, word: u32) -> bool
-        requires { word ≡ word_of self.now.characters character }
-        ensures { result ≡ is_composing_passthrough self.now.characters self.now.bounds character }
-    {
-        (!is_non_round_trip(word) && !is_backward_combining(word))
-            || (character as u32) < self.bounds.composition
-    }
-
     /// Whether a character is taken to begin a new part, by its word.
     #[tactic(auto, unfolding(normalizer_tables::specs::conditions::PairConditions::is_taken_as_boundary))]
     #[inline(always)]
@@ -73,20 +62,6 @@ impl<'a> ComposingForm<'a> {
         ensures { result ≡ is_taken_as_boundary self.now.characters self.now.bounds character }
     {
         !is_backward_combining(word) || (character as u32) < self.bounds.composition
-    }
-
-    /// Whether a run may begin with a character, if it is taken to begin a new part. It is looked up once.
-    #[inline(always)]
-    pub(crate) fn run_begins(&self, character: char) -> Option<bool>
-        ensures { let f = self.now in MatchOption result (is_taken_as_boundary f.characters f.bounds character ≡ false)
-            (λ _. is_taken_as_boundary f.characters f.bounds character ≡ true) }
-    {
-        let word = self.characters.word_of(character);
-        if self.begins_by(character, word) {
-            Some(self.passes_by(character, word))
-        } else {
-            None
-        }
     }
 }
 

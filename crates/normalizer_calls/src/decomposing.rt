@@ -1,8 +1,6 @@
 //! What the decomposing form makes of text.
-ghost use Rattle.std.specs.Prelude.{◌||◌, [], nat_lt, not, false};
+ghost use Rattle.std.specs.Prelude.{◌||◌, nat_lt, not, false};
 ghost use Rattle.normalizer_tables.specs.Characters.{has_class_form};
-ghost use Rattle.normalizer_tables.specs.Readings.{reading_by};
-ghost use Rattle.normalizer_tables.specs.declared.characters.IgnoredCharacters.TheVariants.{Dropped};
 ghost use Rattle.normalizer_calls.specs.Forms.{decomposing_by};
 
 use crate::decomposing_form::DecomposingForm;
@@ -11,24 +9,23 @@ use crate::utf32::{Utf32Chars, yields};
 use crate::writing::{first_item, write_items};
 use normalizer_iterators::{NormalizeError, SegmentBuffer};
 use normalizer_passing::PassBytes;
-use normalizer_tables::characters::IgnoredCharacters;
+use normalizer_tables::characters::{CharacterData, IgnoredCharacters};
 use normalizer_tables::members::Members;
 use normalizer_tables::word::{is_class_form, is_plain};
 use normalizer_text::output::Output;
-use normalizer_text::{Chars, Step, Units};
-use std::alloc::{AllocError, Global};
+use normalizer_text::{Chars, Units};
 
 impl<'a> Forming for DecomposingForm<'a> {
     ghost made_form = { decomposing_by };
 
-    ghost read_by = { λ f. reading_by f.characters Dropped [] };
+    ghost read_by = { λ f. f.characters };
 
     ghost held_back = { false };
 
     ghost beginning = { λ f c. nat_lt c f.bounds.decomposition || not (has_class_form f.characters c) };
 
-    fn allocator(&self) -> Global {
-        self.characters.allocator()
+    fn characters(&self) -> &CharacterData<'_> {
+        &self.characters
     }
 
     #[inline(always)]
@@ -60,21 +57,6 @@ impl<'a> Forming for DecomposingForm<'a> {
             self.characters
                 .members(character, IgnoredCharacters::Dropped),
         )
-    }
-
-    fn read_first<U: Units>(
-        &self,
-        units: U,
-        first: Step,
-        buffer: &mut SegmentBuffer,
-    ) -> Result<usize, AllocError> {
-        let dropped = IgnoredCharacters::Dropped;
-        let end = buffer.read(&self.characters, dropped, units, first)?;
-        Ok(end)
-    }
-
-    fn read_more(&self, step: Step, buffer: &mut SegmentBuffer) -> bool {
-        buffer.add(&self.characters, IgnoredCharacters::Dropped, step)
     }
 
     #[inline(always)]

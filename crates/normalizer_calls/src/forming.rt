@@ -1,12 +1,15 @@
 //! What the decomposing and the composing form differ in, as one trait: every call on text is written once over it.
-ghost use Rattle.std.specs.Prelude.{◌≡◌, ◌↔◌, ◌<◌, ◌+◌, ◌∷◌, [], ℕ, List, Bool, true, false, IfNone, IfOk, IfSome};
-ghost use Rattle.std.specs.Prelude.{All, drop, length, IsTrue, IsOk, IsOkUnless, IsErrOf, MatchOption};
+ghost use Rattle.std.specs.Prelude.{◌≡◌, ◌↔◌, ◌∷◌, [], ℕ, List, Bool, true, false, IfNone, IfOk, IfSome};
+ghost use Rattle.std.specs.Prelude.{All, IsTrue, IsOk, IsOkUnless, IsErrOf, MatchOption};
 ghost use Rattle.std.specs.Char.{IsScalar};
-ghost use Rattle.normal_forms.specs.Reading.{Reading};
 ghost use Rattle.normal_forms.specs.ShortRuns.{HasShortRuns};
 ghost use Rattle.normalizer_check.specs.RequiredConditions.{SuitsTexts};
-ghost use Rattle.normalizer_text.specs.Encodings.{Encoding, first_in};
-ghost use Rattle.normalizer_iterators.specs.Segment.{Agrees, HasRead, IsDecomposed, IsSmall};
+ghost use Rattle.normalizer_tables.specs.Characters.{Characters};
+ghost use Rattle.normalizer_tables.specs.Readings.{reading_by};
+ghost use Rattle.normalizer_tables.specs.declared.characters.IgnoredCharacters.TheVariants.{Dropped};
+ghost use Rattle.normalizer_text.specs.Encodings.{Encoding, decoded_in};
+ghost use Rattle.normalizer_iterators.specs.LazyReading.{HasShortLazyRuns};
+ghost use Rattle.normalizer_iterators.specs.Segment.{Agrees, IsDecomposed};
 ghost use Rattle.normalizer_iterators.specs.declared.segment.SegmentBuffer.{SegmentBuffer};
 ghost use Rattle.normalizer_calls.specs.BoundaryBefore.{HasBoundaryBefore};
 ghost use Rattle.normalizer_calls.specs.Forms.{form_in, form_of, HasShortUnits, MadeForm};
@@ -17,18 +20,18 @@ ghost use Rattle.normalizer_calls.specs.inner.WrittenParts.{NothingOffered, Writ
 
 use normalizer_iterators::{NormalizeError, SegmentBuffer};
 use normalizer_passing::PassBytes;
+use normalizer_tables::characters::CharacterData;
 use normalizer_tables::members::Members;
+use normalizer_text::Units;
 use normalizer_text::output::Output;
-use normalizer_text::{Step, Units};
-use std::alloc::{AllocError, Global};
 
 /// A form with the data that it is made by.
 pub trait Forming {
     /// The form, and the reading by which it is made.
     ghost made_form: { Self → MadeForm };
 
-    /// The reading by which segments are buffered: pairs don't matter.
-    ghost read_by: { Self → Reading };
+    /// The data by which segments are buffered: pairs don't matter.
+    ghost read_by: { Self → Characters };
 
     /// Whether the last starter is held back, with the marks after it, if a character follows that doesn't pass.
     ghost held_back: { Bool };
@@ -36,8 +39,9 @@ pub trait Forming {
     /// Which characters begin a new part.
     ghost beginning: { Self → ℕ → Bool };
 
-    /// Returns the allocator of the data.
-    fn allocator(&self) -> Global;
+    /// Returns the data by which segments are buffered.
+    fn characters(&self) -> &CharacterData<'_>
+        ensures { result.now ≡ read_by self.now };
 
     /// Returns the bytes by which characters pass.
     fn bytes(&self) -> &PassBytes
@@ -56,26 +60,6 @@ pub trait Forming {
     fn form_of_one(&self, character: char) -> Option<Members<'_>>
         ensures { IfSome result (λ list. form_of (made_form self.now) (character ∷ []) ≡ list) };
 
-    /// Buffers the list of the first step and the marks after it that are their own lists, in place of what is buffered.
-    /// Returns where they end.
-    fn read_first<U: Units>(
-        &self,
-        units: U,
-        first: Step,
-        buffer: &mut SegmentBuffer,
-    ) -> Result<usize, AllocError>
-        requires some { 0 < length (U.units units) }
-        requires first { first ≡ first_in U.encoding (U.units units) }
-        ensures read { IfOk result (λ end. HasRead (read_by self.now) U.encoding (U.units units) end buffer.new) }
-        ensures room { HasShortUnits (made_form self.now) U.encoding (U.units units) → IsOk result × IsSmall buffer.new };
-
-    /// Buffers the list of the character of a step too. Returns whether it fits without memory.
-    fn read_more(&self, step: Step, buffer: &mut SegmentBuffer) -> bool
-        ensures read { IsTrue result → (e : Encoding) (units : List ℕ) (place : ℕ) → place < length units →
-            step ≡ first_in e (drop place units) → HasRead (read_by self.now) e units place buffer.old →
-            HasRead (read_by self.now) e units (place + step.width) buffer.new }
-        ensures small { IsTrue result → IsSmall buffer.new };
-
     /// Takes the next character of the form of what is buffered, if one is left.
     fn pop(&self, buffer: &mut SegmentBuffer) -> Option<char>
         ensures some { Agrees (made_form self.now).reading buffer.old → IfSome result (λ c.
@@ -83,10 +67,13 @@ pub trait Forming {
         ensures none { IfNone result (form_left (made_form self.now) buffer.old ≡ []) }
         ensures agrees { Agrees (made_form self.now).reading buffer.old → Agrees (made_form self.now).reading buffer.new };
 
-    /// Does nothing: what is left of a buffer in canonical order is the form.
+    /// Does nothing: what is left of a buffer in canonical order is the form, and short runs are short without pairs.
     fn what_is_buffered_is_the_form(&self)
-        ensures { (e : Encoding) (units : List ℕ) (end : ℕ) (b : SegmentBuffer) →
-            IsDecomposed (read_by self.now) e units end b → HoldsForm (made_form self.now) e units end b };
+        ensures form { (e : Encoding) (units : List ℕ) (end : ℕ) (b : SegmentBuffer) →
+            IsDecomposed (reading_by (read_by self.now) Dropped []) e units end b →
+            HoldsForm (made_form self.now) e units end b }
+        ensures short { (e : Encoding) (units : List ℕ) → HasShortUnits (made_form self.now) e units →
+            HasShortLazyRuns (read_by self.now) Dropped (decoded_in e units) };
 
     /// Writes the form of what the units decode to as an iterator yields it.
     fn write_items<U: Units, O: Output<U>>(

@@ -110,7 +110,7 @@ impl<F: Forming> NormalizerBorrowed<F> {
     pub fn normalize<'t>(&self, text: &'t str) -> Result<CowStr<'t, Global>, NormalizeError>
         ensures { ReturnsFormOfText (F.made_form self.now.form) (chars text.now) result }
     {
-        let mut owned = String::new(self.form.allocator());
+        let mut owned = String::new(self.form.characters().allocator());
         if write_unless_own::<&'t str, F, String>(&self.form, text, &mut owned)? {
             Ok(CowStr::Borrowed(text))
         } else {
@@ -127,7 +127,7 @@ impl<F: Forming> NormalizerBorrowed<F> {
     pub fn normalize_utf8<'t>(&self, bytes: &'t [u8]) -> Result<CowStr<'t, Global>, NormalizeError>
         ensures { ReturnsForm cow_str_bytes IsBorrowedStr (F.made_form self.now.form) Encoding.Utf8 bytes.now result }
     {
-        let mut owned = String::new(self.form.allocator());
+        let mut owned = String::new(self.form.characters().allocator());
         if write_unless_own::<&'t [u8], F, String>(&self.form, bytes, &mut owned)? {
             Ok(CowStr::Borrowed(text_of(bytes)))
         } else {
@@ -148,7 +148,7 @@ impl<F: Forming> NormalizerBorrowed<F> {
         ensures { ReturnsForm cow_slice_items IsBorrowedSlice
             (F.made_form self.now.form) Encoding.Utf16 units.now result }
     {
-        let mut owned = Vec::new(self.form.allocator());
+        let mut owned = Vec::new(self.form.characters().allocator());
         if write_unless_own::<&'t [u16], F, Vec<u16>>(&self.form, units, &mut owned)? {
             Ok(CowSlice::Borrowed(units))
         } else {

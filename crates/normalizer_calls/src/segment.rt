@@ -1,13 +1,15 @@
 //! Segments, which come between what is passed on as it is: their ends, and their characters in canonical order.
-ghost use Rattle.std.specs.Prelude.{◌≡◌, ◌<◌, length, IfOk, IfSome, IsOk, None, Some};
+ghost use Rattle.std.specs.Prelude.{◌≡◌, ◌<◌, length, [], IfOk, IfSome, IsOk, IsTrue, None, Some};
+ghost use Rattle.normalizer_tables.specs.Readings.{reading_by};
+ghost use Rattle.normalizer_tables.specs.declared.characters.IgnoredCharacters.TheVariants.{Dropped};
 ghost use Rattle.normalizer_text.specs.Encodings.{first_in};
-ghost use Rattle.normalizer_iterators.specs.Segment.{EndsFront};
+ghost use Rattle.normalizer_iterators.specs.Segment.{EndsFront, HasRead, IsSmall};
 ghost use Rattle.normalizer_calls.specs.Forms.{HasShortUnits};
-ghost use Rattle.normalizer_calls.specs.inner.FormsLeft.{HoldsForm};
 ghost use Rattle.normalizer_calls.specs.inner.PassthroughRuns.{IsFrontSegment};
 
 use crate::forming::Forming;
 use normalizer_iterators::SegmentBuffer;
+use normalizer_tables::characters::IgnoredCharacters;
 use normalizer_text::{Step, Units};
 use std::alloc::AllocError;
 
@@ -60,53 +62,38 @@ pub(crate) fn first_step<U: Units>(units: U, first: Option<Step>) -> Step
     }
 }
 
-/// Returns the segment that begins with the first step: it ends before the next character that is normalized apart.
-pub(crate) fn front_segment<U: Units, N: Forming>(normalizer: &N, units: U, first: Step) -> Segment
-    requires some { 0 < length (U.units units) }
-    requires first { first ≡ first_in U.encoding (U.units units) }
-    ensures { IsFrontSegment (N.beginning normalizer.now) U.encoding (U.units units) result }
-{
-    let mut end = first.width;
-    while end < units.len() {
-        let step = units.step_at(end);
-        if let Some(is_before_run) = normalizer.run_may_begin(step.character) {
-            return Segment::before(end, step, is_before_run);
-        }
-        end += step.width;
-    }
-    Segment::last(end)
-}
-
-/// Buffers the segment that begins with the first step, in canonical order, and returns it, if it is seen to fit.
+/// Buffers the segment that begins with the first step, as far as it fits: it ends before the next character that is
+/// normalized apart. Returns the segment, and whether all of it is buffered.
 pub(crate) fn read_segment<U: Units, N: Forming>(
     normalizer: &N,
     units: U,
     first: Step,
     buffer: &mut SegmentBuffer,
-) -> Result<Option<Segment>, AllocError>
+) -> Result<(Segment, bool), AllocError>
     requires some { 0 < length (U.units units) }
     requires first { first ≡ first_in U.encoding (U.units units) }
-    ensures segment { IfOk result (λ read. IfSome read
-        (IsFrontSegment (N.beginning normalizer.now) U.encoding (U.units units))) }
-    ensures form { IfOk result (λ read. IfSome read (λ segment.
-        HoldsForm (N.made_form normalizer.now) U.encoding (U.units units) segment.end buffer.new)) }
+    ensures segment { IfOk result (λ r. IsFrontSegment (N.beginning normalizer.now) U.encoding (U.units units) r.0) }
+    ensures read { IfOk result (λ r. IsTrue r.1 → HasRead (reading_by (N.read_by normalizer.now) Dropped [])
+        U.encoding (U.units units) r.0.end buffer.new) }
+    ensures small { HasShortUnits (N.made_form normalizer.now) U.encoding (U.units units) →
+        IfOk result (λ r. IsTrue r.1 → IsSmall buffer.new) }
     ensures room { HasShortUnits (N.made_form normalizer.now) U.encoding (U.units units) → IsOk result }
 {
     normalizer.what_is_buffered_is_the_form();
-    let mut end = normalizer.read_first(units, first, buffer)?;
+    let (characters, dropped) = (normalizer.characters(), IgnoredCharacters::Dropped);
+    let mut end = buffer.read(characters, dropped, units, first)?;
+    let mut fits = true;
     while end < units.len() {
         let step = units.step_at(end);
         if let Some(is_before_run) = normalizer.run_may_begin(step.character) {
-            buffer.put_in_order()?;
-            return Ok(Some(Segment::before(end, step, is_before_run)));
+            return Ok((Segment::before(end, step, is_before_run), fits));
         }
-        if !normalizer.read_more(step, buffer) {
-            return Ok(None);
+        if fits {
+            fits = buffer.add(characters, dropped, step);
         }
         end += step.width;
     }
-    buffer.put_in_order()?;
-    Ok(Some(Segment::last(end)))
+    Ok((Segment::last(end), fits))
 }
 
 /// Returns the segment that ends at a place, if one does.

@@ -14,7 +14,7 @@ ghost use Rattle.normalizer_calls.specs.inner.WrittenParts.{NothingOffered, Writ
 
 use crate::forming::Forming;
 use crate::runs::passthrough_end;
-use crate::segment::{Segment, first_step, front_segment, read_segment, segment_to};
+use crate::segment::{Segment, first_step, read_segment, segment_to};
 use normalizer_iterators::{NormalizeError, SegmentBuffer};
 use normalizer_tables::members::Members;
 use normalizer_text::output::Output;
@@ -180,11 +180,14 @@ fn write_buffered_segment<U: Units, N: Forming, O: Output<U>>(
     ensures room { HasShortUnits (N.made_form normalizer.now) U.encoding (U.units units) →
         ¬ IsErrOf result NormalizeError.Memory }
 {
-    if let Some(segment) = read_segment(normalizer, units, first, buffer)? {
+    let read = read_segment(normalizer, units, first, buffer)?;
+    let (segment, fits) = read;
+    if fits {
+        normalizer.what_is_buffered_is_the_form();
+        buffer.put_in_order()?;
         write_buffered::<U, N, O>(normalizer, buffer, output)?;
         return Ok(segment);
     }
-    let segment = front_segment(normalizer, units, first);
     normalizer.write_items(units.before(segment.end), output)?;
     Ok(segment)
 }
@@ -235,7 +238,7 @@ pub(crate) fn write_changed<U: Units, N: Forming, O: Output<U>>(
     ensures room { HasShortUnits (N.made_form normalizer.now) U.encoding (U.units units) →
         ¬ IsErrOf result NormalizeError.Memory }
 {
-    let mut buffer = SegmentBuffer::new(normalizer.allocator());
+    let mut buffer = SegmentBuffer::new(normalizer.characters().allocator());
     write_segments(normalizer, units, first, &mut buffer, output)
 }
 

@@ -66,9 +66,8 @@ impl SegmentBuffer {
         requires first { first ≡ first_in U.encoding (U.units units) }
         ensures read { IfOk result (λ end.
             HasRead (reading_by characters.now ignored []) U.encoding (U.units units) end self.new) }
-        ensures room { HasShortLazyRuns characters.now ignored (decoded_in U.encoding (U.units units)) → IsOk result }
-        ensures small { HasShortLazyRuns characters.now ignored (decoded_in U.encoding (U.units units)) →
-            IsSmall self.new }
+        ensures room { HasShortLazyRuns characters.now ignored (decoded_in U.encoding (U.units units)) →
+            IsOk result × IsSmall self.new }
     {
         self.waiting.clear();
         let read = PendingChar::new(characters, 0, first.character);

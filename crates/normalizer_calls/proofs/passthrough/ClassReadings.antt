@@ -1,13 +1,10 @@
 -- The class in the word of a character that is its own list.
-use Rattle.std.proofs.Common.{◌≡◌, ◌≢◌, ◌==◌, ℕ, Bool, true, false, inl, inr, Some, None, refl, sym, ap, subst, ◌∙◌, true≢false, bit_and, arith}
+use Rattle.std.proofs.Common.{◌≡◌, ◌≢◌, ◌==◌, ℕ, Bool, true, false, inl, inr, Some, refl, sym, ap, subst, ◌∙◌, true≢false, arith}
 use Rattle.std.proofs.Math.Bool.{and-false}
 use Rattle.std.proofs.lemmas.Bool.{cases_Bool, or_parts}
 use Rattle.std.proofs.lemmas.Bool.Decides.{nat_tests}
-use Rattle.std.proofs.lemmas.Nat.{and_assoc}
-use Rattle.normalizer_tables.specs.declared.word.WordReading.{WordReading}
-use Rattle.normalizer_tables.specs.declared.word.WordReading.TheVariants.{Ignored, Itself, ClassForm, SpecialForm, TwoCharacters, HangulSyllable, Fdfa, OneCharacter, Listed}
 use Rattle.normalizer_tables.specs.Characters.{Characters, class_of_itself, reading_of_word, word_of}
-use Rattle.normalizer_tables.specs.Words.{ignored_marker, is_plain, is_class_form, is_ordinary_class_form, low_byte, read, read_low, two_characters, listed_reading}
+use Rattle.normalizer_tables.specs.Words.{ignored_marker, is_plain, is_class_form, is_ordinary_class_form, low_byte, read}
 use Rattle.normalizer_tables.proofs.conditions.ConditionLemmas.{plain-no_class_form, read-plain}
 
 module _ (n w : ℕ) (is_mapper : Bool) where

@@ -1,17 +1,17 @@
 -- Characters that are passed on as they are, and runs of them.
-use Rattle.std.proofs.Common.{◌≡◌, ℕ, ◌<◌, ◌⊎◌, inl, inr, Bool, true, false, List, [], ◌∷◌, ◌++◌, length, drop, refl, sym, ap, subst, ◌∙◌, append_assoc, append-nil, arith, length-append}
+use Rattle.std.proofs.Common.{◌≡◌, ℕ, ◌<◌, inl, inr, Bool, true, false, List, [], ◌∷◌, ◌++◌, length, drop, refl, sym, ap, subst, ◌∙◌, append_assoc, append-nil, arith, length-append}
 use Rattle.std.specs.Char.{IsScalar}
-use Rattle.std.specs.Prelude.{◌≢◌, nat_lt, ◌||◌, ◌&&◌, ◌≤◌, not, Option, Some, None, if◌then◌else◌}
+use Rattle.std.specs.Prelude.{◌≢◌, nat_lt, ◌||◌, ◌≤◌, not, Some, None}
 use lib.Utf8.{scalar}
 use Rattle.std.proofs.lemmas.Bool.{cases_lt, cond-false, cond-true, cond_both, le-ltb}
 use Rattle.std.proofs.lemmas.Bool.Decides.{nat_tests}
 use Rattle.std.proofs.lemmas.List.{drop_at}
 use Rattle.normal_forms.specs.Reading.{Reading, ReadsAsItself, IsSecondInNoPair, IsStarter}
-use Rattle.normal_forms.specs.Boundary.{BeginsAtBoundary, BeginsWithStarter}
+use Rattle.normal_forms.specs.Boundary.{BeginsWithStarter}
 use Rattle.normal_forms.specs.Hypotheses.{HasStarterResults, SuitsForm}
 use Rattle.normal_forms.specs.Decomposition.{expand}
 use Rattle.normal_forms.specs.Order.{order, insert, EndsUpTo}
-use Rattle.normal_forms.specs.Composition.{compose, compose_from, visit}
+use Rattle.normal_forms.specs.Composition.{compose, compose_from}
 use Rattle.normal_forms.specs.declared.Form.{Form}
 use Rattle.normal_forms.specs.declared.Form.TheVariants.{Decomposing, Composing}
 use Rattle.normal_forms.specs.Forms.{normal_form, nfd, nfc, IsNormalized}

@@ -2,7 +2,7 @@
 use Rattle.std.proofs.Common.{◌≡◌, ℕ, ◌-◌, ◌<◌, ◌≤◌, Bool, true, false, List, [], ◌∷◌, ◌++◌, length, take, drop, map, refl, sym, ap, subst, ◌∙◌}
 use Rattle.std.proofs.Common.{append_assoc, append-nil, arith, length-drop, length-take-le, inl, inr}
 use Rattle.std.specs.Char.{IsScalar}
-use Rattle.std.specs.Prelude.{All, IfSome, ◌&&◌, ◌==◌, nat_le, not, Option, Some, None, if◌then◌else◌, option_and_then}
+use Rattle.std.specs.Prelude.{All, IfSome, ◌&&◌, ◌==◌, nat_le, not, Some, None, option_and_then}
 use Rattle.std.proofs.lemmas.Bool.{and_parts, cases_lt, cases_Bool, cond-true, cond-false, eqb-true, leb-true}
 use Rattle.std.proofs.lemmas.Option.{option_and_then_some}
 use Rattle.std.proofs.lemmas.List.{append_cancel_left, drop_at, map-append, take-take}
@@ -11,11 +11,11 @@ use Rattle.normal_forms.specs.Reading.{Reading}
 use Rattle.normal_forms.specs.declared.Form.{Form}
 use Rattle.normal_forms.specs.Forms.{IsNormalized}
 use Rattle.normal_forms.specs.Order.{EndsUpTo}
-use Rattle.normalizer_passing.specs.PassBytes.{byte_of, least_after, starter_byte}
+use Rattle.normalizer_passing.specs.PassBytes.{byte_of, least_after}
 use Rattle.normalizer_text.specs.declared.decoding_step.Step.{Step}
 use Rattle.normalizer_text.specs.Encodings.{Encoding, first_in, decoded_in}
 use Rattle.normalizer_text.specs.DecodingSteps.{steps, IsBoundary, IsLastStep}
-use Rattle.normalizer_text.specs.Passing.{least_past, next_least, IsLastStarter, Passes, PassesTo}
+use Rattle.normalizer_text.specs.Passing.{least_past, next_least, IsLastStarter, Passes}
 use Rattle.normalizer_text.proofs.steps.StepBoundaries.{boundary-before, boundary-first, boundary-last, boundary-le, step-some, steps-parts, steps-take-drop}
 use Rattle.normalizer_text.proofs.rules.EncodingRules.{IsDecoding-first}
 use Rattle.normalizer_text.proofs.steps.StepLemmas.{decoded-IsText, decoded-some, steps-nil, steps-some}

@@ -1,11 +1,10 @@
 -- Lists in which nothing composes: no member after the first is the second of a pair.
-use Rattle.std.proofs.Common.{◌≡◌, ◌≤◌, ◌+◌, ℕ, suc, length, List, [], ◌∷◌, ◌++◌, drop, None, Some, true, refl, sym, ap, ◌∙◌, append-nil, append_assoc, slice_get}
+use Rattle.std.proofs.Common.{◌≡◌, ◌≤◌, ◌+◌, ℕ, suc, length, List, [], ◌∷◌, ◌++◌, drop, None, Some, refl, sym, ap, ◌∙◌, append-nil, append_assoc, slice_get}
 use Rattle.std.proofs.lemmas.List.{drop_all}
-use Rattle.std.proofs.lemmas.Bool.{and_right, cond-false, cond-true, cond_both, not_from_true, or_left, or_right}
-use Rattle.normal_forms.proofs.composing.ComposeLemmas.{is_starter-true}
+use Rattle.std.proofs.lemmas.Bool.{cond_both}
 use Rattle.std.specs.Prelude.{◌&&◌, not}
 use Rattle.std.specs.Char.{IsScalar}
-use Rattle.normal_forms.specs.Reading.{Reading, IsStarter, is_starter}
+use Rattle.normal_forms.specs.Reading.{Reading, is_starter}
 use Rattle.normal_forms.specs.Composition.{compose, compose_from, is_blocked, joined, visit}
 use Rattle.normal_forms.specs.Forms.{nfc, nfd, normal_form}
 use Rattle.normal_forms.specs.Decomposition.{expand}

@@ -1,24 +1,23 @@
 -- What is left of a segment.
-use Rattle.std.proofs.Common.{◌≡◌, ℕ, List, [], ◌∷◌, take, ap, sym, ◌∙◌}
+use Rattle.std.proofs.Common.{◌≡◌, ℕ, List, [], take, ap, sym, ◌∙◌}
 use Rattle.std.specs.Prelude.{Option, Some, None, IfSome, IfNone}
-use Rattle.std.specs.Option.{ForSome}
 use Rattle.normal_forms.specs.CompositionByStarters.{compose_by_starters}
-use Rattle.normal_forms.specs.Forms.{normal_form, nfd}
+use Rattle.normal_forms.specs.Forms.{normal_form}
 use Rattle.normal_forms.specs.Hypotheses.{HasStarterResults}
 use Rattle.normal_forms.specs.Reading.{Reading}
 use Rattle.normal_forms.specs.declared.Form.TheVariants.{Composing}
 use Rattle.normal_forms.proofs.composing.ComposeLemmas.{compose_by_starters-nil}
-use Rattle.normalizer_tables.specs.Characters.{Characters, has_class_form}
+use Rattle.normalizer_tables.specs.Characters.{Characters}
 use Rattle.normalizer_tables.specs.Pairs.{Pair}
 use Rattle.normalizer_tables.specs.Readings.{reading_by}
 use Rattle.normalizer_tables.specs.declared.characters.IgnoredCharacters.TheVariants.{Dropped}
 use Rattle.normalizer_text.specs.Encodings.{Encoding, decoded_in}
 use Rattle.normalizer_iterators.specs.declared.segment.SegmentBuffer.{SegmentBuffer}
-use Rattle.normalizer_iterators.specs.Segment.{characters_left, Agrees, IsDecomposed}
+use Rattle.normalizer_iterators.specs.Segment.{IsDecomposed}
 use Rattle.normalizer_iterators.proofs.composing.ComposingLemmas.{nfc-reading_by}
 use Rattle.normalizer_iterators.proofs.segments.SegmentLemmas.{AgreesWith-reading_by}
 use Rattle.normalizer_calls.specs.Forms.{form_by}
-use Rattle.normalizer_calls.specs.inner.FormsLeft.{form_left, form_of_ordered, HoldsForm}
+use Rattle.normalizer_calls.specs.inner.FormsLeft.{form_of_ordered, HoldsForm}
 
 pub IfSome-weaker : {T : Type 0} (o : Option T) (P Q : T → Type 0) → ((x : T) → P x → Q x) → IfSome o P → IfSome o Q
 IfSome-weaker None P Q f h = tt

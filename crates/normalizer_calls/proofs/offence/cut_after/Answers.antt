@@ -1,4 +1,4 @@
-use Rattle.std.proofs.Common.{◌≡◌, ◌+◌, ◌-◌, length, length-append, length-drop, arith, ap, refl, subst, ◌∙◌}
+use Rattle.std.proofs.Common.{◌≡◌, ◌+◌, ◌-◌, length, length-append, length-drop, arith, ap, refl, subst}
 use Rattle.normalizer_text.specs.InputCut.{IsInputCut}
 use Rattle.normalizer_calls.proofs.results.CheckLemmas.{normalized_where_expected, differs_where_refused, cut_where_refused}
 use Rattle.normalizer_calls.proofs.results.QualifyingLemmas.{differs-with_rest, normalized-with_rest, IsInputCut-of_rest, IsKeptTo-qualifies, HasShortRuns-of_rest}

@@ -1,30 +1,32 @@
-use Rattle.std.proofs.Common.{arith, ap, sym, subst, ◌∙◌}
-use Rattle.normalizer_text.proofs.steps.StepBoundaries.{step-some}
-use Rattle.normalizer_calls.specs.inner.FormsLeft.{HoldsForm}
+use Rattle.std.proofs.Common.{arith, sym, ◌∙◌}
+use Rattle.normalizer_text.proofs.steps.StepBoundaries.{boundary-more, step-some}
 use Rattle.normalizer_calls.proofs.passthrough.RunParts.{IsFrontSegment-before, IsFrontSegment-last}
 use Rattle.normalizer_calls.proofs.segment.read_segment.Goals as goal
+use Rattle.normalizer_calls.proofs.segment.read_segment.Goals.{then-fits, else-fits}
+
+pub returns-in_err-end-clause-room : goal.returns-in_err-end-clause-room
+returns-in_err-end-clause-room g c = λ short.
+    cc ((c.in_err-end.ensures.room (rw (← c.characters-characters.ensures) at c.what_is_buffered_is_the_form.ensures.short g.U.Units.encoding (g.U.Units.units c.args.units) short)).0)
 
 pub loop-end-init : goal.loop-end-init
-loop-end-init g c = (c.in_ok-end.ensures.read, λ short. (c.in_ok-end.ensures.room short).1)
-
-pub returns-in_err-put_in_order-clause-room : goal.returns-in_err-put_in_order-clause-room
-returns-in_err-put_in_order-clause-room g c = λ short. cc (c.in_err-put_in_order.ensures.small (c.loop-end.invariant.1 short))
+loop-end-init g c = (
+  c.in_ok-end.ensures.read.front,
+  λ _. (
+    rw c.characters-characters.ensures at c.in_ok-end.ensures.read,
+    λ short. (c.in_ok-end.ensures.room (rw (← c.characters-characters.ensures) at c.what_is_buffered_is_the_form.ensures.short g.U.Units.encoding (g.U.Units.units c.args.units) short)).1,
+  ),
+)
 
 pub returns-in-Some-clause-segment : goal.returns-in-Some-clause-segment
 returns-in-Some-clause-segment g c =
-    let units = g.U.Units.units c.args.units in
-    let front = c.loop-end.invariant.0.front in
-    IsFrontSegment-before g.U.Units.encoding units (g.N.Forming.beginning c.args.normalizer.now) c.before-in-Some.result c.loop-end.end
-    c.before-in-Some.ensures.end front c.step_at-step.result c.before-in-Some.ensures.next c.step_at-step.ensures c.in-Some.ensures
+    IsFrontSegment-before g.U.Units.encoding (g.U.Units.units c.args.units) (g.N.Forming.beginning c.args.normalizer.now) c.before-in-Some.result c.loop-end.end
+    c.before-in-Some.ensures.end c.loop-end.invariant.0 c.step_at-step.result c.before-in-Some.ensures.next c.step_at-step.ensures c.in-Some.ensures
 
-pub returns-in-Some-clause-form : goal.returns-in-Some-clause-form
-returns-in-Some-clause-form g c =
-    let m = g.N.Forming.made_form c.args.normalizer.now in
-    let d = g.N.Forming.read_by c.args.normalizer.now in
-    let units = g.U.Units.units c.args.units in
-    let ordered = c.in_ok-put_in_order.ensures.read d g.U.Units.encoding units c.loop-end.end c.loop-end.invariant.0 in
-    subst (λ n. HoldsForm m g.U.Units.encoding units n c.put_in_order.new.self) (sym c.before-in-Some.ensures.end)
-    (c.what_is_buffered_is_the_form.ensures g.U.Units.encoding units c.loop-end.end c.put_in_order.new.self ordered)
+pub returns-in-Some-clause-read : goal.returns-in-Some-clause-read
+returns-in-Some-clause-read g c = λ fits. rw c.before-in-Some.ensures.end (c.loop-end.invariant.1 fits).0
+
+pub returns-in-Some-clause-small : goal.returns-in-Some-clause-small
+returns-in-Some-clause-small g c = λ short fits. (c.loop-end.invariant.1 fits).1 short
 
 pub overflow_add-end : goal.overflow_add-end
 overflow_add-end g c =
@@ -36,24 +38,27 @@ loop-end-smaller g c =
 
 pub loop-end-preserved : goal.loop-end-preserved
 loop-end-preserved g c = (
-  c.read_more.ensures.read c.if-not-read_more.false g.U.Units.encoding (g.U.Units.units c.args.units) c.loop-end.end (omega (arith, c.len.ensures)) c.step_at-step.ensures c.loop-end.invariant.0,
-  λ _. c.read_more.ensures.small c.if-not-read_more.false,
+  (
+    omega (arith, c.loop-end.invariant.0.0),
+    boundary-more g.U.Units.encoding (g.U.Units.units c.args.units) c.loop-end.end c.step_at-step.result c.loop-end.invariant.0.1 (omega (arith, c.len.ensures)) c.step_at-step.ensures,
+  ),
+  elim c.if-fits.branch [
+    | then-fits w ↦ λ yes.
+        let added = sym w.fits-is ∙ yes in
+        let before = rw (← c.characters-characters.ensures) at (c.loop-end.invariant.1 w.if-fits.true).0 in
+        let read = w.add-fits.ensures.read added g.U.Units.encoding (g.U.Units.units c.args.units) c.loop-end.end (omega (arith, c.len.ensures)) c.step_at-step.ensures before in
+        (rw w.buffer-is (rw c.characters-characters.ensures at read), λ _. rw w.buffer-is (w.add-fits.ensures.small added))
+    | else-fits w ↦ λ yes. absurd (cc (w.if-fits.false, w.fits-is, yes))
+  ],
 )
-
-pub returns-in_err-put_in_order-2-clause-room : goal.returns-in_err-put_in_order-2-clause-room
-returns-in_err-put_in_order-2-clause-room g c = λ short. cc (c.in_err-put_in_order-2.ensures.small (c.loop-end.invariant.1 short))
 
 pub returns-clause-segment : goal.returns-clause-segment
 returns-clause-segment g c =
-    let units = g.U.Units.units c.args.units in
-    IsFrontSegment-last g.U.Units.encoding units (g.N.Forming.beginning c.args.normalizer.now) c.last.result c.loop-end.end
-    c.last.ensures.end c.loop-end.invariant.0.front c.last.ensures.next (omega (arith, c.len.ensures, c.loop-end-test.false))
+    IsFrontSegment-last g.U.Units.encoding (g.U.Units.units c.args.units) (g.N.Forming.beginning c.args.normalizer.now) c.last.result c.loop-end.end
+    c.last.ensures.end c.loop-end.invariant.0 c.last.ensures.next (omega (arith, c.len.ensures, c.loop-end-test.false))
 
-pub returns-clause-form : goal.returns-clause-form
-returns-clause-form g c =
-    let m = g.N.Forming.made_form c.args.normalizer.now in
-    let d = g.N.Forming.read_by c.args.normalizer.now in
-    let units = g.U.Units.units c.args.units in
-    let ordered = c.in_ok-put_in_order-2.ensures.read d g.U.Units.encoding units c.loop-end.end c.loop-end.invariant.0 in
-    subst (λ n. HoldsForm m g.U.Units.encoding units n c.put_in_order-2.new.self) (sym c.last.ensures.end)
-    (c.what_is_buffered_is_the_form.ensures g.U.Units.encoding units c.loop-end.end c.put_in_order-2.new.self ordered)
+pub returns-clause-read : goal.returns-clause-read
+returns-clause-read g c = λ fits. rw c.last.ensures.end (c.loop-end.invariant.1 fits).0
+
+pub returns-clause-small : goal.returns-clause-small
+returns-clause-small g c = λ short fits. (c.loop-end.invariant.1 fits).1 short

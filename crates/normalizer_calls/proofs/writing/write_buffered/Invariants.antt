@@ -1,5 +1,5 @@
-use Rattle.std.proofs.Common.{◌≡◌, length}
-use Rattle.normalizer_iterators.specs.Segment.{characters_left, Agrees}
+use Rattle.std.proofs.Common.{length}
+use Rattle.normalizer_iterators.specs.Segment.{Agrees}
 use Rattle.normalizer_calls.specs.inner.FormsLeft.{form_left}
 use Rattle.normalizer_calls.proofs.written_forms.MemberLemmas.{list_gives}
 use Rattle.normalizer_calls.proofs.written_forms.WritingLemmas.{WroteSoFar}

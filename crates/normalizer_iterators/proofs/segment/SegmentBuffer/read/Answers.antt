@@ -1,4 +1,4 @@
-use Rattle.std.proofs.Common.{◌++◌, [], arith, sym, ap, subst, ◌∙◌}
+use Rattle.std.proofs.Common.{◌++◌, [], arith, refl, sym, ap, subst, ◌∙◌}
 use Rattle.std.specs.Prelude.{option_to_list}
 use Rattle.std.specs.Option.{ForSome}
 use Rattle.normal_forms.specs.Reading.{IsStarter}
@@ -16,14 +16,7 @@ returns-in_err-self-clause-room g c = λ short.
     let s = c.args.characters.now in
     let d = reading_by s c.args.ignored [] in
     let room = first-room d g.U.Units.encoding (g.U.Units.units c.args.units) c.args.first c.requires.some c.requires.first (has_class_form s) _ c.new-read.ensures.character short.0 short.1 in
-    cc (c.in_err-self.ensures.succeeds (omega (arith, room, c.clear.ensures.held)))
-
-pub returns-in_err-self-clause-small : goal.returns-in_err-self-clause-small
-returns-in_err-self-clause-small g c = λ short.
-    let s = c.args.characters.now in
-    let d = reading_by s c.args.ignored [] in
-    let room = first-room d g.U.Units.encoding (g.U.Units.units c.args.units) c.args.first c.requires.some c.requires.first (has_class_form s) _ c.new-read.ensures.character short.0 short.1 in
-    cc (c.in_err-self.ensures.succeeds (omega (arith, room, c.clear.ensures.held)))
+    absurd (cc (c.in_err-self.ensures.succeeds (omega (arith, room, c.clear.ensures.held))))
 
 pub read_marks-requires-clause-boundary : goal.read_marks-requires-clause-boundary
 read_marks-requires-clause-boundary g c =
@@ -34,15 +27,7 @@ returns-in_err-end-clause-room g c = λ short.
     let s = c.args.characters.now in
     let d = reading_by s c.args.ignored [] in
     let room = first-room d g.U.Units.encoding (g.U.Units.units c.args.units) c.args.first c.requires.some c.requires.first (has_class_form s) _ c.new-read.ensures.character short.0 short.1 in
-    cc (c.in_err-end.ensures.room (short.0, omega (arith, room, c.clear.ensures.held, c.in_ok-self.ensures.held))).0
-
-pub returns-in_err-end-clause-small : goal.returns-in_err-end-clause-small
-unfolding IsSmall
-returns-in_err-end-clause-small g c = λ short.
-    let s = c.args.characters.now in
-    let d = reading_by s c.args.ignored [] in
-    let room = first-room d g.U.Units.encoding (g.U.Units.units c.args.units) c.args.first c.requires.some c.requires.first (has_class_form s) _ c.new-read.ensures.character short.0 short.1 in
-    (c.in_err-end.ensures.room (short.0, omega (arith, room, c.clear.ensures.held, c.in_ok-self.ensures.held))).1
+    absurd (cc (c.in_err-end.ensures.room (short.0, omega (arith, room, c.clear.ensures.held, c.in_ok-self.ensures.held))).0)
 
 pub returns-clause-read : goal.returns-clause-read
 returns-clause-read g c =
@@ -64,10 +49,10 @@ returns-clause-read g c =
           ∙ ap (λ o. option_to_list o ++ reordered_text d c.read_marks.new.waiting rest) (sym c.in_ok-self.ensures.starter);
     }
 
-pub returns-clause-small : goal.returns-clause-small
+pub returns-clause-room : goal.returns-clause-room
 unfolding IsSmall
-returns-clause-small g c = λ short.
+returns-clause-room g c = λ short.
     let s = c.args.characters.now in
     let d = reading_by s c.args.ignored [] in
     let room = first-room d g.U.Units.encoding (g.U.Units.units c.args.units) c.args.first c.requires.some c.requires.first (has_class_form s) _ c.new-read.ensures.character short.0 short.1 in
-    (c.in_ok-end.ensures.room (short.0, omega (arith, room, c.clear.ensures.held, c.in_ok-self.ensures.held))).1
+    (refl, (c.in_ok-end.ensures.room (short.0, omega (arith, room, c.clear.ensures.held, c.in_ok-self.ensures.held))).1)
