@@ -137,15 +137,22 @@ pub enum AnyNormalizerBorrowed<'a> {
     Composing(ComposingNormalizerBorrowed<'a>),
 }
 
+/// Calls the normalizer of either kind.
+macro_rules! by_kind {
+    ($self:ident, $n:ident => $call:expr) => {
+        match $self {
+            AnyNormalizerBorrowed::Decomposing($n) => $call,
+            AnyNormalizerBorrowed::Composing($n) => $call,
+        }
+    };
+}
+
 impl<'a> AnyNormalizerBorrowed<'a> {
     /// Returns the normal form of `text`, borrowed if and only if it is already normalized.
     pub fn normalize<'t>(&self, text: &'t str) -> Result<CowStr<'t, Global>, NormalizeError>
         ensures { ReturnsFormOfText (made_by_borrowed self.now) (chars text.now) result }
     {
-        match self {
-            AnyNormalizerBorrowed::Decomposing(n) => n.normalize(text),
-            AnyNormalizerBorrowed::Composing(n) => n.normalize(text),
-        }
+        by_kind!(self, n => n.normalize(text))
     }
 
     /// Returns the normal form of what `bytes` decode to, in UTF-8, borrowed if and only if they are well-formed and
@@ -153,10 +160,7 @@ impl<'a> AnyNormalizerBorrowed<'a> {
     pub fn normalize_utf8<'t>(&self, bytes: &'t [u8]) -> Result<CowStr<'t, Global>, NormalizeError>
         ensures { ReturnsForm cow_str_bytes IsBorrowedStr (made_by_borrowed self.now) Encoding.Utf8 bytes.now result }
     {
-        match self {
-            AnyNormalizerBorrowed::Decomposing(n) => n.normalize_utf8(bytes),
-            AnyNormalizerBorrowed::Composing(n) => n.normalize_utf8(bytes),
-        }
+        by_kind!(self, n => n.normalize_utf8(bytes))
     }
 
     /// Returns the normal form of what 16-bit units decode to, in UTF-16, borrowed if and only if they are well-formed
@@ -168,10 +172,7 @@ impl<'a> AnyNormalizerBorrowed<'a> {
         ensures { ReturnsForm cow_slice_items IsBorrowedSlice (made_by_borrowed self.now)
             Encoding.Utf16 units.now result }
     {
-        match self {
-            AnyNormalizerBorrowed::Decomposing(n) => n.normalize_utf16(units),
-            AnyNormalizerBorrowed::Composing(n) => n.normalize_utf16(units),
-        }
+        by_kind!(self, n => n.normalize_utf16(units))
     }
 
     /// Writes the normal form of `text` to `sink`, in UTF-8.
@@ -179,10 +180,7 @@ impl<'a> AnyNormalizerBorrowed<'a> {
         ensures { WritesForm Encoding.Utf8 W.text_taken W.refusal W.refusal_effect (made_by_borrowed self.now)
             (chars text.now) sink.old result sink.new }
     {
-        match self {
-            AnyNormalizerBorrowed::Decomposing(n) => n.normalize_to(text, sink),
-            AnyNormalizerBorrowed::Composing(n) => n.normalize_to(text, sink),
-        }
+        by_kind!(self, n => n.normalize_to(text, sink))
     }
 
     /// Writes the normal form of the text that `bytes` decode to, in UTF-8.
@@ -194,10 +192,7 @@ impl<'a> AnyNormalizerBorrowed<'a> {
         ensures { WritesForm Encoding.Utf8 W.text_taken W.refusal W.refusal_effect (made_by_borrowed self.now)
             (decoded_utf8 bytes.now) sink.old result sink.new }
     {
-        match self {
-            AnyNormalizerBorrowed::Decomposing(n) => n.normalize_utf8_to(bytes, sink),
-            AnyNormalizerBorrowed::Composing(n) => n.normalize_utf8_to(bytes, sink),
-        }
+        by_kind!(self, n => n.normalize_utf8_to(bytes, sink))
     }
 
     /// Writes the normal form of the text that 16-bit units decode to, in UTF-16.
@@ -210,40 +205,28 @@ impl<'a> AnyNormalizerBorrowed<'a> {
             (decoded_utf16 units.now) sink.old result sink.new }
         ensures first { TellsLengthFirst W.text_taken W.length_hint (length units.now) sink.old result sink.new }
     {
-        match self {
-            AnyNormalizerBorrowed::Decomposing(n) => n.normalize_utf16_to(units, sink),
-            AnyNormalizerBorrowed::Composing(n) => n.normalize_utf16_to(units, sink),
-        }
+        by_kind!(self, n => n.normalize_utf16_to(units, sink))
     }
 
     /// Returns whether `text` is already in its normal form.
     pub fn is_normalized(&self, text: &str) -> Result<bool, NormalizeError>
         ensures { ChecksText (made_by_borrowed self.now) (chars text.now) result }
     {
-        match self {
-            AnyNormalizerBorrowed::Decomposing(n) => n.is_normalized(text),
-            AnyNormalizerBorrowed::Composing(n) => n.is_normalized(text),
-        }
+        by_kind!(self, n => n.is_normalized(text))
     }
 
     /// Returns whether `bytes` are well-formed UTF-8 that is already in its normal form.
     pub fn is_normalized_utf8(&self, bytes: &[u8]) -> Result<bool, NormalizeError>
         ensures { ChecksForm (made_by_borrowed self.now) Encoding.Utf8 bytes.now result }
     {
-        match self {
-            AnyNormalizerBorrowed::Decomposing(n) => n.is_normalized_utf8(bytes),
-            AnyNormalizerBorrowed::Composing(n) => n.is_normalized_utf8(bytes),
-        }
+        by_kind!(self, n => n.is_normalized_utf8(bytes))
     }
 
     /// Returns whether 16-bit units are well-formed UTF-16 that is already in its normal form.
     pub fn is_normalized_utf16(&self, units: &[u16]) -> Result<bool, NormalizeError>
         ensures { ChecksForm (made_by_borrowed self.now) Encoding.Utf16 units.now result }
     {
-        match self {
-            AnyNormalizerBorrowed::Decomposing(n) => n.is_normalized_utf16(units),
-            AnyNormalizerBorrowed::Composing(n) => n.is_normalized_utf16(units),
-        }
+        by_kind!(self, n => n.is_normalized_utf16(units))
     }
 
     /// Returns whether `units` are characters, as UTF-32 encodes them, and the text of them is already in its normal
@@ -251,40 +234,28 @@ impl<'a> AnyNormalizerBorrowed<'a> {
     pub fn is_normalized_utf32(&self, units: &[u32]) -> Result<bool, NormalizeError>
         ensures { ChecksUtf32 (made_by_borrowed self.now) units.now result }
     {
-        match self {
-            AnyNormalizerBorrowed::Decomposing(n) => n.is_normalized_utf32(units),
-            AnyNormalizerBorrowed::Composing(n) => n.is_normalized_utf32(units),
-        }
+        by_kind!(self, n => n.is_normalized_utf32(units))
     }
 
     /// Returns the first place where `text` differs from its normal form.
     pub fn first_offence(&self, text: &str) -> Result<Option<Offence>, NormalizeError>
         ensures { FindsOffenceOfText (made_by_borrowed self.now) (chars text.now) result }
     {
-        match self {
-            AnyNormalizerBorrowed::Decomposing(n) => n.first_offence(text),
-            AnyNormalizerBorrowed::Composing(n) => n.first_offence(text),
-        }
+        by_kind!(self, n => n.first_offence(text))
     }
 
     /// Returns the first place where `bytes` are ill-formed or differ from their normal form.
     pub fn first_offence_utf8(&self, bytes: &[u8]) -> Result<Option<Offence>, NormalizeError>
         ensures { FindsOffence (made_by_borrowed self.now) Encoding.Utf8 bytes.now result }
     {
-        match self {
-            AnyNormalizerBorrowed::Decomposing(n) => n.first_offence_utf8(bytes),
-            AnyNormalizerBorrowed::Composing(n) => n.first_offence_utf8(bytes),
-        }
+        by_kind!(self, n => n.first_offence_utf8(bytes))
     }
 
     /// Returns the first place where 16-bit units are ill-formed or differ from their normal form.
     pub fn first_offence_utf16(&self, units: &[u16]) -> Result<Option<Offence>, NormalizeError>
         ensures { FindsOffence (made_by_borrowed self.now) Encoding.Utf16 units.now result }
     {
-        match self {
-            AnyNormalizerBorrowed::Decomposing(n) => n.first_offence_utf16(units),
-            AnyNormalizerBorrowed::Composing(n) => n.first_offence_utf16(units),
-        }
+        by_kind!(self, n => n.first_offence_utf16(units))
     }
 
     /// Splits `text` so that its form is the first part followed by the form of the second, as late as possible.
@@ -292,10 +263,7 @@ impl<'a> AnyNormalizerBorrowed<'a> {
         ensures { AnswersOf (made_by_borrowed self.now) (chars text.now) (λ parts.
             IsTextSplitAtCut (made_by_borrowed self.now) text.now parts.0.now parts.1.now) result }
     {
-        match self {
-            AnyNormalizerBorrowed::Decomposing(n) => n.split_normalized(text),
-            AnyNormalizerBorrowed::Composing(n) => n.split_normalized(text),
-        }
+        by_kind!(self, n => n.split_normalized(text))
     }
 
     /// Splits `bytes` so that the first part is well-formed and their form is the first part followed by the form of
@@ -307,10 +275,7 @@ impl<'a> AnyNormalizerBorrowed<'a> {
         ensures { AnswersOf (made_by_borrowed self.now) (decoded_utf8 bytes.now) (λ parts.
             IsSplitAtCut (made_by_borrowed self.now) Encoding.Utf8 bytes.now parts.0.now parts.1.now) result }
     {
-        match self {
-            AnyNormalizerBorrowed::Decomposing(n) => n.split_normalized_utf8(bytes),
-            AnyNormalizerBorrowed::Composing(n) => n.split_normalized_utf8(bytes),
-        }
+        by_kind!(self, n => n.split_normalized_utf8(bytes))
     }
 
     /// Splits 16-bit units so that the first part is well-formed and their form is the first part followed by the form
@@ -322,10 +287,7 @@ impl<'a> AnyNormalizerBorrowed<'a> {
         ensures { AnswersOf (made_by_borrowed self.now) (decoded_utf16 units.now) (λ parts.
             IsSplitAtCut (made_by_borrowed self.now) Encoding.Utf16 units.now parts.0.now parts.1.now) result }
     {
-        match self {
-            AnyNormalizerBorrowed::Decomposing(n) => n.split_normalized_utf16(units),
-            AnyNormalizerBorrowed::Composing(n) => n.split_normalized_utf16(units),
-        }
+        by_kind!(self, n => n.split_normalized_utf16(units))
     }
 
     /// Returns whether a text may be divided before `character`: a text that begins with it is then normalized apart
@@ -335,10 +297,7 @@ impl<'a> AnyNormalizerBorrowed<'a> {
         ensures apart { let m = made_by_borrowed self.now in
             result ≡ true → HasBoundaryBefore m.reading m.form character }
     {
-        match self {
-            AnyNormalizerBorrowed::Decomposing(n) => n.has_boundary_before(character),
-            AnyNormalizerBorrowed::Composing(n) => n.has_boundary_before(character),
-        }
+        by_kind!(self, n => n.has_boundary_before(character))
     }
 
     /// Returns the form of the text that an iterator yields.
@@ -357,12 +316,6 @@ impl<'a> AnyNormalizerBorrowed<'a> {
             IfOk result (λ v. v.items ≡ form_of (made_by_borrowed self.now) x) }
         ensures refused { IsOkUnless result NormalizeError.Memory }
     {
-        match self {
-            AnyNormalizerBorrowed::Decomposing(n) => collected(
-                alloc,
-                n.normalize_iter(characters)?,
-            ),
-            AnyNormalizerBorrowed::Composing(n) => collected(alloc, n.normalize_iter(characters)?),
-        }
+        by_kind!(self, n => collected(alloc, n.normalize_iter(characters)?))
     }
 }

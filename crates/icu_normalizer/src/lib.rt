@@ -26,9 +26,8 @@
 //! let normalizer = ComposingNormalizer::try_new_nfc_unstable(&data)?;
 //! assert!(rt; *normalizer.as_borrowed().normalize("a\u{308}")? == *"\u{E4}");
 //! ```
-//! In examples `rt` is the `HostRuntime` of `main`, and `alloc` is `rt.alloc()`. The README has a whole function, and
-//! `docs/GUIDE.md` a whole program and an example for each task. Names end in `_unstable` as ICU4X's do: traits of data
-//! may still change.
+//! In examples `rt` is the `HostRuntime` of `main`, and `alloc` is `rt.alloc()`. `docs/GUIDE.md` has a whole function, a
+//! whole program and an example for each task. Names end in `_unstable` as ICU4X's do: traits of data may still change.
 #![tactic(auto)]
 
 mod all_normalizers;
