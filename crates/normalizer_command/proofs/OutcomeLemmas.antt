@@ -125,13 +125,6 @@ module _ (mode : ErrorMode) (n : AnyNormalizer) (m : Making) (makes : Makes n m)
   same_form text = ap (encoded_in Encoding.Utf8) (makes.same (decoded_in Encoding.Utf8 text))
 
   module _ (before after : Option (List ℕ)) where
-    pub form_written : (end : Ending) → IsFormWritten mode (form_by n) left before after end → IsWritten (OfForm Write mode m) name left before after (Ended end)
-    form_written end f = (
-      form_by n f.text,
-      record { input = f.input; whole = f.whole; reply = record { text = f.text; ends = f.ends; form = same_form f.text } },
-      f.output,
-    )
-
     pub form_cut : IsFormCutOff mode (form_by n) left before after → IsCutOff (OfForm Write mode m) name left before after
     form_cut f = (
       Ended f.ending,
