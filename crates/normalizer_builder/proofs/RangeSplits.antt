@@ -1,24 +1,25 @@
 -- The records that ranges list are split into ranges that stay ranges, and the records of the others.
-use Rattle.std.proofs.Common.{◌≡◌, ◌∙◌, ◌⊎◌, inl, inr, ℕ, suc, ◌+◌, ◌-◌, ◌<◌, ◌≤◌, ◌==◌, Bool, true, false, not, cond, ◌&&◌, ◌||◌, nat_lt, nat_le, List, [], ◌∷◌, ◌++◌, filter, filter_map, find, All, Contains, Option, take, get_or, length}
+use Rattle.std.proofs.Common.{◌≡◌, ◌∙◌, ◌⊎◌, inl, inr, ℕ, suc, ◌+◌, ◌-◌, ◌<◌, ◌≤◌, ◌==◌, Bool, true, false, not, cond, ◌&&◌, ◌||◌, nat_lt, nat_le, List, [], ◌∷◌, ◌++◌, filter, find, All, AllPairs, Contains, take, get_or, length}
 use Rattle.std.proofs.Common.{Some, None, refl, sym, ap, subst, arith, flat_map}
 use Rattle.std.specs.Char.{IsScalar}
 use Rattle.std.specs.Int.{is_in_range}
-use Rattle.std.specs.List.{cons_option}
 use Rattle.std.proofs.lemmas.Bool.{and_parts, cases_Bool, false_from_ne_true, not-true, true≢false}
 use Rattle.std.proofs.lemmas.Bool.Decides.{nat_tests}
 use Rattle.std.proofs.Math.Seq.{take-suc}
 use Rattle.std.proofs.lemmas.List.{append-nil}
 use Rattle.std.proofs.lemmas.List.Concat.{flat_map-append}
-use Rattle.std.proofs.lemmas.List.Elements.{All-append, All-head, All-nil, All-tail, Contains-append_left, Contains-append_right, filter-append, filter_map-append}
+use Rattle.std.proofs.lemmas.List.Elements.{All-append, All-head, All-nil, All-tail, Contains-append_left, Contains-append_right, filter-append}
+use Rattle.std.proofs.lemmas.List.Folds.{list_any-append}
+use Rattle.std.proofs.lemmas.List.Kept.{AllPairs-cons}
 use Rattle.normalizer_tables.specs.Hangul.{is_hangul_syllable}
 use Rattle.normalizer_packing.specs.Disallowed.{is_in}
 use Rattle.normalizer_records.specs.Faults.{is_disallowed, is_fixed}
 use Rattle.normalizer_records.specs.Meaning.{entry_of}
 use Rattle.normalizer_records.specs.Ranges.{Uts46RangeValue, entries_of}
 use Rattle.normalizer_records.specs.RecordValue.{IsDisallowed, IsIgnored, MapsTo, RecordValue, Status, Uts46RecordValue}
-use Rattle.normalizer_records.proofs.RangeRecords.{AreRanges, IsOfRange, character, of_ranges, record_in_range, records_of_range}
+use Rattle.normalizer_records.proofs.RangeRecords.{IsOfRange, character, of_ranges, record_in_range, records_of_range}
 use Rattle.normalizer_records.proofs.RisingLemmas.{rising}
-use Rattle.normalizer_builder.specs.inner.Ranges.{IsSplit, ends_of, is_free, is_recorded, listed_of, rise_from, whole_range}
+use Rattle.normalizer_builder.specs.inner.Ranges.{IsSplit, ends_of, is_free, is_recorded, whole_range}
 
 -- a filter of what all passes, or of what none does
 filter_all : {X : Type 0} (q : X → Bool) (xs : List X) → All (λ x. q x ≡ true) xs → filter q xs ≡ xs
@@ -35,7 +36,7 @@ filter_same p q [] h = refl
 filter_same p q (x ∷ xs) h = rw (All-head (λ y. p y ≡ q y) x xs h) (ap (λ ys. cond (q x) (x ∷ ys) ys) (filter_same p q xs (All-tail (λ y. p y ≡ q y) x xs h)))
 
 -- what is known of a range that stays one
-record IsWhole (records : List RecordValue) (r : Uts46RangeValue) (ends : ℕ × ℕ) : Type 0 where
+pub record IsWhole (records : List RecordValue) (r : Uts46RangeValue) (ends : ℕ × ℕ) : Type 0 where
   status : r.status ≡ IsDisallowed
   first : ends.0 ≡ r.first
   last : ends.1 + 1 ≡ r.end
@@ -70,7 +71,7 @@ ends_are first end ends is = by _ refl is
         let last : end - 1 ≡ ends.1 = ap (λ (p : ℕ × ℕ). p.1) same in
         (sym (ap (λ (p : ℕ × ℕ). p.0) same), grind (arith, nat_tests))
 
-whole_is : (records : List RecordValue) (r : Uts46RangeValue) (ends : ℕ × ℕ) → whole_range records r ≡ Some ends → IsWhole records r ends
+pub whole_is : (records : List RecordValue) (r : Uts46RangeValue) (ends : ℕ × ℕ) → whole_range records r ≡ Some ends → IsWhole records r ends
 unfolding whole_range entry_of
 whole_is records r ends is = by _ refl is
   where
@@ -88,37 +89,29 @@ whole_is records r ends is = by _ refl is
           unfixed = λ n low high. free_unfixed r.first r.end n two.0 low high;
         }
 
--- in the first range, or in one of the others
-in_cons : (r : ℕ × ℕ) (ranges : List (ℕ × ℕ)) (n : ℕ) → is_in (r ∷ ranges) n ≡ ((nat_le r.0 n && nat_le n r.1) || is_in ranges n)
+-- two lists one after the other
+AllPairs-append : {X : Type 0} (R : X → X → Type 0) (xs ys : List X) → AllPairs R xs → AllPairs R ys → All (λ x. All (R x) ys) xs → AllPairs R (xs ++ ys)
+AllPairs-append R [] ys left right across = right
+AllPairs-append R (x ∷ xs) ys left right across =
+    AllPairs-cons R x (xs ++ ys) (All-append (R x) xs ys (λ k d within. left 0 (suc k) d (omega arith) (omega arith)) (All-head (λ z. All (R z) ys) x xs across))
+    (AllPairs-append R xs ys (λ i j d below within. left (suc i) (suc j) d (omega arith) (omega arith)) right (All-tail (λ z. All (R z) ys) x xs across))
+
+or_false : (b : Bool) → (b || false) ≡ b
+or_false true = refl
+or_false false = refl
+
+-- in one of the ranges, or in the last one
+in_push : (ranges : List (ℕ × ℕ)) (r : ℕ × ℕ) (n : ℕ) → is_in (ranges ++ r ∷ []) n ≡ (is_in ranges n || ((nat_le r.0 n && nat_le n r.1) || false))
 unfolding is_in
-in_cons r ranges n = refl
+in_push ranges r n = list_any-append (λ (s : ℕ × ℕ). nat_le s.0 n && nat_le n s.1) ranges (r ∷ [])
 
 module _ (records : List RecordValue) where
-  abbrev all_of : List Uts46RangeValue → List Uts46RecordValue
-  all_of ranges = flat_map entries_of ranges
-
-  abbrev others_of : List Uts46RangeValue → List Uts46RecordValue
-  others_of ranges = flat_map (listed_of records) ranges
-
-  abbrev whole_of : List Uts46RangeValue → List (ℕ × ℕ)
-  whole_of ranges = filter_map (whole_range records) ranges
-
-  -- what is known of the records of ranges from n on
-  record IsSplitFrom (n : ℕ) (all others : List Uts46RecordValue) (whole : List (ℕ × ℕ)) : Type 0 where
-    from : All (λ r. n ≤ r.c) all
-    late : (m : ℕ) → is_in whole m ≡ true → n ≤ m
-    kept : others ≡ filter (λ r. not (is_in whole r.c)) all
-    disallowed : All (λ r. is_in whole r.c ≡ true → r.status ≡ IsDisallowed) all
-    characters : All (λ r. IsScalar r.c) all
-    each : (m : ℕ) → IsScalar m → is_in whole m ≡ true → Contains all (record { c = m; status = IsDisallowed })
-    unrecorded : (m : ℕ) → is_in whole m ≡ true → entry_of records m ≡ None
-    unfixed : (m : ℕ) → is_in whole m ≡ true → is_fixed m ≡ false
-
-  none_split : (n : ℕ) → IsSplitFrom n [] [] []
+  pub none_split : IsSplit records [] [] [] 0
   unfolding is_in
-  none_split n = record {
-    from = All-nil (λ r. n ≤ r.c);
-    late = λ m is. absurd (true≢false (sym is));
+  none_split = record {
+    rising = λ i j d below within. absurd (omega arith);
+    before = All-nil (λ r. r.c < 0);
+    early = λ m is. absurd (true≢false (sym is));
     kept = refl;
     disallowed = All-nil (λ r. is_in [] r.c ≡ true → r.status ≡ IsDisallowed);
     characters = All-nil (λ r. IsScalar r.c);
@@ -127,136 +120,92 @@ module _ (records : List RecordValue) where
     unfixed = λ m is. absurd (true≢false (sym is));
   }
 
-  module _ (n : ℕ) (r : Uts46RangeValue) (later : n ≤ r.first) (some : r.first ≤ r.end) (all others : List Uts46RecordValue) (whole : List (ℕ × ℕ)) (rest : IsSplitFrom r.end all others whole) where
+  module _ (r : Uts46RangeValue) (all others : List Uts46RecordValue) (whole : List (ℕ × ℕ)) (end : ℕ) (so_far : IsSplit records all others whole end) (later : end ≤ r.first) (some : r.first ≤ r.end) where
     own : All (IsOfRange r.first r.end r.status) (entries_of r)
     own = records_of_range r some
 
-    from_here : All (λ x. n ≤ x.c) (entries_of r ++ all)
-    from_here = All-append (λ (x : Uts46RecordValue). n ≤ x.c) (entries_of r) all
-        (λ k d within. let low = (own k d within).low in omega arith) (λ k d within. let low = rest.from k d within in omega arith)
+    own_rise : AllPairs (λ x y. x.c < y.c) (entries_of r)
+    own_rise = subst (AllPairs (λ (x y : Uts46RecordValue). x.c < y.c)) (append-nil (entries_of r)) (rising character r.first r.end (entries_of r ++ []) (of_ranges r.first r.end (r ∷ []) (omega arith, some, omega arith)))
 
-    all_scalars : All (λ x. IsScalar x.c) (entries_of r ++ all)
-    all_scalars = All-append (λ (x : Uts46RecordValue). IsScalar x.c) (entries_of r) all (λ k d within. (own k d within).scalar) rest.characters
+    all_rise : AllPairs (λ x y. x.c < y.c) (all ++ entries_of r)
+    all_rise = AllPairs-append (λ (x y : Uts46RecordValue). x.c < y.c) all (entries_of r) so_far.rising own_rise
+        (λ k d within i e inside. let low = so_far.before k d within in let high = (own i e inside).low in omega arith)
 
-    -- none of a range's own characters is in the ranges after it
-    before : (m : ℕ) → m < r.end → is_in whole m ≡ false
-    before m high = false_from_ne_true _ (λ is. let low = rest.late m is in omega arith)
+    all_before : All (λ x. x.c < r.end) (all ++ entries_of r)
+    all_before = All-append (λ (x : Uts46RecordValue). x.c < r.end) all (entries_of r)
+        (λ k d within. let low = so_far.before k d within in omega arith) (λ k d within. (own k d within).high)
 
-    listed_split : IsSplitFrom n (entries_of r ++ all) (entries_of r ++ others) whole
+    all_scalars : All (λ x. IsScalar x.c) (all ++ entries_of r)
+    all_scalars = All-append (λ (x : Uts46RecordValue). IsScalar x.c) all (entries_of r) so_far.characters (λ k d within. (own k d within).scalar)
+
+    -- none of a range's own characters is in the ranges before it
+    apart : (m : ℕ) → r.first ≤ m → is_in whole m ≡ false
+    apart m low = false_from_ne_true _ (λ is. let high = so_far.early m is in omega arith)
+
+    pub listed_split : IsSplit records (all ++ entries_of r) (others ++ entries_of r) whole r.end
     listed_split = record {
-      from = from_here;
-      late = λ m is. (let low = rest.late m is in omega arith);
+      rising = all_rise;
+      before = all_before;
+      early = λ m is. (let high = so_far.early m is in omega arith);
       kept =
-          sym (filter-append (λ (x : Uts46RecordValue). not (is_in whole x.c)) (entries_of r) all
-          ∙ ap (λ xs. xs ++ filter (λ (x : Uts46RecordValue). not (is_in whole x.c)) all)
-          (filter_all (λ (x : Uts46RecordValue). not (is_in whole x.c)) (entries_of r) (λ k d within. ap not (before _ (own k d within).high)))
-          ∙ ap (λ xs. entries_of r ++ xs) (sym rest.kept));
-      disallowed = All-append (λ (x : Uts46RecordValue). is_in whole x.c ≡ true → x.status ≡ IsDisallowed) (entries_of r) all
-          (λ k d within is. absurd (true≢false (sym is ∙ before _ (own k d within).high))) rest.disallowed;
+          sym (filter-append (λ (x : Uts46RecordValue). not (is_in whole x.c)) all (entries_of r)
+          ∙ ap (λ xs. xs ++ filter (λ (x : Uts46RecordValue). not (is_in whole x.c)) (entries_of r)) (sym so_far.kept)
+          ∙ ap (λ xs. others ++ xs) (filter_all (λ (x : Uts46RecordValue). not (is_in whole x.c)) (entries_of r) (λ k d within. ap not (apart _ (own k d within).low))));
+      disallowed = All-append (λ (x : Uts46RecordValue). is_in whole x.c ≡ true → x.status ≡ IsDisallowed) all (entries_of r)
+          so_far.disallowed (λ k d within is. absurd (true≢false (sym is ∙ apart _ (own k d within).low)));
       characters = all_scalars;
-      each = λ m scalar is. Contains-append_right (entries_of r) all _ (rest.each m scalar is);
-      unrecorded = rest.unrecorded;
-      unfixed = rest.unfixed;
+      each = λ m scalar is. Contains-append_left all (entries_of r) _ (so_far.each m scalar is);
+      unrecorded = so_far.unrecorded;
+      unfixed = so_far.unfixed;
     }
 
     module _ (ends : ℕ × ℕ) (is_whole : IsWhole records r ends) where
-      in_own : (m : ℕ) → r.first ≤ m → m < r.end → is_in (ends ∷ whole) m ≡ true
-      in_own m low high = let first = is_whole.first in let last = is_whole.last in in_cons ends whole m ∙ (let b : (nat_le ends.0 m && nat_le m ends.1) ≡ true = grind (arith, nat_tests) in rw b refl)
+      in_own : (m : ℕ) → r.first ≤ m → m < r.end → is_in (whole ++ ends ∷ []) m ≡ true
+      in_own m low high = let first = is_whole.first in let last = is_whole.last in
+          in_push whole ends m ∙ (let b : (nat_le ends.0 m && nat_le m ends.1) ≡ true = grind (arith, nat_tests) in rw (apart m low, b) refl)
 
-      in_cases : (m : ℕ) → is_in (ends ∷ whole) m ≡ true → ((r.first ≤ m) × (m < r.end)) ⊎ (is_in whole m ≡ true)
-      in_cases m is = elim (cases_Bool (nat_le ends.0 m && nat_le m ends.1)) as (λ _. ((r.first ≤ m) × (m < r.end)) ⊎ (is_in whole m ≡ true)) [
-        | inl here ↦ (
-            let both = and_parts (nat_le ends.0 m) (nat_le m ends.1) here in
+      in_cases : (m : ℕ) → is_in (whole ++ ends ∷ []) m ≡ true → ((r.first ≤ m) × (m < r.end)) ⊎ (is_in whole m ≡ true)
+      in_cases m is = elim (cases_Bool (is_in whole m)) as (λ _. ((r.first ≤ m) × (m < r.end)) ⊎ (is_in whole m ≡ true)) [
+        | inl other ↦ inr other
+        | inr none ↦ (
             let first = is_whole.first in
             let last = is_whole.last in
+            let here : ((nat_le ends.0 m && nat_le m ends.1) || false) ≡ true = sym (in_push whole ends m ∙ rw none refl) ∙ is in
             let low : ends.0 ≤ m = grind (arith, nat_tests) in
             let high : m ≤ ends.1 = grind (arith, nat_tests) in
             inl (omega arith, omega arith))
-        | inr other ↦ inr (sym (in_cons ends whole m ∙ rw other refl) ∙ is)
       ]
 
-      in_later : (m : ℕ) → r.end ≤ m → is_in (ends ∷ whole) m ≡ is_in whole m
-      in_later m past = let last = is_whole.last in in_cons ends whole m ∙ (let b : (nat_le ends.0 m && nat_le m ends.1) ≡ false = grind (arith, nat_tests) in rw b refl)
+      in_earlier : (m : ℕ) → m < end → is_in (whole ++ ends ∷ []) m ≡ is_in whole m
+      in_earlier m below = let first = is_whole.first in
+          in_push whole ends m ∙ (let b : (nat_le ends.0 m && nat_le m ends.1) ≡ false = grind (arith, nat_tests) in rw b (or_false (is_in whole m)))
 
-      whole_split : IsSplitFrom n (entries_of r ++ all) others (ends ∷ whole)
+      pub whole_split : IsSplit records (all ++ entries_of r) others (whole ++ ends ∷ []) r.end
       whole_split = record {
-        from = from_here;
-        late = λ m is. elim (in_cases m is) as (λ _. n ≤ m) [ inl here ↦ (let low = here.0 in omega arith) | inr other ↦ (let low = rest.late m other in omega arith) ];
+        rising = all_rise;
+        before = all_before;
+        early = λ m is. elim (in_cases m is) as (λ _. m < r.end) [ inl here ↦ here.1 | inr other ↦ (let high = so_far.early m other in omega arith) ];
         kept =
-            sym (filter-append (λ (x : Uts46RecordValue). not (is_in (ends ∷ whole) x.c)) (entries_of r) all
-            ∙ ap (λ xs. xs ++ filter (λ (x : Uts46RecordValue). not (is_in (ends ∷ whole) x.c)) all)
-            (filter_none (λ (x : Uts46RecordValue). not (is_in (ends ∷ whole) x.c)) (entries_of r) (λ k d within. let o = own k d within in ap not (in_own _ o.low o.high)))
-            ∙ filter_same (λ (x : Uts46RecordValue). not (is_in (ends ∷ whole) x.c)) (λ x. not (is_in whole x.c)) all (λ k d within. ap not (in_later _ (rest.from k d within)))
-            ∙ sym rest.kept);
-        disallowed = All-append (λ (x : Uts46RecordValue). is_in (ends ∷ whole) x.c ≡ true → x.status ≡ IsDisallowed) (entries_of r) all
-            (λ k d within is. (own k d within).is ∙ is_whole.status)
-            (λ k d within is. rest.disallowed k d within (sym (in_later _ (rest.from k d within)) ∙ is));
+            so_far.kept ∙ sym (filter-append (λ (x : Uts46RecordValue). not (is_in (whole ++ ends ∷ []) x.c)) all (entries_of r)
+            ∙ ap (λ xs. filter (λ (x : Uts46RecordValue). not (is_in (whole ++ ends ∷ []) x.c)) all ++ xs)
+            (filter_none (λ (x : Uts46RecordValue). not (is_in (whole ++ ends ∷ []) x.c)) (entries_of r) (λ k d within. let o = own k d within in ap not (in_own _ o.low o.high)))
+            ∙ append-nil _
+            ∙ filter_same (λ (x : Uts46RecordValue). not (is_in (whole ++ ends ∷ []) x.c)) (λ x. not (is_in whole x.c)) all (λ k d within. ap not (in_earlier _ (so_far.before k d within))));
+        disallowed = All-append (λ (x : Uts46RecordValue). is_in (whole ++ ends ∷ []) x.c ≡ true → x.status ≡ IsDisallowed) all (entries_of r)
+            (λ k d within is. so_far.disallowed k d within (sym (in_earlier _ (so_far.before k d within)) ∙ is))
+            (λ k d within is. (own k d within).is ∙ is_whole.status);
         characters = all_scalars;
-        each = λ m scalar is. elim (in_cases m is) as (λ _. Contains (entries_of r ++ all) (record { c = m; status = IsDisallowed })) [
-          | inl here ↦ Contains-append_left (entries_of r) all _ (subst (λ (s : Status). Contains (entries_of r) (record { c = m; status = s })) is_whole.status (record_in_range r m here.0 here.1 scalar))
-          | inr other ↦ Contains-append_right (entries_of r) all _ (rest.each m scalar other)
+        each = λ m scalar is. elim (in_cases m is) as (λ _. Contains (all ++ entries_of r) (record { c = m; status = IsDisallowed })) [
+          | inl here ↦ Contains-append_right all (entries_of r) _ (subst (λ (s : Status). Contains (entries_of r) (record { c = m; status = s })) is_whole.status (record_in_range r m here.0 here.1 scalar))
+          | inr other ↦ Contains-append_left all (entries_of r) _ (so_far.each m scalar other)
         ];
-        unrecorded = λ m is. elim (in_cases m is) as (λ _. entry_of records m ≡ None) [ inl here ↦ is_whole.unrecorded m here.0 here.1 | inr other ↦ rest.unrecorded m other ];
-        unfixed = λ m is. elim (in_cases m is) as (λ _. is_fixed m ≡ false) [ inl here ↦ is_whole.unfixed m here.0 here.1 | inr other ↦ rest.unfixed m other ];
+        unrecorded = λ m is. elim (in_cases m is) as (λ _. entry_of records m ≡ None) [ inl here ↦ is_whole.unrecorded m here.0 here.1 | inr other ↦ so_far.unrecorded m other ];
+        unfixed = λ m is. elim (in_cases m is) as (λ _. is_fixed m ≡ false) [ inl here ↦ is_whole.unfixed m here.0 here.1 | inr other ↦ so_far.unfixed m other ];
       }
 
-    one_more : IsSplitFrom n (entries_of r ++ all) (listed_of records r ++ others) (cons_option (whole_range records r) whole)
-    one_more = by (whole_range records r) refl
-      where
-        by : (o : Option (ℕ × ℕ)) → whole_range records r ≡ o →
-            IsSplitFrom n (entries_of r ++ all) (elim o as (λ _. List Uts46RecordValue) [ Some ends ↦ [] | None ↦ entries_of r ] ++ others) (cons_option o whole)
-        by None is = listed_split
-        by (Some ends) is = whole_split ends (whole_is records r ends is)
-
-  parts_of_rise : (n : ℕ) (r : Uts46RangeValue) (ranges : List Uts46RangeValue) → rise_from n (r ∷ ranges) ≡ true → (n ≤ r.first) × (r.first ≤ r.end) × (rise_from r.end ranges ≡ true)
-  unfolding rise_from
-  parts_of_rise n r ranges h =
-      let one = and_parts (nat_le n r.first) _ h in
-      let two = and_parts (nat_le r.first r.end) _ one.1 in
-      let low : n ≤ r.first = (let e = one.0 in grind (arith, nat_tests)) in
-      let high : r.first ≤ r.end = (let e = two.0 in grind (arith, nat_tests)) in
-      (low, high, two.1)
-
-  split_from : (n : ℕ) (ranges : List Uts46RangeValue) → rise_from n ranges ≡ true → IsSplitFrom n (all_of ranges) (others_of ranges) (whole_of ranges)
-  split_from n [] h = none_split n
-  split_from n (r ∷ ranges) h =
-      let parts = parts_of_rise n r ranges h in
-      one_more n r parts.0 parts.1 (all_of ranges) (others_of ranges) (whole_of ranges) (split_from r.end ranges parts.2)
-
-  ranges_rise : (n : ℕ) (ranges : List Uts46RangeValue) → rise_from n ranges ≡ true → (m : ℕ) × AreRanges n m ranges
-  ranges_rise n [] h = (n, omega arith)
-  ranges_rise n (r ∷ ranges) h =
-      let parts = parts_of_rise n r ranges h in
-      let rest = ranges_rise r.end ranges parts.2 in
-      (rest.0, (parts.0, parts.1, rest.1))
-
-  -- all records of ranges that rise
-  pub ranges_split : (ranges : List Uts46RangeValue) → rise_from 0 ranges ≡ true → IsSplit records (all_of ranges) (others_of ranges) (whole_of ranges)
-  ranges_split ranges h =
-      let s = split_from 0 ranges h in
-      let within = ranges_rise 0 ranges h in
-      record {
-        rising = rising character 0 within.0 (all_of ranges) (of_ranges 0 within.0 ranges within.1);
-        kept = s.kept;
-        disallowed = s.disallowed;
-        characters = s.characters;
-        each = s.each;
-        unrecorded = s.unrecorded;
-        unfixed = s.unfixed;
-      }
-
--- one step of a loop that appends what each element gives
-pub flat_map-step : {X A : Type 0} (f : X → List A) (xs : List X) (i : ℕ) (x : X) (new old : List A) → i < length xs → x ≡ get_or xs i x → new ≡ old ++ f x → old ≡ flat_map f (take i xs) → new ≡ flat_map f (take (i + 1) xs)
-flat_map-step {X} {A} f xs i x new old within here is so_far =
+-- what the first elements give, and one more
+pub flat_map-next : {X A : Type 0} (f : X → List A) (xs : List X) (i : ℕ) (x : X) → i < length xs → x ≡ get_or xs i x → flat_map f (take (i + 1) xs) ≡ flat_map f (take i xs) ++ f x
+flat_map-next {X} {A} f xs i x within here =
     let next : suc i ≡ i + 1 = omega arith in
-    subst (λ (n : ℕ). new ≡ flat_map f (take n xs)) next
-    (is ∙ ap (λ ys. ys ++ f x) so_far
-    ∙ sym (ap (flat_map f) (take-suc xs i x within) ∙ flat_map-append f (take i xs) (get_or xs i x ∷ []) ∙ ap (λ ys. flat_map f (take i xs) ++ ys) (append-nil (f (get_or xs i x)) ∙ ap f (sym here))))
-
-pub filter_map-step : {X A : Type 0} (h : X → Option A) (xs : List X) (i : ℕ) (x : X) (new old : List A) → i < length xs → x ≡ get_or xs i x → new ≡ old ++ cons_option (h x) [] → old ≡ filter_map h (take i xs) →
-    new ≡ filter_map h (take (i + 1) xs)
-filter_map-step {X} {A} h xs i x new old within here is so_far =
-    let next : suc i ≡ i + 1 = omega arith in
-    subst (λ (n : ℕ). new ≡ filter_map h (take n xs)) next
-    (is ∙ ap (λ ys. ys ++ cons_option (h x) []) so_far
-    ∙ sym (ap (filter_map h) (take-suc xs i x within) ∙ filter_map-append h (take i xs) (get_or xs i x ∷ []) ∙ ap (λ y. filter_map h (take i xs) ++ cons_option (h y) []) (sym here)))
+    subst (λ (n : ℕ). flat_map f (take n xs) ≡ flat_map f (take i xs) ++ f x) next
+    (ap (flat_map f) (take-suc xs i x within) ∙ flat_map-append f (take i xs) (get_or xs i x ∷ []) ∙ ap (λ ys. flat_map f (take i xs) ++ ys) (append-nil (f (get_or xs i x)) ∙ ap f (sym here)))

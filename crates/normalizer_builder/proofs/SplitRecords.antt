@@ -1,16 +1,18 @@
 -- Records of the mapper of which some are ranges beside the others: no refusal holds of all, and all entries are those of
 -- the others and those of the ranges.
-use Rattle.std.proofs.Common.{◌≡◌, ◌∙◌, ◌⊎◌, inl, inr, ℕ, zero, suc, ◌+◌, ◌<◌, ◌==◌, Bool, true, false, not, cond, nat_lt, List, [], ◌∷◌, filter, find, get_or, map, All, AllPairs, Contains, Option}
+use Rattle.std.proofs.Common.{◌≡◌, ◌∙◌, ◌⊎◌, inl, inr, ℕ, zero, suc, ◌+◌, ◌<◌, ◌≤◌, ◌==◌, Bool, true, false, not, cond, nat_lt, List, [], ◌∷◌, filter, find, get_or, map, All, Contains, Option}
 use Rattle.std.proofs.Common.{Some, None, refl, sym, ap, subst, arith, eqb-true, eq-eqb, unwrap_or, IfSome, IsSomeAnd, if◌then◌else◌}
 use Rattle.std.specs.Char.{IsScalar}
-use Rattle.std.specs.List.{list_any}
+use Rattle.std.specs.List.{list_any, range_with_len, sum_by}
 use Rattle.std.specs.List.Sorted.{IsStrictlyIncreasing}
 use Rattle.std.specs.Option.{option_map}
 use Rattle.std.proofs.lemmas.Bool.{cases_Bool, false_from_ne_true, not-false, not-true, or_parts, true≢false}
-use Rattle.std.proofs.lemmas.Bool.Decides.{nat_tests}
 use Rattle.std.proofs.lemmas.List.Elements.{All-cons, All-contains, All-contains_itself, All-filter, All-head, All-map, All-nil, All-tail, Contains-append_cases, Contains-append_left, Contains-append_right, filter_passes}
-use Rattle.std.proofs.lemmas.List.Folds.{list_any_none}
-use Rattle.std.proofs.lemmas.List.Kept.{AllPairs-cons, AllPairs-filter, AllPairs-from_increasing}
+use Rattle.std.proofs.lemmas.List.Folds.{list_any_at, list_any_none}
+use Rattle.std.proofs.lemmas.List.FromFn.{get_or-range_with_len, length-range_with_len}
+use Rattle.std.proofs.lemmas.List.Kept.{AllPairs-from_increasing, IsStrictlyIncreasing-filter}
+use Rattle.std.proofs.lemmas.List.Sums.{get_or-le-sum_by}
+use Rattle.std.proofs.lemmas.Map.Views.{Contains-from_any}
 use Rattle.normalizer_tables.specs.Entries.{EntryValue}
 use Rattle.normalizer_tables.specs.Pairs.{Pair}
 use Rattle.normalizer_tables.specs.declared.step.Step.TheVariants.{Default}
@@ -29,7 +31,7 @@ use Rattle.normalizer_records.specs.RecordValue.{RecordValue, Uts46RecordValue, 
 use Rattle.normalizer_records.specs.Faults.{HasClassFault, HasFault, HasLengthFault, HasLongList, HasLongOwnList, HasOrderFault, HasWrongClass, HasWrongOwnClass, IsAsked, IsFirstRefusal, IsTooLong, IsWrong, faults, has_fixed_fault, has_mapping_fault, is_bad_mapping}
 use Rattle.normalizer_records.specs.Faults.{is_bad_status, is_fixed, is_fixed_for_mapper}
 use Rattle.normalizer_records.specs.Meaning.{canonical_list, canonical_mapping_of, class_of, compatibility_list, entry_of, full_list, list_of_status, mapped_list, mapper_list, status_of}
-use Rattle.normalizer_records.specs.Recorded.{AreExpanded, AreMadeOf, IsOfCharacters, entry_for, recorded_characters, recorded_step}
+use Rattle.normalizer_records.specs.Recorded.{AreExpanded, AreMadeOf, IsOfCharacters, ListsCharacters, entry_for, recorded_characters, recorded_step}
 use Rattle.normalizer_records.proofs.record_faults.RefusalLemmas.{unrefused as no_refusal}
 use Rattle.normalizer_builder.specs.Building.{Builds}
 use Rattle.normalizer_builder.specs.Built.{data_in}
@@ -79,81 +81,43 @@ made_of f (x ∷ xs) y (zero, within, is) = (x, (0, omega arith, refl), is)
 made_of f (x ∷ xs) y (suc k, within, is) =
     let rest = made_of f xs y (k, omega arith, is) in (rest.0, Contains-append_right (x ∷ []) xs rest.0 rest.1, rest.2)
 
+-- what is listed is found
+listed_found : {X : Type 0} (number : X → ℕ) (xs : List X) (n : ℕ) → Contains (map number xs) n → find (λ x. number x == n) xs ≡ None → ⊥
+listed_found number xs n there none = elim (find-tells (λ x. number x == n) xs) as (λ _. ⊥) [
+  | inl missing ↦ (let one = made_of number xs n there in true≢false (sym (eq-eqb _ _ one.2) ∙ All-contains (λ x. (number x == n) ≡ false) xs one.0 missing.1 one.1))
+  | inr some ↦ (let both : Some some.0 ≡ None = sym some.1 ∙ none in absurd cc)
+]
+
 -- numbers in order, each once
-record IsOrderOf (xs ys : List ℕ) : Type 0 where
-  all : All (Contains ys) xs
-  only : All (Contains xs) ys
-  rise : AllPairs (λ a b. a < b) ys
+module _ (xs : List ℕ) where
+  abbrev numbers : List ℕ
+  numbers = range_with_len 0 (suc (sum_by (λ n. n) xs))
 
-abbrev put : ℕ → List ℕ → List ℕ
-put x [] = x ∷ []
-put x (y ∷ ys) = if nat_lt x y then x ∷ y ∷ ys else if x == y then y ∷ ys else y ∷ put x ys
+  abbrev is_listed : ℕ → Bool
+  is_listed n = list_any (λ m. n == m) xs
 
-abbrev ordered : List ℕ → List ℕ
-ordered [] = []
-ordered (x ∷ xs) = put x (ordered xs)
+  abbrev ordered : List ℕ
+  ordered = filter is_listed numbers
 
-put_all : (P : ℕ → Type 0) (x : ℕ) (ys : List ℕ) → P x → All P ys → All P (put x ys)
-put_all P x [] h all = All-cons P x [] h all
-put_all P x (y ∷ ys) h all = elim (nat_lt x y) as (λ b. All P (cond b (x ∷ y ∷ ys) (cond (x == y) (y ∷ ys) (y ∷ put x ys)))) [
-  | true ↦ All-cons P x (y ∷ ys) h all
-  | false ↦ elim (x == y) as (λ b. All P (cond b (y ∷ ys) (y ∷ put x ys))) [
-    | true ↦ all
-    | false ↦ All-cons P y (put x ys) (All-head P y ys all) (put_all P x ys h (All-tail P y ys all))
-  ]
-]
+  in_numbers : (n : ℕ) → n ≤ sum_by (λ m. m) xs → Contains numbers n
+  in_numbers n le = (n, omega (arith, length-range_with_len 0 (suc (sum_by (λ m. m) xs))), omega (arith, get_or-range_with_len 0 (suc (sum_by (λ m. m) xs)) n n (omega arith)))
 
--- what is put is there, and all others still are
-put_there : (x : ℕ) (ys : List ℕ) → Contains (put x ys) x × All (Contains (put x ys)) ys
-put_there x [] = ((0, omega arith, refl), All-nil (Contains (x ∷ [])))
-put_there x (y ∷ ys) = elim (nat_lt x y) as (λ b. Contains (cond b (x ∷ y ∷ ys) (cond (x == y) (y ∷ ys) (y ∷ put x ys))) x × All (Contains (cond b (x ∷ y ∷ ys) (cond (x == y) (y ∷ ys) (y ∷ put x ys)))) (y ∷ ys)) [
-  | true ↦ ((0, omega arith, refl), λ k d within. Contains-append_right (x ∷ []) (y ∷ ys) _ (All-contains_itself (y ∷ ys) k d within))
-  | false ↦ elim (x == y) as (λ b. x == y ≡ b → Contains (cond b (y ∷ ys) (y ∷ put x ys)) x × All (Contains (cond b (y ∷ ys) (y ∷ put x ys))) (y ∷ ys)) [
-    | true ↦ λ same. ((0, omega arith, sym (eqb-true _ _ same)), All-contains_itself (y ∷ ys))
-    | false ↦ λ _. (
-        let rest = put_there x ys in (
-          Contains-append_right (y ∷ []) (put x ys) x rest.0,
-          All-cons (Contains (y ∷ put x ys)) y ys (0, omega arith, refl) (λ k d within. Contains-append_right (y ∷ []) (put x ys) _ (rest.1 k d within)),
-        ))
-  ] refl
-]
+  all_ordered : All (Contains ordered) xs
+  all_ordered k d within =
+      let n = get_or xs k d in
+      All-contains (λ m. is_listed m ≡ true → Contains ordered m) numbers n (Contains-filter is_listed numbers)
+      (in_numbers n (get_or-le-sum_by (λ m. m) xs k d within)) (list_any_at (λ m. n == m) xs k d within (eq-eqb n n refl))
 
-put_rises : (x : ℕ) (ys : List ℕ) → AllPairs (λ a b. a < b) ys → AllPairs (λ a b. a < b) (put x ys)
-put_rises x [] rise = AllPairs-cons (λ a b. a < b) x [] (All-nil (λ b. x < b)) rise
-put_rises x (y ∷ ys) rise =
-    let first : All (λ b. y < b) ys = λ k d within. rise 0 (suc k) d (omega arith) (omega arith) in
-    let rest : AllPairs (λ a b. a < b) ys = λ i j d below within. rise (suc i) (suc j) d (omega arith) (omega arith) in
-    elim (cases_Bool (nat_lt x y)) as (λ _. AllPairs (λ a b. a < b) (put x (y ∷ ys))) [
-      | inl less ↦ rw less (
-          let below : x < y = grind (arith, nat_tests) in
-          AllPairs-cons (λ a b. a < b) x (y ∷ ys) (All-cons (λ b. x < b) y ys below (λ k d within. let later = first k d within in omega arith)) rise)
-      | inr more ↦ elim (cases_Bool (x == y)) as (λ _. AllPairs (λ a b. a < b) (put x (y ∷ ys))) [
-        | inl same ↦ rw (more, same) rise
-        | inr other ↦ rw (more, other) (
-            let above : y < x = grind (arith, nat_tests) in
-            AllPairs-cons (λ a b. a < b) y (put x ys) (put_all (λ b. y < b) x ys above first) (put_rises x ys rest))
-      ]
-    ]
+  ordered_only : All (Contains xs) ordered
+  ordered_only k d within = Contains-from_any {K = ℕ} {eq = λ n m. n == m} (λ n m same. eqb-true n m same) (get_or ordered k d) xs (filter_passes is_listed numbers k d within)
 
-order_of : (xs : List ℕ) → IsOrderOf xs (ordered xs)
-order_of [] = record { all = All-nil (Contains []); only = All-nil (Contains []); rise = λ i j d below within. absurd (omega arith) }
-order_of (x ∷ xs) =
-    let rest = order_of xs in
-    let there = put_there x (ordered xs) in
-    record {
-      all = All-cons (Contains (put x (ordered xs))) x xs there.0 (λ k d within. All-contains (Contains (put x (ordered xs))) (ordered xs) _ there.1 (rest.all k d within));
-      only = put_all (Contains (x ∷ xs)) x (ordered xs) (0, omega arith, refl) (λ k d within. Contains-append_right (x ∷ []) xs _ (rest.only k d within));
-      rise = put_rises x (ordered xs) rest.rise;
-    }
+  ordered_rises : IsStrictlyIncreasing ordered
+  ordered_rises = IsStrictlyIncreasing-filter is_listed numbers (λ k within.
+      let last = length-range_with_len 0 (suc (sum_by (λ m. m) xs)) in
+      let one = get_or-range_with_len 0 (suc (sum_by (λ m. m) xs)) k 0 (omega arith) in
+      let next = get_or-range_with_len 0 (suc (sum_by (λ m. m) xs)) (k + 1) 0 (omega arith) in omega arith)
 
-increasing : (ys : List ℕ) → AllPairs (λ a b. a < b) ys → IsStrictlyIncreasing ys
-increasing ys rise k within = rise k (k + 1) _ (omega arith) within
-
-entry_of-find : (records : List RecordValue) (n : ℕ) → find (λ r. r.c == n) records ≡ entry_of records n
-unfolding entry_of
-entry_of-find records n = refl
-
-module _ (records : List RecordValue) (uts46 others : List Uts46RecordValue) (ranges : List (ℕ × ℕ)) (split : IsSplit records uts46 others ranges) (none : IsFirstRefusal records others None) where
+module _ (records : List RecordValue) (uts46 others : List Uts46RecordValue) (ranges : List (ℕ × ℕ)) (end : ℕ) (split : IsSplit records uts46 others ranges end) (none : IsFirstRefusal records others None) where
   abbrev stays : Uts46RecordValue → Bool
   stays r = not (is_in ranges r.c)
 
@@ -169,10 +133,10 @@ module _ (records : List RecordValue) (uts46 others : List Uts46RecordValue) (ra
   status-apart n h = sym (ap (option_map (λ (r : Uts46RecordValue). r.status)) (ap (find (λ (r : Uts46RecordValue). r.c == n)) split.kept
       ∙ find-filter (λ (r : Uts46RecordValue). r.c == n) stays uts46 (λ r same. ap apart (eqb-true _ _ same) ∙ ap not h)))
 
-  status-in : (n : ℕ) → is_in ranges n ≡ true → (status_of uts46 n ≡ None) ⊎ (status_of uts46 n ≡ Some IsDisallowed)
+  status-in : (n : ℕ) → is_in ranges n ≡ true → (find (λ (r : Uts46RecordValue). r.c == n) uts46 ≡ None) ⊎ (status_of uts46 n ≡ Some IsDisallowed)
   unfolding status_of
-  status-in n is = elim (find-tells {X = Uts46RecordValue} (λ r. r.c == n) uts46) as (λ _. (status_of uts46 n ≡ None) ⊎ (status_of uts46 n ≡ Some IsDisallowed)) [
-    | inl missing ↦ inl (ap (option_map (λ (r : Uts46RecordValue). r.status)) missing.0)
+  status-in n is = elim (find-tells {X = Uts46RecordValue} (λ r. r.c == n) uts46) as (λ _. (find (λ (r : Uts46RecordValue). r.c == n) uts46 ≡ None) ⊎ (status_of uts46 n ≡ Some IsDisallowed)) [
+    | inl missing ↦ inl missing.0
     | inr some ↦ inr (
         let same : some.0.c ≡ n = eqb-true _ _ some.3 in
         ap (option_map (λ (r : Uts46RecordValue). r.status)) some.1
@@ -188,9 +152,9 @@ module _ (records : List RecordValue) (uts46 others : List Uts46RecordValue) (ra
       ∙ ap (λ b. if b then hangul_decomposition n else n ∷ []) (unfixed_syllable n (split.unfixed n is))
 
   mapper-in : (n : ℕ) → is_in ranges n ≡ true → (mapper_list records uts46 n ≡ Some (n ∷ [])) ⊎ (mapper_list records uts46 n ≡ Some (0xFFFD ∷ []))
-  unfolding mapper_list mapped_list list_of_status
+  unfolding mapper_list mapped_list list_of_status status_of
   mapper-in n is = elim (status-in n is) as (λ _. (mapper_list records uts46 n ≡ Some (n ∷ [])) ⊎ (mapper_list records uts46 n ≡ Some (0xFFFD ∷ []))) [
-    | inl missing ↦ inl (ap (mapped_list records n) missing ∙ ap Some (list-in Canonical n is))
+    | inl missing ↦ inl (ap (mapped_list records n) (ap (option_map (λ (r : Uts46RecordValue). r.status)) missing) ∙ ap Some (list-in Canonical n is))
     | inr found ↦ inr (ap (mapped_list records n) found)
   ]
 
@@ -315,25 +279,16 @@ module _ (records : List RecordValue) (uts46 others : List Uts46RecordValue) (ra
 
   -- a character in ranges that has a record is disallowed
   mapper-recorded : (n : ℕ) → is_in ranges n ≡ true → Contains (map (λ (r : Uts46RecordValue). r.c) uts46) n → mapper_list records uts46 n ≡ Some (0xFFFD ∷ [])
-  unfolding mapper_list mapped_list list_of_status status_of
-  mapper-recorded n is there = elim (find-tells {X = Uts46RecordValue} (λ r. r.c == n) uts46) as (λ _. mapper_list records uts46 n ≡ Some (0xFFFD ∷ [])) [
-    | inl missing ↦ (
-        let one = made_of (λ (r : Uts46RecordValue). r.c) uts46 n there in
-        absurd (true≢false (sym (eq-eqb _ _ one.2) ∙ All-contains (λ (r : Uts46RecordValue). (r.c == n) ≡ false) uts46 one.0 missing.1 one.1)))
-    | inr some ↦ (
-        let same : some.0.c ≡ n = eqb-true _ _ some.3 in
-        ap (mapped_list records n) (ap (option_map (λ (r : Uts46RecordValue). r.status)) some.1
-        ∙ ap Some (All-contains (λ (r : Uts46RecordValue). is_in ranges r.c ≡ true → r.status ≡ IsDisallowed) uts46 some.0 split.disallowed some.2 (ap (is_in ranges) same ∙ is))))
+  unfolding mapper_list mapped_list list_of_status
+  mapper-recorded n is there = elim (status-in n is) as (λ _. mapper_list records uts46 n ≡ Some (0xFFFD ∷ [])) [
+    | inl missing ↦ absurd (listed_found (λ (r : Uts46RecordValue). r.c) uts46 n there missing)
+    | inr found ↦ ap (mapped_list records n) found
   ]
 
   -- which of the two kinds of records are of n
   unrecorded_in : (n : ℕ) → is_in ranges n ≡ true → Contains (map (λ (r : RecordValue). r.c) records) n → ⊥
-  unrecorded_in n is there =
-      let one = made_of (λ (r : RecordValue). r.c) records n there in
-      elim (find-tells {X = RecordValue} (λ r. r.c == n) records) as (λ _. ⊥) [
-        | inl missing ↦ true≢false (sym (eq-eqb _ _ one.2) ∙ All-contains (λ (r : RecordValue). (r.c == n) ≡ false) records one.0 missing.1 one.1)
-        | inr some ↦ (let none_found : Some some.0 ≡ None = sym some.1 ∙ entry_of-find records n ∙ split.unrecorded n is in absurd cc)
-      ]
+  unfolding entry_of
+  unrecorded_in n is there = listed_found (λ (r : RecordValue). r.c) records n there (split.unrecorded n is)
 
   other_recorded : (n : ℕ) → is_in ranges n ≡ false → Contains (map (λ (r : Uts46RecordValue). r.c) uts46) n → Contains (map (λ (r : Uts46RecordValue). r.c) others) n
   other_recorded n h there =
@@ -355,8 +310,8 @@ module _ (records : List RecordValue) (uts46 others : List Uts46RecordValue) (ra
   abbrev characters : List ℕ
   characters = ordered (recorded_characters records uts46)
 
-  order : IsOrderOf (recorded_characters records uts46) characters
-  order = order_of (recorded_characters records uts46)
+  order : ListsCharacters records uts46 characters
+  order = record { all = all_ordered (recorded_characters records uts46); recorded = ordered_only (recorded_characters records uts46); rising = ordered_rises (recorded_characters records uts46) }
 
   there : (n : ℕ) → Contains (recorded_characters records uts46) n → Contains characters n
   there n recorded = All-contains (Contains characters) (recorded_characters records uts46) n order.all recorded
@@ -367,7 +322,7 @@ module _ (records : List RecordValue) (uts46 others : List Uts46RecordValue) (ra
   -- a character in ranges has a record of the mapper's
   in_mapper : (n : ℕ) → is_in ranges n ≡ true → Contains characters n → Contains (map (λ (r : Uts46RecordValue). r.c) uts46) n
   in_mapper n is listed = elim (Contains-append_cases (map (λ (r : RecordValue). r.c) records) (map (λ (r : Uts46RecordValue). r.c) uts46) n
-      (All-contains (Contains (recorded_characters records uts46)) characters n order.only listed)) as (λ _. Contains (map (λ (r : Uts46RecordValue). r.c) uts46) n) [
+      (All-contains (Contains (recorded_characters records uts46)) characters n order.recorded listed)) as (λ _. Contains (map (λ (r : Uts46RecordValue). r.c) uts46) n) [
         | inl recorded ↦ absurd (unrecorded_in n is recorded)
         | inr mapped ↦ mapped
       ]
@@ -391,20 +346,20 @@ module _ (records : List RecordValue) (uts46 others : List Uts46RecordValue) (ra
         let is = not-true (is_in ranges n) (All-contains (λ m. apart m ≡ true) (filter apart characters) n (filter_passes apart characters) listed) in
         let was = All-contains (Contains characters) (filter apart characters) n (All-filter apart (Contains characters) characters (All-contains_itself characters)) listed in
         elim (Contains-append_cases (map (λ (r : RecordValue). r.c) records) (map (λ (r : Uts46RecordValue). r.c) uts46) n
-        (All-contains (Contains (recorded_characters records uts46)) characters n order.only was)) as (λ _. Contains some_characters n) [
+        (All-contains (Contains (recorded_characters records uts46)) characters n order.recorded was)) as (λ _. Contains some_characters n) [
           | inl recorded ↦ All-contains (Contains some_characters) _ n e.made.listed.all (Contains-append_left _ (map (λ (r : Uts46RecordValue). r.c) others) n recorded)
           | inr mapped ↦ All-contains (Contains some_characters) _ n e.made.listed.all (Contains-append_right (map (λ (r : RecordValue). r.c) records) _ n (other_recorded n is mapped))
         ]
 
     same_characters : some_characters ≡ filter apart characters
     same_characters = same_members {X = ℕ} (λ a b. a < b) (λ a b below above. omega arith) some_characters (filter apart characters)
-        (AllPairs-from_increasing some_characters e.made.listed.rising) (AllPairs-filter (λ a b. a < b) apart characters order.rise) to_kept from_kept
+        (AllPairs-from_increasing some_characters e.made.listed.rising) (AllPairs-from_increasing (filter apart characters) (IsStrictlyIncreasing-filter apart characters order.rising)) to_kept from_kept
 
     abbrev all_entries : List EntryValue
     all_entries = map (entry_for records uts46) characters
 
     made : AreMadeOf records uts46 all_entries
-    made = record { characters = characters; listed = record { all = order.all; recorded = order.only; rising = increasing characters order.rise }; made = refl }
+    made = record { characters = characters; listed = order; made = refl }
 
     apart_is : (n : ℕ) → apart n ≡ true → is_in ranges n ≡ false
     apart_is n h = not-true (is_in ranges n) h
@@ -464,10 +419,10 @@ module _ (records : List RecordValue) (uts46 others : List Uts46RecordValue) (ra
         (record { entries = all_entries; pairs = pairs; made = made; same_pairs = e.same_pairs; rising_pairs = e.rising_pairs; packs = packs_all ranges entries all_entries pairs p packs beside })
         are_of_characters fit
 
-module _ (records : List RecordValue) (uts46 others : List Uts46RecordValue) (ranges : List (ℕ × ℕ)) (split : IsSplit records uts46 others ranges) (entries : List EntryValue) (pairs : List Pair)
+module _ (records : List RecordValue) (uts46 others : List Uts46RecordValue) (ranges : List (ℕ × ℕ)) (end : ℕ) (split : IsSplit records uts46 others ranges end) (entries : List EntryValue) (pairs : List Pair)
     (e : AreExpanded records others entries pairs) where
   -- what fits is built
   pub Builds-fit : (p : Packed) → PacksBeside ranges entries pairs p → (o : Option Built) → IfSome o (λ b. (data_in b ≡ p) × IsFirstUnmet records p None) →
       IfSome o (λ b. Builds records uts46 (data_in b))
   Builds-fit p packs None h = tt
-  Builds-fit p packs (Some b) h = subst (Builds records uts46) (sym h.0) (Builds-split records uts46 others ranges split e.unrefused entries pairs e p packs h.1)
+  Builds-fit p packs (Some b) h = subst (Builds records uts46) (sym h.0) (Builds-split records uts46 others ranges end split e.unrefused entries pairs e p packs h.1)

@@ -1,8 +1,7 @@
 //! Builds data from records, those of the mapper by ranges.
-#![tactic(auto, unfolding(crate::specs::Building::IsSmallest, crate::specs::inner::Ranges::rise_from, crate::specs::inner::Ranges::is_free, crate::specs::inner::Ranges::is_recorded, crate::specs::inner::Ranges::ends_of, crate::specs::inner::Ranges::whole_range))]
+#![tactic(auto, unfolding(crate::specs::Building::IsSmallest, crate::specs::inner::Ranges::is_free, crate::specs::inner::Ranges::is_recorded, crate::specs::inner::Ranges::ends_of, crate::specs::inner::Ranges::whole_range))]
 
-ghost use Rattle.std.specs.Prelude.{◌≡◌, ◌++◌, List, [], None, IfOk, OnOk, IfSome, MatchResult, filter_map, flat_map};
-ghost use Rattle.std.specs.List.{cons_option};
+ghost use Rattle.std.specs.Prelude.{◌≡◌, ◌≤◌, ◌++◌, ℕ, List, None, IfOk, OnOk, IfSome, MatchResult, flat_map};
 ghost use Rattle.normalizer_records.specs.Faults.{AreRising};
 ghost use Rattle.normalizer_records.specs.RecordValue.{Uts46RecordValue};
 ghost use Rattle.normalizer_records.specs.Ranges.{entries_of};
@@ -16,8 +15,6 @@ ghost use Rattle.normalizer_builder.specs.inner.Ranges.{
   is_free,
   is_recorded,
   IsSplit,
-  listed_of,
-  rise_from,
   whole_range,
 };
 
@@ -64,11 +61,10 @@ fn built_of_ranges(
     ensures { IfOk result (λ o. IfSome o (λ b.
         Builds records.now (flat_map entries_of ranges.now) (data_in b))) }
 {
-    if !rise(ranges) {
-        return Ok(None);
+    match parts_of(alloc, records, ranges)? {
+        Some(parts) => built_of_parts(alloc, records, &parts),
+        None => Ok(None),
     }
-    let parts = parts_of(alloc, records, ranges)?;
-    built_of_parts(alloc, records, &parts)
 }
 
 /// The mapper's records that aren't in ranges, and ranges of disallowed characters, each from its first to its last
@@ -85,8 +81,8 @@ fn built_of_parts(
     records: &[Record],
     parts: &Parts,
 ) -> Result<Option<Built>, AllocError>
-    ensures { (all : List Uts46RecordValue) →
-        IsSplit records.now all parts.now.others.items parts.now.disallowed.items →
+    ensures { (all : List Uts46RecordValue) (end : ℕ) →
+        IsSplit records.now all parts.now.others.items parts.now.disallowed.items end →
         IfOk result (λ o. IfSome o (λ b. Builds records.now all (data_in b))) }
 {
     match expanded(alloc, records, &parts.others) {
@@ -110,9 +106,9 @@ fn built_beside(
 ) -> Result<Option<Built>, AllocError>
     requires { (others : List Uts46RecordValue) ×
         AreExpanded records.now others expanded.entries.items expanded.pairs.items }
-    ensures { (all others : List Uts46RecordValue) →
+    ensures { (all others : List Uts46RecordValue) (end : ℕ) →
         AreExpanded records.now others expanded.entries.items expanded.pairs.items →
-        IsSplit records.now all others disallowed.now →
+        IsSplit records.now all others disallowed.now end →
         IfOk result (λ o. IfSome o (λ b. Builds records.now all (data_in b))) }
 {
     let ExpandedRecords { entries, pairs } = expanded;
@@ -134,30 +130,26 @@ fn fit(records: &[Record], packed: Packed) -> Option<Built>
     }
 }
 
-/// Whether each range begins at or after the end of the one before.
-fn rise(ranges: &[Uts46Range]) -> bool
-    ensures { result ≡ rise_from 0 ranges.now }
-{
-    let mut end = 0;
-    for range in ranges {
-        if range.first < end || range.end < range.first {
-            return false;
-        }
-        end = range.end;
-    }
-    true
-}
-
-fn parts_of(alloc: Global, records: &[Record], ranges: &[Uts46Range]) -> Result<Parts, AllocError>
-    ensures others { IfOk result (λ p. p.others.items ≡ flat_map (listed_of records.now) ranges.now) }
-    ensures disallowed { IfOk result (λ p. p.disallowed.items ≡ filter_map (whole_range records.now) ranges.now) }
+/// The parts of the records that ranges list, if each range begins at or after the end of the one before.
+fn parts_of(
+    alloc: Global,
+    records: &[Record],
+    ranges: &[Uts46Range],
+) -> Result<Option<Parts>, AllocError>
+    ensures { IfOk result (λ o. IfSome o (λ p. (end : ℕ)
+        × IsSplit records.now (flat_map entries_of ranges.now) p.others.items p.disallowed.items end)) }
 {
     let mut others = Vec::new(alloc);
     let mut disallowed = Vec::new(alloc);
+    let mut end = 0;
     for range in ranges {
+        if range.first < end || range.end < range.first {
+            return Ok(None);
+        }
         put_range(records, range, &mut others, &mut disallowed)?;
+        end = range.end;
     }
-    Ok(Parts { others, disallowed })
+    Ok(Some(Parts { others, disallowed }))
 }
 
 fn put_range(
@@ -166,9 +158,10 @@ fn put_range(
     others: &mut Vec<Uts46Record>,
     disallowed: &mut Vec<(char, char)>,
 ) -> Result<(), AllocError>
-    ensures others { OnOk result (others.new.items ≡ others.old.items ++ listed_of records.now range.now) }
-    ensures disallowed { OnOk result (disallowed.new.items ≡
-        disallowed.old.items ++ cons_option (whole_range records.now range.now) []) }
+    ensures { OnOk result ((all : List Uts46RecordValue) (end : ℕ) →
+        IsSplit records.now all others.old.items disallowed.old.items end →
+        end ≤ range.now.first → range.now.first ≤ range.now.end →
+        IsSplit records.now (all ++ entries_of range.now) others.new.items disallowed.new.items range.now.end) }
 {
     match whole_range(records, range) {
         Some(ends) => {

@@ -1,5 +1,5 @@
 -- Which ranges of the mapper stay ranges, and what private contracts say of them and of the other records.
-use Rattle.std.specs.Prelude.{◌≡◌, ℕ, ◌-◌, Bool, true, false, not, ◌&&◌, ◌||◌, nat_lt, nat_le, List, [], ◌∷◌, All, Contains}
+use Rattle.std.specs.Prelude.{◌≡◌, ℕ, ◌<◌, ◌-◌, Bool, true, false, not, ◌&&◌, ◌||◌, nat_lt, nat_le, List, All, Contains}
 use Rattle.std.specs.Prelude.{filter, Option, Some, None, if◌then◌else◌}
 use Rattle.std.specs.Char.{IsScalar}
 use Rattle.std.specs.Int.{is_in_range}
@@ -7,13 +7,8 @@ use Rattle.std.specs.List.{list_any}
 use Rattle.normalizer_packing.specs.Disallowed.{is_in}
 use Rattle.normalizer_records.specs.Faults.{AreMapperRising, is_disallowed, is_fixed}
 use Rattle.normalizer_records.specs.Meaning.{entry_of}
-use Rattle.normalizer_records.specs.Ranges.{Uts46RangeValue, entries_of}
+use Rattle.normalizer_records.specs.Ranges.{Uts46RangeValue}
 use Rattle.normalizer_records.specs.RecordValue.{IsDisallowed, RecordValue, Uts46RecordValue}
-
--- each range begins at or after the end of the one before, the first one at n or after it
-unfoldable pub rise_from : ℕ → List Uts46RangeValue → Bool
-rise_from n [] = true
-rise_from n (r ∷ ranges) = nat_le n r.first && (nat_le r.first r.end && rise_from r.end ranges)
 
 -- the numbers before the end have none from low to high
 abbrev pub is_clear : ℕ → ℕ → ℕ → ℕ → Bool
@@ -40,15 +35,13 @@ whole_range records r =
     if is_disallowed r.status && (is_free r.first r.end && not (is_recorded records r.first r.end))
     then ends_of r.first r.end else None
 
--- the records of a range that doesn't
-abbrev pub listed_of : List RecordValue → Uts46RangeValue → List Uts46RecordValue
-listed_of records r = elim (whole_range records r) [ Some ends ↦ [] | None ↦ entries_of r ]
-
 -- of all records of the mapper, those that aren't in ranges, which have disallowed characters of which nothing else is
--- recorded
-pub record IsSplit (records : List RecordValue) (all others : List Uts46RecordValue) (ranges : List (ℕ × ℕ))
+-- recorded; the characters are before the end
+pub record IsSplit (records : List RecordValue) (all others : List Uts46RecordValue) (ranges : List (ℕ × ℕ)) (end : ℕ)
     : Type 0 where
   pub rising : AreMapperRising all
+  pub before : All (λ r. r.c < end) all
+  pub early : (n : ℕ) → is_in ranges n ≡ true → n < end
   pub kept : others ≡ filter (λ r. not (is_in ranges r.c)) all
   pub disallowed : All (λ r. is_in ranges r.c ≡ true → r.status ≡ IsDisallowed) all
   pub characters : All (λ r. IsScalar r.c) all

@@ -12,6 +12,6 @@ pub fit-requires : goal.fit-requires
 fit-requires c = rising c.args.records.now c.requires.0 c.requires.1.unrefused
 
 pub returns-in-Ok : goal.returns-in-Ok
-returns-in-Ok c = λ all others expanded split.
-    Builds-fit c.args.records.now all others c.args.disallowed.now split c.args.expanded.entries.items c.args.expanded.pairs.items expanded _
+returns-in-Ok c = λ all others end expanded split.
+    Builds-fit c.args.records.now all others c.args.disallowed.now end split c.args.expanded.entries.items c.args.expanded.pairs.items expanded _
     (rw c.as_slice.ensures.value at c.in-Ok.ensures.packed) _ c.fit.ensures
