@@ -3,13 +3,12 @@ ghost use Rattle.std.specs.Prelude.{◌≡◌, ℕ, List, IfOk, IfSome};
 ghost use Rattle.normal_forms.specs.Reading.{IsText};
 ghost use Rattle.normalizer_tables.specs.MapperLists.{mapped_in};
 ghost use Rattle.normalizer_records.specs.inner.CutLists.{IsCutEntry, MayStandFor, StandsFor};
-ghost use Rattle.normalizer_records.specs.Faults.{AreMapperRising};
 ghost use Rattle.normalizer_records.specs.Meaning.{canonical_list, full_list, list_of_status, mapper_list};
 ghost use Rattle.normalizer_records.specs.Statuses.{status_of as status_value};
 
 use crate::expansion::cut_text;
-use crate::lookup::{SortedRecords, class_of, step_of, uts46_record_of};
-use crate::records::{Mappings, Uts46Record, Uts46Status};
+use crate::lookup::{SortedMapperRecords, SortedRecords, class_of, step_of, uts46_record_of};
+use crate::records::{Mappings, Uts46Status};
 use normalizer_tables::entry::{Entry, MapperList};
 use normalizer_tables::step::Step;
 use std::alloc::{AllocError, Global};
@@ -18,10 +17,9 @@ use std::alloc::{AllocError, Global};
 pub(crate) fn cut_entry(
     alloc: Global,
     records: &SortedRecords<'_>,
-    uts46: &[Uts46Record],
+    uts46: &SortedMapperRecords<'_>,
     c: char,
 ) -> Result<Entry, AllocError>
-    requires { AreMapperRising uts46.now }
     ensures character { IfOk result (λ e. e.character ≡ c) }
     ensures entry { IfOk result (IsCutEntry records.now uts46.now) }
 {
@@ -50,10 +48,9 @@ fn cut_list(
 fn cut_mapper_list(
     alloc: Global,
     records: &SortedRecords<'_>,
-    uts46: &[Uts46Record],
+    uts46: &SortedMapperRecords<'_>,
     c: char,
 ) -> Result<MapperList, AllocError>
-    requires { AreMapperRising uts46.now }
     ensures list { IfOk result (λ m. (canonical : List ℕ) →
         StandsFor records.now (canonical_list records.now c) canonical →
         MayStandFor records.now (mapper_list records.now uts46.now c) (mapped_in canonical m)) }

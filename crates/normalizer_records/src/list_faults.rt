@@ -21,7 +21,7 @@ ghost use Rattle.normalizer_records.specs.Meaning.{class_of};
 
 use crate::lookup::{SortedRecords, class_of};
 use normalizer_tables::entry::Entry;
-use normalizer_tables::members::Members;
+use normalizer_tables::members::fdfa_list;
 use normalizer_tables::special::fixed_list_of;
 
 /// Whether a list begins with a mark.
@@ -49,21 +49,6 @@ fn have_classes(records: &SortedRecords<'_>, list: &[char], classes: &[u8]) -> b
     true
 }
 
-/// Whether a list has these members.
-fn has_members(list: &[char], members: &Members<'_>) -> bool
-    ensures { IsTrue result ↔ (members.now ≡ list.now) }
-{
-    if list.len() != members.len() {
-        return false;
-    }
-    for place in 0..list.len() {
-        if members.at(place) != list[place] {
-            return false;
-        }
-    }
-    true
-}
-
 /// Whether a list is the fixed one of a character, and the classes are its.
 fn is_fixed_form(records: &SortedRecords<'_>, c: char, list: &[char]) -> bool
     ensures { IsTrue result ↔ IsFixedForm records.now c list.now }
@@ -72,18 +57,9 @@ fn is_fixed_form(records: &SortedRecords<'_>, c: char, list: &[char]) -> bool
         None => false,
         Some(fixed) => {
             fixed.class() == class_of(records, c)
-                && has_members(list, &fixed.members())
+                && list == fixed.list()
                 && have_classes(records, list, fixed.member_classes())
         }
-    }
-}
-
-fn is_alone(c: char, list: &[char]) -> bool
-    ensures { IsTrue result ↔ (list.now ≡ c ∷ []) }
-{
-    match list {
-        [only] => *only == c,
-        _ => false,
     }
 }
 
@@ -91,7 +67,7 @@ fn is_alone(c: char, list: &[char]) -> bool
 fn is_free_form(records: &SortedRecords<'_>, c: char, list: &[char]) -> bool
     ensures { IsTrue result ↔ IsFreeForm records.now c list.now }
 {
-    !is_alone(c, list) && !is_fixed_form(records, c, list)
+    list != [c].as_slice() && !is_fixed_form(records, c, list)
 }
 
 /// Whether such a list begins with a mark, or its character is one.
@@ -119,7 +95,7 @@ fn has_supplementary(list: &[char]) -> bool
 fn is_too_long(list: &[char]) -> bool
     ensures { IsTrue result ↔ IsTooLong list.now }
 {
-    is_long(list) && !has_members(list, &Members::of_fdfa())
+    is_long(list) && list != fdfa_list()
 }
 
 /// Whether a class is 255, or such a list is canonical or compatible.

@@ -1,11 +1,10 @@
 //! Records that are sorted, looked up by character.
-#![tactic(auto, unfolding(crate::specs::Meaning::entry_of, crate::specs::Meaning::class_of, crate::specs::Meaning::mapping_of, crate::specs::Meaning::canonical_mapping_of, crate::specs::Recorded::recorded_step))]
+#![tactic(auto, unfolding(crate::specs::Meaning::entry_of, crate::specs::Meaning::class_of, crate::specs::Meaning::mapping_of, crate::specs::Meaning::status_of, crate::specs::Meaning::canonical_mapping_of, crate::specs::Recorded::recorded_step))]
 
 ghost use Rattle.std.specs.Prelude.{◌≡◌};
 ghost use Rattle.std.specs.Option.{option_map};
 ghost use Rattle.normalizer_tables.specs.Steps.{step_to};
 ghost use Rattle.normalizer_records.specs.declared.records.Mappings.TheVariants.{Canonical};
-ghost use Rattle.normalizer_records.specs.Faults.{AreMapperRising};
 ghost use Rattle.normalizer_records.specs.Meaning.{class_of, mapping_among, mapping_of, status_of};
 ghost use Rattle.normalizer_records.specs.Recorded.{recorded_step};
 
@@ -16,6 +15,9 @@ use normalizer_tables::step::{Step, step_to};
 
 /// Records that are sorted by character.
 pub(crate) type SortedRecords<'a> = ByCharacter<'a, Record>;
+
+/// Records of the mapper that are sorted by character.
+pub(crate) type SortedMapperRecords<'a> = ByCharacter<'a, Uts46Record>;
 
 /// The recorded class of a character, 0 without a record.
 pub(crate) fn class_of(records: &SortedRecords<'_>, c: char) -> u8
@@ -60,12 +62,11 @@ pub fn recorded_step(record: &Record) -> Option<Step>
 }
 
 /// What the mapper does with a character, if that is recorded.
-pub(crate) fn uts46_record_of(uts46: &[Uts46Record], c: char) -> Option<&Uts46Record>
-    requires { AreMapperRising uts46.now }
+pub(crate) fn uts46_record_of<'a>(
+    uts46: &SortedMapperRecords<'a>,
+    c: char,
+) -> Option<&'a Uts46Record>
     ensures { option_map (λ r. r.now.status) result ≡ status_of uts46.now c }
 {
-    match uts46.binary_search_by_key(&c, |record| record.c) {
-        Ok(place) => Some(&uts46[place]),
-        Err(_) => None,
-    }
+    uts46.get(c)
 }

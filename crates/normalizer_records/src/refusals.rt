@@ -25,7 +25,7 @@ use crate::faults::{first_bad_mapping, first_fixed, first_out_of_order};
 use crate::list_faults::{
     has_long_mapper_list, has_long_own_list, has_wrong_mapper_list, has_wrong_own_class,
 };
-use crate::lookup::{SortedRecords, uts46_record_of};
+use crate::lookup::{SortedMapperRecords, SortedRecords, uts46_record_of};
 use crate::pair_list::{first_of_same_pair, pairs};
 use crate::recorded::sorted_characters;
 use crate::records::{BuildError, Record, Uts46Record, Uts46Status};
@@ -37,7 +37,7 @@ use std::collections::BTreeSet;
 #[derive(Drop)]
 struct Findings<'a> {
     records: SortedRecords<'a>,
-    uts46: &'a [Uts46Record],
+    uts46: SortedMapperRecords<'a>,
     /// The characters on long chains.
     long: BTreeSet<char>,
     /// An entry for each character that has a record. Lists that are too long are cut.
@@ -54,16 +54,17 @@ fn findings_of<'a>(
     requires mapper { AreMapperRising uts46.now }
     requires fixed { has_fixed_fault records.now uts46.now ≡ false }
     ensures records { IfOk result (λ f. f.records ≡ records.now) }
-    ensures mapper { IfOk result (λ f. f.uts46.now ≡ uts46.now) }
+    ensures mapper { IfOk result (λ f. f.uts46 ≡ uts46.now) }
     ensures found { IfOk result AreFound }
 {
     let sorted = SortedRecords::new(alloc, records)?;
     let long = on_long_chains(alloc, &sorted)?;
     let characters = sorted_characters(alloc, records, uts46)?;
-    let entries = cut_entries(alloc, &sorted, uts46, &characters)?;
+    let mapper = SortedMapperRecords::new(alloc, uts46)?;
+    let entries = cut_entries(alloc, &sorted, &mapper, &characters)?;
     Ok(Findings {
         records: sorted,
-        uts46,
+        uts46: mapper,
         long,
         entries,
     })
@@ -73,10 +74,9 @@ fn findings_of<'a>(
 fn cut_entries(
     alloc: Global,
     records: &SortedRecords<'_>,
-    uts46: &[Uts46Record],
+    uts46: &SortedMapperRecords<'_>,
     characters: &[char],
 ) -> Result<Vec<Entry>, AllocError>
-    requires { AreMapperRising uts46.now }
     ensures characters { IfOk result (λ v. map (λ e. e.character) v.items ≡ characters.now) }
     ensures entries { IfOk result (λ v. All (IsCutEntry records.now uts46.now) v.items) }
 {
@@ -91,9 +91,9 @@ impl Findings<'_> {
     /// What the mapper maps a character to.
     fn mapped_to(&self, c: char) -> &[char]
         requires { AreFound self.now }
-        ensures { result.now ≡ mapped_to (status_of self.now.uts46.now c) }
+        ensures { result.now ≡ mapped_to (status_of self.now.uts46 c) }
     {
-        match uts46_record_of(self.uts46, c) {
+        match uts46_record_of(&self.uts46, c) {
             None => &[],
             Some(record) => match &record.status {
                 Uts46Status::Mapped(mapping) => mapping,
@@ -105,7 +105,7 @@ impl Findings<'_> {
     /// Whether a character, or one that the mapper maps it to, is on a long chain.
     fn is_on_long_chain(&self, c: char) -> bool
         requires { AreFound self.now }
-        ensures { result ≡ list_any (contains nat_cmp self.now.long) (c ∷ mapped_to (status_of self.now.uts46.now c)) }
+        ensures { result ≡ list_any (contains nat_cmp self.now.long) (c ∷ mapped_to (status_of self.now.uts46 c)) }
     {
         self.long.contains(&c) || has_any(&self.long, self.mapped_to(c))
     }
@@ -113,7 +113,7 @@ impl Findings<'_> {
     /// Whether the class and the lists of a character are checked.
     fn is_asked(&self, c: char) -> bool
         requires { AreFound self.now }
-        ensures { IsTrue result ↔ IsAsked self.now.records self.now.uts46.now c }
+        ensures { IsTrue result ↔ IsAsked self.now.records self.now.uts46 c }
     {
         !self.is_on_long_chain(c)
     }
@@ -121,7 +121,7 @@ impl Findings<'_> {
     /// The first record whose class or list is wrong.
     fn first_wrong_class(&self) -> Option<RecordAtFault>
         requires { AreFound self.now }
-        ensures { IsFirstShowing self.now.records self.now.uts46.now Class result }
+        ensures { IsFirstShowing self.now.records self.now.uts46 Class result }
     {
         let own = first_with(&self.entries, |entry| {
             has_wrong_own_class(&self.records, entry) && self.is_asked(entry.character)
@@ -135,7 +135,7 @@ impl Findings<'_> {
     /// The first record that leads to a list that is too long.
     fn first_long_list(&self) -> Option<RecordAtFault>
         requires { AreFound self.now }
-        ensures { IsFirstShowing self.now.records self.now.uts46.now Length result }
+        ensures { IsFirstShowing self.now.records self.now.uts46 Length result }
     {
         let own = first_with(&self.entries, |entry| {
             has_long_own_list(entry) && self.is_asked(entry.character)
@@ -149,7 +149,7 @@ impl Findings<'_> {
     /// The first record on a long chain.
     fn first_on_long_chain(&self) -> Option<RecordAtFault>
         requires { AreFound self.now }
-        ensures { IsFirstShowing self.now.records self.now.uts46.now Chain result }
+        ensures { IsFirstShowing self.now.records self.now.uts46 Chain result }
     {
         let records = self.records.as_slice();
         first_of(

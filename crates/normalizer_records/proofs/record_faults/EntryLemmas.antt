@@ -195,10 +195,10 @@ module _ (f : Findings) (found : AreFound f) where
   of_mapper r = r.c
 
   abbrev Asked : (ℕ → Type 0) → ℕ → Type 0
-  Asked Q c = IsAsked f.records f.uts46.now c × Q c
+  Asked Q c = IsAsked f.records f.uts46 c × Q c
 
   abbrev IsFirstEntry : (EntryValue → Type 0) → Option ℕ → Type 0
-  IsFirstEntry P n = IsCharacterOfFirst (λ (e : EntryValue). e.character) (λ e. P e × IsAsked f.records f.uts46.now e.character) f.entries.items n
+  IsFirstEntry P n = IsCharacterOfFirst (λ (e : EntryValue). e.character) (λ e. P e × IsAsked f.records f.uts46 e.character) f.entries.items n
 
   rising : AllPairs (λ x y. x.character < y.character) f.entries.items
   rising = λ i j d lt within.
@@ -208,31 +208,31 @@ module _ (f : Findings) (found : AreFound f) where
       let there = get_or-map key f.entries.items j d 0 within in
       omega arith
 
-  listed : (c : ℕ) → Contains (recorded_characters f.records f.uts46.now) c → Contains (map key f.entries.items) c
-  listed c = All-contains (Contains (map key f.entries.items)) (recorded_characters f.records f.uts46.now) c found.listed.all
+  listed : (c : ℕ) → Contains (recorded_characters f.records f.uts46) c → Contains (map key f.entries.items) c
+  listed c = All-contains (Contains (map key f.entries.items)) (recorded_characters f.records f.uts46) c found.listed.all
 
-  first_of_entries : (e : BuildError) (Own Mapped : ℕ → Type 0) → IsListFault f.records f.uts46.now e Own Mapped → (EntryOwn EntryMapped : EntryValue → Type 0) →
-      ((x : EntryValue) → IsCutEntry f.records f.uts46.now x → EntryOwn x ↔ Own x.character) →
-      ((x : EntryValue) → IsCutEntry f.records f.uts46.now x → EntryMapped x ↔ Mapped x.character) →
-      (n m : Option ℕ) → IsFirstEntry EntryOwn n → IsFirstEntry EntryMapped m → IsFirstShowing f.records f.uts46.now e (first_of n m)
+  first_of_entries : (e : BuildError) (Own Mapped : ℕ → Type 0) → IsListFault f.records f.uts46 e Own Mapped → (EntryOwn EntryMapped : EntryValue → Type 0) →
+      ((x : EntryValue) → IsCutEntry f.records f.uts46 x → EntryOwn x ↔ Own x.character) →
+      ((x : EntryValue) → IsCutEntry f.records f.uts46 x → EntryMapped x ↔ Mapped x.character) →
+      (n m : Option ℕ) → IsFirstEntry EntryOwn n → IsFirstEntry EntryMapped m → IsFirstShowing f.records f.uts46 e (first_of n m)
   first_of_entries e Own Mapped fault EntryOwn EntryMapped own_same mapped_same n m own mapped =
-      let first = first_among key of_record (λ x. EntryOwn x × IsAsked f.records f.uts46.now x.character) (Asked Own) f.entries.items f.records rising found.rising
-      (λ k d lt. listed _ (Contains-append_left _ (map of_mapper f.uts46.now) _ (Contains-get_or (map of_record f.records) k d lt)))
+      let first = first_among key of_record (λ x. EntryOwn x × IsAsked f.records f.uts46 x.character) (Asked Own) f.entries.items f.records rising found.rising
+      (λ k d lt. listed _ (Contains-append_left _ (map of_mapper f.uts46) _ (Contains-get_or (map of_record f.records) k d lt)))
       (λ k d lt. swapped (own_same _ (found.entries k d lt))) (λ c h. fault.recorded c h.1) n own in
-      let mapper = λ (only : (c : ℕ) → Asked Mapped c → Contains (map of_mapper f.uts46.now) c).
-      first_among key of_mapper (λ x. EntryMapped x × IsAsked f.records f.uts46.now x.character) (Asked Mapped) f.entries.items f.uts46.now rising found.mapper
-      (λ k d lt. listed _ (Contains-append_right (map of_record f.records) _ _ (Contains-get_or (map of_mapper f.uts46.now) k d lt)))
+      let mapper = λ (only : (c : ℕ) → Asked Mapped c → Contains (map of_mapper f.uts46) c).
+      first_among key of_mapper (λ x. EntryMapped x × IsAsked f.records f.uts46 x.character) (Asked Mapped) f.entries.items f.uts46 rising found.mapper
+      (λ k d lt. listed _ (Contains-append_right (map of_record f.records) _ _ (Contains-get_or (map of_mapper f.uts46) k d lt)))
       (λ k d lt. swapped (mapped_same _ (found.entries k d lt))) only m mapped in
-      showing f.records f.uts46.now e n m (alike of_record _ _ f.records (λ k d lt. swap_iff (fault.own_is _)) n first)
-      (λ none. alike of_mapper _ _ f.uts46.now (λ k d lt. swap_iff (fault.mapped_is _)) m (mapper (λ c h. elim (mapper_recorded f.records f.uts46.now found.fixed c) [
+      showing f.records f.uts46 e n m (alike of_record _ _ f.records (λ k d lt. swap_iff (fault.own_is _)) n first)
+      (λ none. alike of_mapper _ _ f.uts46 (λ k d lt. swap_iff (fault.mapped_is _)) m (mapper (λ c h. elim (mapper_recorded f.records f.uts46 found.fixed c) [
         | inl there ↦ there
         | inr same ↦ let shown = fault.canonical c same h.1 in absurd (unshown of_record (Asked Own) f.records n none first c (fault.recorded c shown) (h.0, shown))
       ])))
 
   pub first_class : (n m : Option ℕ) → IsFirstEntry (entry.HasWrongOwnClass f.records) n → IsFirstEntry (entry.HasWrongMapperList f.records) m →
-      IsFirstShowing f.records f.uts46.now error.Class (first_of n m)
-  first_class = first_of_entries _ _ _ (class_fault f.records f.uts46.now found.fixed) _ _ (own_class f.records f.uts46.now) (mapper_class f.records f.uts46.now)
+      IsFirstShowing f.records f.uts46 error.Class (first_of n m)
+  first_class = first_of_entries _ _ _ (class_fault f.records f.uts46 found.fixed) _ _ (own_class f.records f.uts46) (mapper_class f.records f.uts46)
 
   pub first_length : (n m : Option ℕ) → IsFirstEntry entry.HasLongOwnList n → IsFirstEntry entry.HasLongMapperList m →
-      IsFirstShowing f.records f.uts46.now error.Length (first_of n m)
-  first_length = first_of_entries _ _ _ (length_fault f.records f.uts46.now found.fixed) _ _ (own_length f.records f.uts46.now) (mapper_length f.records f.uts46.now)
+      IsFirstShowing f.records f.uts46 error.Length (first_of n m)
+  first_length = first_of_entries _ _ _ (length_fault f.records f.uts46 found.fixed) _ _ (own_length f.records f.uts46) (mapper_length f.records f.uts46)

@@ -1,12 +1,9 @@
 -- Look-ups in a list that rises.
-use Rattle.std.proofs.Common.{◌≡◌, ◌≢◌, ℕ, zero, suc, ◌<◌, ◌≤◌, ◌⊎◌, ◌==◌, false, List, [], ◌∷◌, length, get_or, refl, Some, None, AllPairs, find, inl, inr}
-use Rattle.std.proofs.Common.{sym, ap, ◌∙◌, arith, Ok, Err}
+use Rattle.std.proofs.Common.{◌≡◌, ℕ, zero, suc, ◌<◌, ◌⊎◌, ◌==◌, false, List, [], ◌∷◌, length, get_or, refl, Some, None, AllPairs, find, inl, inr}
+use Rattle.std.proofs.Common.{sym, ap, ◌∙◌, arith}
 use Rattle.normalizer_records.specs.inner.Lookup.{Stands}
-use Rattle.std.proofs.lemmas.Bool.{cases_eq, cases_lt}
+use Rattle.std.proofs.lemmas.Bool.{cases_eq}
 use Rattle.std.proofs.lemmas.Bool.Decides.{nat_tests}
-use Rattle.std.proofs.lemmas.Cmp.{ranked}
-use Rattle.std.specs.List.Sorted.{IsBinarySearchResult, IsNonDecreasingBy, IsSearchInRange}
-use Rattle.std.specs.Ordering.{nat_cmp, ordering_index}
 
 module _ {X : Type 0} (key : X → ℕ) where
   -- the element of this key is found
@@ -19,10 +16,6 @@ module _ {X : Type 0} (key : X → ℕ) where
     rising 0 (suc i) d (omega arith) inside,
     find-at xs (λ k j e less within. rising (suc k) (suc j) e (omega arith) (omega arith)) c i d (omega arith) same,
   )
-
-  find-none : (xs : List X) (c : ℕ) → ((k : ℕ) (d : X) → k < length xs → key (get_or xs k d) ≢ c) → find (λ y. key y == c) xs ≡ None
-  find-none [] c others = refl
-  find-none (x ∷ xs) c others = grind (arith, nat_tests, others 0 x (omega arith), find-none xs c (λ k d inside. others (suc k) d (omega arith)))
 
   pub find-found : (xs : List X) → AllPairs (λ r s. key r < key s) xs → (c i : ℕ) (x : X) → Stands key xs c i → x ≡ get_or xs i x → find (λ y. key y == c) xs ≡ Some x
   find-found xs rising c i x at is = find-at xs rising c i x at.within (at.there x) ∙ ap (λ y. Some y) (sym is)
@@ -39,24 +32,3 @@ module _ {X : Type 0} (key : X → ℕ) where
           | inr none ↦ inr (rw off none)
         ]
   ]
-
-  -- the result of a search by halving
-  pub found : (xs : List X) → AllPairs (λ r s. key r < key s) xs → (c i : ℕ) (x : X) →
-      IsSearchInRange (Ok i) (length xs) → IsBinarySearchResult (λ y. nat_cmp (key y) c) xs (Ok i) → x ≡ get_or xs i x →
-      Some x ≡ find (λ y. key y == c) xs
-  found xs rising c i x inside equal is = sym (find-found xs rising c i x (record { within = inside; there = λ d. ranked _ c _ (sym (equal d)) }) is)
-
-  pub missing : (xs : List X) → AllPairs (λ r s. key r < key s) xs → (c i : ℕ) →
-      IsSearchInRange (Err i) (length xs) → IsBinarySearchResult (λ y. nat_cmp (key y) c) xs (Err i) → None ≡ find (λ y. key y == c) xs
-  missing xs rising c i inside parted = sym (find-none xs c others)
-    where
-      rise : IsNonDecreasingBy (λ y. ordering_index (nat_cmp (key y) c)) xs
-      rise k j d le within =
-          let keys : key (get_or xs k d) ≤ key (get_or xs j d) = grind (arith, rising k j d, λ (same : k ≡ j). ap (λ n. key (get_or xs n d)) same) in
-          grind (arith, nat_tests)
-
-      others : (k : ℕ) (d : X) → k < length xs → key (get_or xs k d) ≢ c
-      others k d inside same = elim (cases_lt k i) as (λ _. ⊥) [
-        | inl below ↦ let less = ranked _ c _ (sym ((parted rise).0 k d (omega arith) below)) in omega arith
-        | inr above ↦ let more = ranked _ c _ (sym ((parted rise).1 k d above inside)) in omega arith
-      ]

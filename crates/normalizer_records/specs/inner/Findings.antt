@@ -9,8 +9,8 @@ use Rattle.normalizer_records.specs.inner.CutLists.{IsCutEntry}
 -- records that are sorted and have no fixed character, the characters on long chains, and the entries
 pub record AreFound (f : Findings) : Type 0 where
   pub rising : AreRising f.records
-  pub mapper : AreMapperRising f.uts46.now
-  pub fixed : has_fixed_fault f.records f.uts46.now ≡ false
+  pub mapper : AreMapperRising f.uts46
+  pub fixed : has_fixed_fault f.records f.uts46 ≡ false
   pub chains : IsSetOf (IsOnLongChain f.records) f.long
-  pub listed : ListsCharacters f.records f.uts46.now (map (λ e. e.character) f.entries.items)
-  pub entries : All (IsCutEntry f.records f.uts46.now) f.entries.items
+  pub listed : ListsCharacters f.records f.uts46 (map (λ e. e.character) f.entries.items)
+  pub entries : All (IsCutEntry f.records f.uts46) f.entries.items

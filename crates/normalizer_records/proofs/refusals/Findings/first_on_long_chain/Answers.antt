@@ -10,8 +10,8 @@ pub returns : goal.returns
 unfolding IsCharacterOfFirst ShowsFault MapperShowsFault
 returns c =
     let f = c.args.self.now in
-    subst (IsFirstShowing f.records f.uts46.now Chain) (sym c.first_of.ensures)
-    (showing f.records f.uts46.now Chain _ _
-    (by_test (λ (r : RecordValue). r.c) _ (ShowsFault f.records f.uts46.now Chain) (λ x b h. search (rules, c.requires.chains))
+    subst (IsFirstShowing f.records f.uts46 Chain) (sym c.first_of.ensures)
+    (showing f.records f.uts46 Chain _ _
+    (by_test (λ (r : RecordValue). r.c) _ (ShowsFault f.records f.uts46 Chain) (λ x b h. search (rules, c.requires.chains))
     f.records _ (rw c.as_slice-records.ensures at c.first_with.ensures))
     (λ none k d lt never. never))

@@ -13,9 +13,9 @@ pub returns : goal.returns
 returns c =
     let f = c.args.self.now in
     let key = λ (e : EntryValue). e.character in
-    subst (IsFirstShowing f.records f.uts46.now Class) (sym c.first_of.ensures)
+    subst (IsFirstShowing f.records f.uts46 Class) (sym c.first_of.ensures)
     (first_class f c.requires _ _
-    (by_test key _ (λ e. HasWrongOwnClass f.records e × IsAsked f.records f.uts46.now e.character) (λ x b h. search (rules, Decides-and))
+    (by_test key _ (λ e. HasWrongOwnClass f.records e × IsAsked f.records f.uts46 e.character) (λ x b h. search (rules, Decides-and))
     f.entries.items _ (rw c.deref.ensures.value at c.first_with-own.ensures))
-    (by_test key _ (λ e. HasWrongMapperList f.records e × IsAsked f.records f.uts46.now e.character) (λ x b h. search (rules, Decides-and))
+    (by_test key _ (λ e. HasWrongMapperList f.records e × IsAsked f.records f.uts46 e.character) (λ x b h. search (rules, Decides-and))
     f.entries.items _ (rw c.deref-2.ensures.value at c.first_with-mapped.ensures)))
