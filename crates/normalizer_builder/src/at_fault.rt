@@ -1,7 +1,6 @@
 //! The first record at fault, if no data are built.
 ghost use Rattle.std.specs.Prelude.{◌≡◌, ℕ, IfOk, option_map};
 ghost use Rattle.normalizer_tables.specs.declared.provider.DataMarkerInfo.{DataMarkerInfo};
-ghost use Rattle.normalizer_records.specs.declared.at_fault.RecordAtFault.TheVariants.{OfCharacter};
 ghost use Rattle.normalizer_records.specs.declared.records.BuildError.TheVariants.{Unfit};
 ghost use Rattle.normalizer_records.specs.AtFault.{IsCharacterOfFirst};
 ghost use Rattle.normalizer_records.specs.Faults.{AreRising};
@@ -84,7 +83,7 @@ fn first_against(records: &[Record], packed: &Packed, demand: Demand) -> Option<
         Demand::Asks(condition, kind) => {
             record_of_kind(kind, first_of_kind(packed, kind, condition))
         }
-        Demand::KeepsMappings => record_of_character(first_unkept(records, packed)),
+        Demand::KeepsMappings => record_of_kind(Kind::Canonical, first_unkept(records, packed)),
     }
 }
 
@@ -97,12 +96,6 @@ fn record_of_kind(kind: Kind, character: Option<char>) -> Option<RecordAtFault>
         Kind::Canonical | Kind::Compatibility => RecordAtFault::OfCharacter(c),
         Kind::Mapper => RecordAtFault::OfMapper(c),
     })
-}
-
-fn record_of_character(character: Option<char>) -> Option<RecordAtFault>
-    ensures { result ≡ option_map OfCharacter character }
-{
-    character.map(|c| RecordAtFault::OfCharacter(c))
 }
 
 /// The first character that breaks the condition, by the data of a kind.

@@ -43,27 +43,14 @@ impl Records {
         ensures { MatchResult result (λ b. Builds records.now (flat_map entries_of ranges.now) (data_in b))
             (IsSmallest records.now (flat_map entries_of ranges.now)) }
     {
-        if let Some(built) = built_of_ranges(alloc, records, ranges)? {
-            return Ok(built);
+        if let Some(parts) = parts_of(alloc, records, ranges)? {
+            if let Some(built) = built_of_parts(alloc, records, &parts)? {
+                return Ok(built);
+            }
         }
         // (They are refused, or their order is wrong: all records say which refusal is the first.)
         let listed = records_of_ranges(alloc, ranges)?;
         Records::build(alloc, records, &listed)
-    }
-}
-
-/// The data that are built, unless the records are refused.
-fn built_of_ranges(
-    alloc: Global,
-    records: &[Record],
-    ranges: &[Uts46Range],
-) -> Result<Option<Built>, AllocError>
-    ensures { IfOk result (λ o. IfSome o (λ b.
-        Builds records.now (flat_map entries_of ranges.now) (data_in b))) }
-{
-    match parts_of(alloc, records, ranges)? {
-        Some(parts) => built_of_parts(alloc, records, &parts),
-        None => Ok(None),
     }
 }
 
