@@ -1,6 +1,5 @@
 //! IdnaMappingTable.txt.
 ghost use Rattle.std.specs.Prelude.{◌≡◌, ◌==◌, ◌≤◌, ◌+◌, List, ℕ, Option, None, map, OnOk, IfOk, IfSome};
-ghost use Rattle.std.specs.Str.{bytes_eq};
 ghost use Rattle.std.specs.Option.{option_and_then, option_copied, option_map, option_or, unwrap_or};
 ghost use Rattle.std.specs.List.{filter_map, flat_map, last_or, list_any};
 ghost use Rattle.normalizer_records.specs.Statuses.{status_of as status_of_record};
@@ -17,7 +16,8 @@ ghost use Rattle.normalizer_ucd.specs.inner.TableLines.{AreFieldsOf, covered_by}
 
 use crate::error::{Problem, UcdError, UcdFile};
 use crate::lines::{
-    after_first, before_first, characters, code_point, data_of, field, lines, push_found, refuse,
+    after_first, before_first, characters, code_point, data_of, field, is_same, lines, push_found,
+    refuse,
 };
 use crate::stated::agree;
 use crate::wholes::whole_lines;
@@ -328,29 +328,23 @@ fn last_text(text: &[u8]) -> &[u8]
     }
 }
 
-fn is_word(text: &[u8], word: &[u8]) -> bool
-    ensures { result ≡ bytes_eq text.now word.now }
-{
-    text == word
-}
-
 #[tactic(auto, unfolding(crate::specs::Fields::status_named))]
 fn status_named(text: &[u8]) -> Option<StatusName>
     ensures { result ≡ status_named text.now }
 {
-    if is_word(text, b"valid") {
+    if is_same(text, b"valid") {
         Some(StatusName::Valid)
-    } else if is_word(text, b"deviation") {
+    } else if is_same(text, b"deviation") {
         Some(StatusName::Valid)
-    } else if is_word(text, b"disallowed_STD3_valid") {
+    } else if is_same(text, b"disallowed_STD3_valid") {
         Some(StatusName::Valid)
-    } else if is_word(text, b"ignored") {
+    } else if is_same(text, b"ignored") {
         Some(StatusName::Ignored)
-    } else if is_word(text, b"mapped") {
+    } else if is_same(text, b"mapped") {
         Some(StatusName::Mapped)
-    } else if is_word(text, b"disallowed_STD3_mapped") {
+    } else if is_same(text, b"disallowed_STD3_mapped") {
         Some(StatusName::Mapped)
-    } else if is_word(text, b"disallowed") {
+    } else if is_same(text, b"disallowed") {
         Some(StatusName::Disallowed)
     } else {
         None

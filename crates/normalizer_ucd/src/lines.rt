@@ -1,5 +1,6 @@
 //! Lines, their fields, and the numbers and characters in them.
 ghost use Rattle.std.specs.Prelude.{◌≡◌, ◌==◌, ◌≤◌, map, ◌++◌, IfOk, IfSome, OnOk, count_by, find, position};
+ghost use Rattle.std.specs.Str.{bytes_eq};
 ghost use Rattle.std.specs.Option.{option_copied, option_map, option_to_list};
 ghost use Rattle.std.specs.List.{after_first, before_first, filter_map, slice_split};
 ghost use Rattle.normalizer_ucd.specs.Fields.{
@@ -26,6 +27,13 @@ pub(crate) fn trim(text: &[u8]) -> &[u8]
     ensures { result.now ≡ trim text.now }
 {
     text.trim_ascii()
+}
+
+/// Whether both are the same bytes.
+pub(crate) fn is_same(text: &[u8], other: &[u8]) -> bool
+    ensures { result ≡ bytes_eq text.now other.now }
+{
+    text == other
 }
 
 fn position(text: &[u8], at: u8) -> Option<usize>

@@ -1,7 +1,6 @@
 //! UnicodeData.txt.
 ghost use Rattle.std.specs.Prelude.{◌≡◌, ◌==◌, ◌≤◌, ℕ, List, [], None, Option, Some, IfOk, map, if◌then◌else◌};
 ghost use Rattle.std.specs.Option.{is_none, option_and_then, option_copied, option_map, option_or, unwrap_or};
-ghost use Rattle.std.specs.Str.{bytes_eq};
 ghost use Rattle.std.specs.List.{filter_map, last_or, list_any};
 ghost use Rattle.normalizer_ucd.specs.declared.error.UcdFile.TheVariants as files;
 ghost use Rattle.normalizer_ucd.specs.Fields.{class, code, combining_class, ends_range};
@@ -17,8 +16,8 @@ ghost use Rattle.normalizer_ucd.specs.inner.DataFileLines.{AreFieldsOf, open_ran
 use crate::error::{Problem, UcdError, UcdFile};
 use crate::exclusions::{Exclusion, all_mapped, exclusions_in};
 use crate::lines::{
-    after_first, before_first, characters, code, count, data_of, field, number, push_found, refuse,
-    trim,
+    after_first, before_first, characters, code, count, data_of, field, is_same, number,
+    push_found, refuse, trim,
 };
 use crate::stated::agree;
 use crate::wholes::whole_lines;
@@ -296,12 +295,6 @@ fn range_name(name: &[u8]) -> &[u8]
     ensures { result.now ≡ range_name name.now }
 {
     before_first(name, b',')
-}
-
-fn is_same(text: &[u8], other: &[u8]) -> bool
-    ensures { result ≡ bytes_eq text.now other.now }
-{
-    text == other
 }
 
 fn class(text: &[u8]) -> Option<u8>
