@@ -107,7 +107,7 @@ impl PackedWords<'_, '_> {
     fn replaced_word(&self, character: char) -> u32
         ensures { IsReplacedWord self.now.entries.now self.now.compositions.now character result }
     {
-        match final_word(character as u32) {
+        match final_word(character) {
             Some(word) => word,
             None => flagged(
                 self.entries.by_character(),

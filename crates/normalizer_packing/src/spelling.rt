@@ -1,18 +1,17 @@
 //! How the word of a character spells its list.
 #![tactic(auto, unfolding(crate::specs::Spelling::spelling, crate::specs::Spelling::spelling_or_ignored, crate::specs::Spelling::final_word, normalizer_tables::specs::conditions::Conditions::is_surrogate, crate::specs::Spelling::spelling_by_list, crate::specs::Spelling::has_fixed_list, crate::specs::Spelling::spelling_of_list, crate::specs::Spelling::spells_two, normalizer_tables::specs::Words::has_high_zeros, normalizer_tables::specs::Words::has_low_zeros))]
 
-ghost use Rattle.std.specs.Prelude.{◌≡◌, [], ◌∷◌, option_copied};
+ghost use Rattle.std.specs.Prelude.{◌≡◌, option_copied};
 ghost use Rattle.normalizer_tables.specs.Entries.{class_in};
-ghost use Rattle.normalizer_packing.specs.Spelling.{HasRoomForFlags, final_word, has_fixed_list, have_classes, list_eq};
+ghost use Rattle.normalizer_packing.specs.Spelling.{HasRoomForFlags, final_word, has_fixed_list, have_classes};
 ghost use Rattle.normalizer_packing.specs.Spelling.{spelling, spelling_by_list, spelling_of_list};
 ghost use Rattle.normalizer_packing.specs.Spelling.{spelling_of_two};
-ghost use Rattle.normalizer_tables.specs.conditions.Conditions.{is_surrogate};
 
 use crate::entries::{Entries, class_of};
 use normalizer_tables::hangul::is_hangul_syllable;
 use normalizer_tables::members::fdfa_list;
 use normalizer_tables::special::fixed_list_of;
-use normalizer_tables::word::{HANGUL_WORD, IGNORED_MARKER, SURROGATE_WORD};
+use normalizer_tables::word::{HANGUL_WORD, IGNORED_MARKER};
 
 /// The first line that fits.
 #[derive(Clone, Copy, Debug, PartialEq, Eq)]
@@ -30,7 +29,7 @@ pub fn spell(entries: &Entries<'_>, character: char, list: Option<&[char]>) -> S
     ensures line { result ≡ spelling (class_in entries.now) character (option_copied list.entry) }
     ensures room { HasRoomForFlags result }
 {
-    if let Some(word) = final_word(character as u32) {
+    if let Some(word) = final_word(character) {
         return Spelling::Final(word);
     }
     match list {
@@ -39,25 +38,17 @@ pub fn spell(entries: &Entries<'_>, character: char, list: Option<&[char]>) -> S
     }
 }
 
-/// The word, with its flags, of numbers whose list no entry changes.
-pub fn final_word(number: u32) -> Option<u32>
-    ensures { result ≡ final_word number }
+/// The word, with its flags, of characters whose list no entry changes.
+pub fn final_word(character: char) -> Option<u32>
+    ensures { result ≡ final_word character }
 {
-    if is_hangul_syllable(number) {
+    if is_hangul_syllable(character as u32) {
         Some(HANGUL_WORD)
-    } else if is_surrogate(number) {
-        Some(SURROGATE_WORD)
-    } else if number == 0xFFFD {
+    } else if character == '\u{FFFD}' {
         Some(0x4000_0000)
     } else {
         None
     }
-}
-
-fn is_surrogate(number: u32) -> bool
-    ensures { result ≡ is_surrogate number }
-{
-    0xD800 <= number && number <= 0xDFFF
 }
 
 fn spelling_by_list(entries: &Entries<'_>, character: char, list: &[char]) -> Spelling
@@ -66,21 +57,11 @@ fn spelling_by_list(entries: &Entries<'_>, character: char, list: &[char]) -> Sp
 {
     if has_fixed_list(entries, character, list) {
         Spelling::Short(0xD900 + class_of(entries, character) as u32)
-    } else if is_alone(character, list) {
+    } else if list == [character].as_slice() {
         let class = class_of(entries, character) as u32;
         Spelling::Short(if class == 0 { 0 } else { 0xD800 + class })
     } else {
         spelling_of_list(entries, character, list)
-    }
-}
-
-/// Whether a list is the character alone.
-fn is_alone(character: char, list: &[char]) -> bool
-    ensures { result ≡ list_eq list.now (character ∷ []) }
-{
-    match list {
-        &[member] => member == character,
-        _ => false,
     }
 }
 
