@@ -1,6 +1,5 @@
 -- Reading the two files: each fault, where nothing before it is wrong.
 use Rattle.std.proofs.Common.{◌≡◌, List, ℕ, Option, Some, None, Ok, refl}
-use Rattle.std.specs.Prelude.{filter_map}
 use Rattle.std.specs.Option.{option_or}
 use Rattle.normalizer_records.specs.RecordValue.{RecordValue}
 use Rattle.normalizer_ucd.specs.declared.error.LineFault.{LineFault}
@@ -9,7 +8,7 @@ use Rattle.normalizer_ucd.specs.declared.error.UcdFile.TheVariants as files
 use Rattle.normalizer_ucd.specs.Fields.{lines}
 use Rattle.normalizer_ucd.specs.FallibleReads.{Fails, unless}
 use Rattle.normalizer_ucd.specs.FileFaults.{data_findings, first_wrong, listing_findings, mapping_findings, open_at_end}
-use Rattle.normalizer_ucd.specs.FileLines.{data_lines, listed, record_by}
+use Rattle.normalizer_ucd.specs.FileLines.{data_lines, stated_records}
 use Rattle.normalizer_ucd.specs.UnicodeData.{records_of}
 use Rattle.normalizer_ucd.specs.Versions.{other_version, stated_in}
 use Rattle.normalizer_ucd.specs.Wholes.{cut_off}
@@ -25,7 +24,7 @@ module _ (unicode_data exclusions : List ℕ) (e : UcdError) where
   Wrong = Fails e (records_of unicode_data exclusions)
 
   abbrev pub stated : List RecordValue
-  stated = filter_map (λ l. record_by (listed (data_lines exclusions)) l.text) (data_lines unicode_data)
+  stated = stated_records unicode_data exclusions
 
   abbrev pub version : Option LineFault
   version = other_version (stated_in (lines exclusions)) files.UnicodeData (stated_in (lines unicode_data))

@@ -3,7 +3,7 @@ use Rattle.std.specs.Prelude.{ℕ, ◌+◌, ◌==◌, ◌&&◌, ◌||◌, not, n
 use Rattle.std.specs.Prelude.{Option, Some, None, if◌then◌else◌}
 use Rattle.std.specs.Option.{is_none, option_and_then, option_map, option_map_or, unwrap_or}
 use Rattle.std.specs.Str.{bytes_eq}
-use Rattle.std.specs.List.{filter_map, last_or, list_any}
+use Rattle.std.specs.List.{last_or, list_any}
 use Rattle.normalizer_records.specs.RecordValue.{RecordValue}
 use Rattle.normalizer_ucd.specs.declared.error.LineFault.{LineFault}
 use Rattle.normalizer_ucd.specs.declared.error.Problem.{Problem}
@@ -13,7 +13,7 @@ use Rattle.normalizer_ucd.specs.declared.error.UcdFile.TheVariants as files
 use Rattle.normalizer_ucd.specs.FallibleReads.{fault}
 use Rattle.normalizer_ucd.specs.Fields.{begins_range, class, code, ends_range, field, first, last, lines, mapped_to}
 use Rattle.normalizer_ucd.specs.Fields.{mapping, name, range_name, status}
-use Rattle.normalizer_ucd.specs.FileLines.{DataLine, data_lines, is_of_character, listed, maps, record_by, states_some}
+use Rattle.normalizer_ucd.specs.FileLines.{DataLine, data_lines, is_of_character, maps, stated_records, states_some}
 use Rattle.normalizer_ucd.specs.Versions.{find_map, other_version, stated_in}
 use Rattle.normalizer_ucd.specs.Wholes.{cut_off}
 
@@ -71,8 +71,8 @@ fault_of_files unicode_data exclusions = find_map (λ fault. fault) (cut_off fil
     ∷ first_wrong files.CompositionExclusions listing_findings (data_lines exclusions)
     ∷ first_wrong files.UnicodeData data_findings (data_lines unicode_data)
     ∷ open_at_end (data_lines unicode_data)
-    ∷ first_wrong files.CompositionExclusions (mapping_findings (filter_map (λ l.
-    record_by (listed (data_lines exclusions)) l.text) (data_lines unicode_data))) (data_lines exclusions)
+    ∷ first_wrong files.CompositionExclusions (mapping_findings (stated_records unicode_data exclusions))
+    (data_lines exclusions)
     ∷ [])
 
 -- the code point after a line, with which the next begins

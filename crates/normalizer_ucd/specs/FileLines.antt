@@ -54,6 +54,11 @@ record_by listed text = if states_some text && is_of_character text then Some (r
   excluded = list_any (λ n. n == unwrap_or (code text) 0) listed;
 }) else None
 
+-- the records that lines of the first file state, in the order of the lines
+abbrev pub stated_records : (unicode_data exclusions : List ℕ) → List RecordValue
+stated_records unicode_data exclusions =
+    filter_map (λ l. record_by (listed (data_lines exclusions)) l.text) (data_lines unicode_data)
+
 -- the records are those that lines of the first file state, and no others
 abbrev pub AreStated : (unicode_data exclusions : List ℕ) → List RecordValue → Type 0
 AreStated unicode_data exclusions records = (r : RecordValue) → Contains records r
