@@ -1,6 +1,6 @@
 //! Normalizing text with prepared data.
 ghost use Rattle.std.specs.Prelude.{◌≡◌, IfErr, IfOk, List, MatchResult};
-ghost use Rattle.icu_normalizer.specs.Building.{Builds};
+ghost use Rattle.icu_normalizer.specs.Building.{Builds, MeansRecords};
 ghost use Rattle.icu_normalizer.specs.Packed.{Packed};
 ghost use Rattle.icu_normalizer.specs.RecordValue.{RecordValue, Uts46RecordValue};
 ghost use Rattle.icu_normalizer.specs.Utf8.{decoded_utf8};
@@ -45,10 +45,14 @@ pub fn form_by_prepared_data(
     // By the data whose file it is.
     ensures form { IfOk result (λ v. IsFormByPrepared prepared.now form (decoded_utf8 bytes.now) v.items) }
 
-    // By the records that these data were built from, unless memory ran out.
+    // By the records that these data mean.
     ensures records { (records : List RecordValue) (uts46 : List Uts46RecordValue) (p : Packed) →
-        Builds records uts46 p → IsFileOf prepared.now p →
-        MatchResult result (λ v. v.items ≡ recorded_form records form (decoded_utf8 bytes.now)) IsMemory }
+        MeansRecords records uts46 p → IsFileOf prepared.now p →
+        IfOk result (λ v. v.items ≡ recorded_form records form (decoded_utf8 bytes.now)) }
+
+    // Data that records built are refused by `Memory` alone.
+    ensures memory { (records : List RecordValue) (uts46 : List Uts46RecordValue) (p : Packed) →
+        Builds records uts46 p → IsFileOf prepared.now p → IfErr result IsMemory }
     ensures fault { IfErr result (IsFaultOfPrepared prepared.now form) }
 {
     what_is_built_is_accepted();

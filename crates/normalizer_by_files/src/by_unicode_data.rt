@@ -1,7 +1,10 @@
 //! Normalizing text with a version of Unicode's own data.
-ghost use Rattle.std.specs.Prelude.{MatchResult};
+ghost use Rattle.std.specs.Prelude.{◌≡◌, IfOk, MatchResult, None};
+ghost use Rattle.icu_normalizer.specs.RecordedForms.{recorded_form};
 ghost use Rattle.icu_normalizer.specs.Utf8.{decoded_utf8};
-ghost use Rattle.normalizer_by_files.specs.UnicodeForms.{IsFormByFiles, IsFaultOfFiles};
+ghost use Rattle.normalizer_by_files.specs.UnicodeForms.{IsFaultOfFiles};
+ghost use Rattle.normalizer_ucd.specs.FileFaults.{fault_of_files};
+ghost use Rattle.normalizer_ucd.specs.FileLines.{stated_records};
 
 use crate::by_records::form_by_records;
 use icu_normalizer::{BuildError, NormalForm};
@@ -29,8 +32,12 @@ pub fn form_by_unicode_data(
     form: NormalForm,
     bytes: &[u8],
 ) -> Result<Vec<char>, UnicodeFault>
-    ensures { MatchResult result
-        (λ v. IsFormByFiles unicode_data.now exclusions.now form (decoded_utf8 bytes.now) v.items)
+    // By the records that the lines of the files state.
+    ensures form { IfOk result (λ v.
+        v.items ≡ recorded_form (stated_records unicode_data.now exclusions.now) form (decoded_utf8 bytes.now)) }
+
+    // Nothing is wrong with the files, or why there is no form.
+    ensures fault { MatchResult result (λ v. fault_of_files unicode_data.now exclusions.now ≡ None)
         (IsFaultOfFiles unicode_data.now exclusions.now) }
 {
     match records_of_unicode_data(alloc, unicode_data, exclusions) {
