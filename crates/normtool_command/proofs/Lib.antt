@@ -1,2 +1,3 @@
 mod LabelLemmas
 mod OffenceLineLemmas
+mod ServedLemmas

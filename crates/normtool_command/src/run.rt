@@ -2,7 +2,7 @@
 ghost use Rattle.std.specs.Prelude.{◌≡◌, ◌⊎◌, IfErr, IfOk, IsErrOf, map, string_bytes};
 ghost use Rattle.icu_normalizer.specs.Building.{Builds};
 ghost use Rattle.icu_normalizer.specs.Built.{data_in};
-ghost use Rattle.normtool_command.specs.Needs.{held};
+ghost use Rattle.normtool_command.specs.Needs.{held, AreNeedsMet};
 ghost use Rattle.normtool_command.specs.Outcome.{IsOutcome};
 ghost use Rattle.normtool_command.specs.RecordSets.{AreRefused, mapper_records_of, records_of};
 ghost use Rattle.normtool_command.specs.Runs.{devices, IsProgram, IsRun};
@@ -84,9 +84,14 @@ pub fn run<P: FormData + MappingData, R: Source, W: Target>(
     reader: &mut R,
     writer: &mut W,
 ) -> Result<Answer, ToolFault>
-    ensures { IsRun (devices R.bytes_left R.refusal W.bytes_taken W.refusal)
+    // The reply, over what is held.
+    ensures reply { IsRun (devices R.bytes_left R.refusal W.bytes_taken W.refusal)
         (IsOutcome command (held (P.held_for_forms provider.now) (P.held_for_mapper provider.now)))
         (reader.old, writer.old) (reader.new, writer.new) result }
+
+    // Whether what is held is accepted.
+    ensures data { AreNeedsMet command
+        (held (P.held_for_forms provider.now) (P.held_for_mapper provider.now)) result }
 {
     let worker = Worker::new(provider, command)?;
     let input = read_all(alloc, reader)?;
