@@ -78,52 +78,6 @@ impl MapperTask {
             MapperTask::Validate(_) => lines,
         }
     }
-
-    /// What is written of lines after so many others.
-    fn replies_to(
-        self,
-        alloc: Global,
-        mapper: &Uts46MapperBorrowed<'_>,
-        name: &str,
-        before: usize,
-        lines: &[&[char]],
-    ) -> Result<String, NormalizeError>
-        requires { before + length lines.now < 2 ^ 64 }
-        ensures written { IfOk result (λ output. string_bytes output ≡ replies_to self
-            (mapping_of (mapper_data_of_borrowed mapper.now)) name.now before (map (λ line. line.now) lines.now)) }
-        ensures refused { IsOkUnless result NormalizeError.Memory }
-    {
-        let mut output = String::new(alloc);
-        for (index, line) in lines.iter().enumerate() {
-            self.append_reply_to(alloc, mapper, name, before + index, line, &mut output)?;
-        }
-        Ok(output)
-    }
-
-    /// Appends what is written of a line.
-    fn append_reply_to(
-        self,
-        alloc: Global,
-        mapper: &Uts46MapperBorrowed<'_>,
-        name: &str,
-        index: usize,
-        line: &[char],
-        output: &mut String,
-    ) -> Result<(), NormalizeError>
-        requires { index + 1 < 2 ^ 64 }
-        ensures written { OnOk result (string_bytes output.new ≡ string_bytes output.old ++ reply_to self
-            (mapping_of (mapper_data_of_borrowed mapper.now)) name.now index line.now) }
-        ensures refused { IsOkUnless result NormalizeError.Memory }
-    {
-        match self {
-            MapperTask::Map => append_line(mapper, index == 0, line, output),
-            MapperTask::Validate(_) => {
-                let valid = is_valid(alloc, mapper, line)?;
-                let told = told_unless(alloc, valid, name, index + 1)?;
-                Ok(output.push_str(&told)?)
-            }
-        }
-    }
 }
 
 /// What comes of lines that are validated.
@@ -245,8 +199,34 @@ impl<'a> MapperLines<'a> {
     {
         let before = self.task.number_before(lines);
         let lines = lines_of(alloc, text)?;
-        self.task
-            .replies_to(alloc, &self.mapper, self.name, before, &lines)
+        let mut output = String::new(alloc);
+        for (index, line) in lines.iter().enumerate() {
+            self.append_reply_to(alloc, before + index, line, &mut output)?;
+        }
+        Ok(output)
+    }
+
+    /// Appends what is written of a line.
+    fn append_reply_to(
+        &self,
+        alloc: Global,
+        index: usize,
+        line: &[char],
+        output: &mut String,
+    ) -> Result<(), NormalizeError>
+        requires { index + 1 < 2 ^ 64 }
+        ensures written { OnOk result (string_bytes output.new ≡ string_bytes output.old ++ reply_to self.now.task
+            (mapping_of (mapper_data_of_borrowed self.now.mapper)) self.now.name.now index line.now) }
+        ensures refused { IsOkUnless result NormalizeError.Memory }
+    {
+        match self.task {
+            MapperTask::Map => append_line(&self.mapper, index == 0, line, output),
+            MapperTask::Validate(_) => {
+                let valid = is_valid(alloc, &self.mapper, line)?;
+                let told = told_unless(alloc, valid, self.name, index + 1)?;
+                Ok(output.push_str(&told)?)
+            }
+        }
     }
 }
 
