@@ -1,14 +1,14 @@
 -- The reply of the mapper, by mappings that make the same.
 use Rattle.std.proofs.Common.{◌≡◌, ◌≢◌, ℕ, Bool, true, false, List, [], ◌∷◌, Option, Some, None, length, arith, refl, sym, ap, ◌∙◌}
 use Rattle.std.proofs.Math.Seq.{take-nil}
-use Rattle.std.specs.Prelude.{is_some, if◌then◌else◌, take}
+use Rattle.std.specs.Prelude.{is_some, if◌then◌else◌, take, IfSome}
 use Rattle.std.specs.Option.{option_to_list}
 use Rattle.icu_normalizer.specs.Uts46.{MapperData}
 use Rattle.normalizer_io.specs.Transfer.{AppendsFront}
 use Rattle.normalizer_streams.specs.declared.ill_formed.Ending.{Ending}
 use Rattle.normalizer_streams.specs.declared.ill_formed.ErrorMode.{ErrorMode}
 use Rattle.normalizer_streams.specs.declared.lines.Replied.{Replied}
-use Rattle.normalizer_streams.specs.IllFormed.{decoded}
+use Rattle.normalizer_streams.specs.IllFormed.{decoded, Ends}
 use Rattle.normalizer_streams.specs.Replies.{is_nothing, IsReplyWritten}
 use Rattle.normalizer_streams.specs.Streams.{IsFormCutOff}
 use Rattle.normalizer_command.specs.declared.command.Listing.{Listing}
@@ -48,6 +48,13 @@ no-invalid Places other end = absurd (other refl)
 no-invalid (Names e) other end = refl
 no-invalid Nothing other end = refl
 
+-- a reply by the lines of a text
+replies-of : (task : MapperTask) (mode : ErrorMode) (m : Mapping) (name : List ℕ) (left : Option (List ℕ)) (input text : List ℕ) (ending : Ending) (answer : Answer) (output : List ℕ)
+    → IfSome left (λ all. input ≡ all) → Ends mode input text ending → output ≡ lines_written task m name (lines_of (decoded text))
+    → answer ≡ lines_answered task m name (lines_of (decoded text)) ending → Replies (OfMapper task mode m) name left answer output
+replies-of task mode m name left input text ending answer output whole ends written answered =
+    record { input = input; whole = whole; reply = record { text = text; ending = ending; ends = ends; written = written; answered = answered } }
+
 module _ (task : MapperTask) (mode : ErrorMode) (h : MapperData) (m : Mapping) (maps : Maps h m) (name : List ℕ) (left : Option (List ℕ)) where
   -- what is written of each line is what is to be, while a source is read
   written-by : (known : is_known_first (OfMapper task mode m) ≡ false) (text : List ℕ) → reply_after task h name 0 text ≡ lines_written task m name (lines_of text)
@@ -71,17 +78,8 @@ module _ (task : MapperTask) (mode : ErrorMode) (h : MapperData) (m : Mapping) (
         → answer ≡ lines_answered_by task replied.is_silent replied.ending → IsWritten (OfMapper task mode m) name left t u answer
     lines_are_written replied answer r answers = (
       reply_after task h name 0 (decoded r.text),
-      record {
-        input = r.input;
-        whole = r.whole;
-        reply = record {
-          text = r.text;
-          ending = replied.ending;
-          ends = r.ends;
-          written = written-by known (decoded r.text);
-          answered = answers ∙ answered-by (decoded r.text) replied.is_silent replied.ending r.silent;
-        };
-      },
+      replies-of task mode m name left r.input r.text replied.ending answer _ r.whole r.ends (written-by known (decoded r.text))
+          (answers ∙ answered-by (decoded r.text) replied.is_silent replied.ending r.silent),
       r.output,
     )
 
@@ -89,11 +87,7 @@ module _ (task : MapperTask) (mode : ErrorMode) (h : MapperData) (m : Mapping) (
     lines_are_cut r = (
       lines_answered task m name (lines_of (decoded r.text)) r.ending,
       reply_after task h name 0 (decoded r.text),
-      record {
-        input = r.input;
-        whole = r.whole;
-        reply = record { text = r.text; ending = r.ending; ends = r.ends; written = written-by known (decoded r.text); answered = refl };
-      },
+      replies-of task mode m name left r.input r.text r.ending _ _ r.whole r.ends (written-by known (decoded r.text)) refl,
       r.output,
     )
 
@@ -116,17 +110,9 @@ module _ (l : Listing) (other : l ≢ Places) (mode : ErrorMode) (h : MapperData
   validated t u replied r answer output answers outputs =
       let silent = silent-by (decoded r.text) replied.is_silent r.silent in
       let invalid = invalid_lines m name 1 (lines_of (decoded r.text)) in
-      record {
-        input = r.input;
-        whole = r.whole;
-        reply = record {
-          text = r.text;
-          ending = replied.ending;
-          ends = r.ends;
-          written = outputs ∙ ap (λ b. if b then [] else listed l name []) silent ∙ ap (λ x. if is_nothing invalid then [] else x) (sym (not-places l other invalid name));
-          answered = answers ∙ ap (λ b. validity l b replied.ending) silent;
-        };
-      }
+      replies-of (Validate l) mode m name left r.input r.text replied.ending answer output r.whole r.ends
+      (outputs ∙ ap (λ b. if b then [] else listed l name []) silent ∙ ap (λ x. if is_nothing invalid then [] else x) (sym (not-places l other invalid name)))
+      (answers ∙ ap (λ b. validity l b replied.ending) silent)
 
   -- a line isn't valid
   pub invalidated : (byte : Option ℕ) → is_some byte ≡ true → IsFormCutOff mode (λ bytes. reply_after (Validate l) h name 0 (decoded bytes)) left (Some []) (Some (option_to_list byte))
@@ -134,14 +120,6 @@ module _ (l : Listing) (other : l ≢ Places) (mode : ErrorMode) (h : MapperData
   invalidated byte some r output outputs =
       let silent = silent-by (decoded r.text) false (sym (some-byte byte some (reply_after (Validate l) h name 0 (decoded r.text)) r.output)) in
       let invalid = invalid_lines m name 1 (lines_of (decoded r.text)) in
-      record {
-        input = r.input;
-        whole = r.whole;
-        reply = record {
-          text = r.text;
-          ending = r.ending;
-          ends = r.ends;
-          written = outputs ∙ sym (not-places l other invalid name) ∙ ap (λ b. if b then [] else listed l name invalid) silent;
-          answered = sym (no-invalid l other r.ending) ∙ ap (λ b. validity l b r.ending) silent;
-        };
-      }
+      replies-of (Validate l) mode m name left r.input r.text r.ending No output r.whole r.ends
+      (outputs ∙ sym (not-places l other invalid name) ∙ ap (λ b. if b then [] else listed l name invalid) silent)
+      (sym (no-invalid l other r.ending) ∙ ap (λ b. validity l b r.ending) silent)
