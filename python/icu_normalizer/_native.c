@@ -74,7 +74,7 @@ static bool is_utf16(Text *text) {
 static bool is_str(Text *text, size_t length) {
     Py_UCS4 bits = 0;
     if (length > MEDIUM) {
-        PyObject *is_ascii = PyObject_CallMethod(text->object, "isascii", NULL);
+        PyObject *is_ascii = PyObject_CallMethod((PyObject *)&PyUnicode_Type, "isascii", "O", text->object);
         Py_XDECREF(is_ascii);
         if (is_ascii == Py_True) text->units = PyUnicode_AsUTF8AndSize(text->object, NULL);
         if (is_ascii != Py_False) return text->units;
@@ -124,7 +124,7 @@ INLINE bool is_text(PyObject *object, Text *text) {
     text->units = text->characters = text->encoded = NULL;
     text->made = NULL;
     text->length = (size_t)length;
-    text->width = 1;
+    text->width = text->kind = 1;
     if (!is && length >= 0) text->units = PyBytes_AsString(object);
     return is ? is_str(text, text->length) : length >= 0;
 }

@@ -192,15 +192,17 @@ def subclasses():
     """A text of a subclass is returned itself too, as by `unicodedata`."""
 
     class Text(str):
-        pass
+        def isascii(self):
+            return True
 
     class Bytes(bytes):
         pass
 
-    for text in ("", "a", "\xE4", "\u4E00", "a\U0001F600", 129 * "\U0001F600"):
+    for text in ("", "a", "\xE4", "\u4E00", "a\U0001F600", 129 * "\U0001F600", 2000 * "a", 2000 * "\u4E00"):
         for it in (Text(text), Bytes(text.encode())):
             assert icu_normalizer.normalize("NFC", it) is it
     assert type(icu_normalizer.normalize("NFC", Text("a\u0308"))) is str
+    assert icu_normalizer.split("NFC", Text(2000 * "\xE4" + "a\u0308")) == (2000 * "\xE4", "a\u0308")
 
 
 def versions():
