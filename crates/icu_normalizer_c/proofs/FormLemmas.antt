@@ -116,11 +116,3 @@ module _ (before after : List ℕ) (old new : Buffer ℕ) (had : old.history.uni
         let so_far = came.came x h in
         overwrites-begun x (SpellsOk gives start x) front so_far.0 wrong took so_far.1 (CameSoFar-room came wrong step x)
         (CameSoFar-fault came wrong step x h)
-
--- what overwrote the buffer was written, if there was room
-module _ (form : List ℕ) (Short : Type 0) (before after : List ℕ) where
-  module _ (count_before count : ℕ) where
-
-    }
-
-    ]

@@ -19,7 +19,6 @@ starts_at {E = E} decides units position piece r is =
     (λ yes. (drop (length piece) (drop position units), h.0 yes), λ stands. h.1 stands.0 stands.1)
 
 module _ (units : List ℕ) (position : ℕ) (piece : List ℕ) (front : IsFront piece (drop position units)) where
-
   -- what is up to its end
   pub take-end : position ≤ length units → take (position + length piece) units ≡ take position units ++ piece
   take-end within =

@@ -24,6 +24,6 @@ pub returns-else-step-c : goal.returns-else-step-c
 returns-else-step-c g c = λ there.
     let read = c.step_at-step.ensures ∙ reads g.Self.Units.encoding (g.Self.Units.units c.args.self) c.args.position c.args.c c.ranges.c.0 there in
     elim c.else-step-c.branch [
-      else-step-c-via-then-step-c+else-not-step w ↦ true≢false (sym (not-false c.step_at-step.result.is_error w.if-not-step.false) ∙ ap (λ s. s.is_error) read)
-    | else-step-c-via-else-step-c w ↦ w.if-step-c.false (ap (λ s. s.character) read)
+      | else-step-c-via-then-step-c+else-not-step w ↦ true≢false (sym (not-false c.step_at-step.result.is_error w.if-not-step.false) ∙ ap (λ s. s.is_error) read)
+      | else-step-c-via-else-step-c w ↦ w.if-step-c.false (ap (λ s. s.character) read)
     ]
