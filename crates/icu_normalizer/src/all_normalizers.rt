@@ -1,6 +1,6 @@
 //! Normalizers to the four forms, over the same data.
 ghost use Rattle.std.specs.Prelude.{◌≡◌, []};
-ghost use Rattle.icu_normalizer.specs.AllNormalizers.{made_to};
+ghost use Rattle.icu_normalizer.specs.AllNormalizers.{canonical_data_of, made_to};
 ghost use Rattle.icu_normalizer.specs.AnyNormalizers.{made_by_borrowed};
 ghost use Rattle.icu_normalizer.specs.ComposingNormalizers.{composing_data_of};
 ghost use Rattle.normalizer_calls.specs.Forms.{form_by};
@@ -8,6 +8,8 @@ ghost use Rattle.normal_forms.specs.declared.Form.TheVariants.{Decomposing};
 
 use crate::any_normalizer::{AnyNormalizerBorrowed, NormalForm};
 use crate::composing_normalizer::ComposingNormalizer;
+use normalizer_tables::CanonicalCompositions;
+use normalizer_tables::characters::{CharacterData, Purpose};
 
 /// Normalizers to the four forms: [`FormData::normalizers`](crate::FormData::normalizers) makes them. NFD is by the
 /// data of NFC, and NFKD by those of NFKC, so that no data are held or checked twice.
@@ -28,6 +30,21 @@ impl AllNormalizers {
             NormalForm::Nfkd => decomposing(&self.compatibility),
             NormalForm::Nfkc => AnyNormalizerBorrowed::Composing(self.compatibility.as_borrowed()),
         }
+    }
+
+    /// Returns the canonical data of characters.
+    pub fn characters(&self) -> CharacterData<'_>
+        ensures { result ≡ (canonical_data_of self.now).0 }
+    {
+        let decomposing = self.canonical.as_decomposing();
+        decomposing.characters.as_borrowed(Purpose::Forms)
+    }
+
+    /// Returns the pairs that compose.
+    pub fn pairs(&self) -> &CanonicalCompositions
+        ensures { result.now ≡ (canonical_data_of self.now).1 }
+    {
+        &self.canonical.pairs
     }
 }
 

@@ -5,8 +5,8 @@ ghost use Rattle.normalizer_builder.specs.Building.{Builds};
 ghost use Rattle.normalizer_builder.specs.Built.{AreBuilt, data_in};
 ghost use Rattle.normalizer_packing.specs.ReadBack.{characters_of};
 ghost use Rattle.normalizer_records.specs.RecordValue.{RecordValue, Uts46RecordValue};
-ghost use Rattle.normalizer_tables.specs.declared.entry.Kind.TheVariants.{Mapper};
-ghost use Rattle.icu_normalizer.specs.AllNormalizers.{made_to};
+ghost use Rattle.normalizer_tables.specs.declared.entry.Kind.TheVariants.{Canonical, Mapper};
+ghost use Rattle.icu_normalizer.specs.AllNormalizers.{canonical_data_of, made_to};
 ghost use Rattle.icu_normalizer.specs.AnyNormalizers.{made_by};
 ghost use Rattle.icu_normalizer.specs.Mappers.{mapper_data_of};
 ghost use Rattle.icu_normalizer.specs.ByRecords.{packed_form, IsRecordedForm, MapsByRecords};
@@ -53,6 +53,8 @@ pub fn normalizer_to(built: &Built, form: NormalForm) -> Result<AnyNormalizer, N
 pub fn normalizers_over(built: &Built) -> Result<AllNormalizers, NormalizeError>
     requires { AreBuilt (data_in built.now) }
     ensures data { IfOk result (λ n. (form : NormalForm) → made_to n form ≡ packed_form (data_in built.now) form) }
+    ensures canonical { IfOk result (λ n. canonical_data_of n ≡
+        (characters_of (data_in built.now) Canonical, (data_in built.now).compositions)) }
     ensures form { (records : List RecordValue) (uts46 : List Uts46RecordValue) →
         Builds records uts46 (data_in built.now) →
         IfOk result (λ n. (form : NormalForm) → IsRecordedForm records form (made_to n form)) }

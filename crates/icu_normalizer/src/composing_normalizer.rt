@@ -29,7 +29,7 @@ use normalizer_tables::{
 #[derive(Drop)]
 pub struct ComposingNormalizer {
     decomposing: DecomposingNormalizer,
-    pairs: CanonicalCompositions,
+    pub(crate) pairs: CanonicalCompositions,
     bytes: PassBytes,
     ghost passing: { AreComposingBytes (data_of decomposing) pairs bytes },
     ghost serves: { ServesComposing (data_of decomposing) (bounds_of (data_of decomposing).decompositions) pairs },

@@ -1,5 +1,5 @@
 //! One step of canonical decomposition: the canonical mapping of a character.
-ghost use Rattle.std.specs.Prelude.{◌≡◌, IfErr, IfOk, None};
+ghost use Rattle.std.specs.Prelude.{◌≡◌, IfErr, IfOk, IsOk, None};
 ghost use Rattle.normalizer_tables.specs.Held.{AnswersHeld};
 ghost use Rattle.normalizer_tables.specs.Steps.{step_of};
 ghost use Rattle.normalizer_tables.specs.Characters.{characters_from};
@@ -61,25 +61,22 @@ impl CanonicalDecomposition {
         let decompositions = <P as DataProvider<NormalizerNfdDataV1>>::load(provider)?;
         let tables = <P as DataProvider<NormalizerNfdTablesV1>>::load(provider)?;
         let supplement = <P as DataProvider<NormalizerNfdSupplementV1>>::load(provider)?;
-        let marker = DataMarkerInfo::NormalizerNfdDataV1;
-        Self::over(marker, decompositions, tables, supplement)
+        Self::over(decompositions, tables, supplement)
     }
 
     /// The steps over loaded data, if they meet the written conditions.
     fn over(
-        marker: DataMarkerInfo,
         decompositions: DecompositionData,
         tables: DecompositionTables,
         supplement: NonRecursiveDecompositionSupplement,
     ) -> Result<Self, DataError>
         ensures ok { IfOk result (λ d. (steps_of d ≡ steps_from decompositions tables supplement) ×
             SuitsSteps (steps_from decompositions tables supplement)) }
-        ensures err { IfErr result (RefusesSteps marker (steps_from decompositions tables supplement)) }
+        ensures err { IfErr result (RefusesSteps DataMarkerInfo.NormalizerNfdDataV1
+            (steps_from decompositions tables supplement)) }
     {
         let characters = CharacterData::new(&decompositions, &tables, None, Purpose::Forms);
-        // No condition that is checked here depends on the bounds.
-        let loaded = LoadedData::new(characters, GREATEST_BOUNDS, None, Some(&supplement));
-        check(&loaded, marker, &STEPPING)?;
+        check_steps(&characters, &supplement)?;
         Ok(CanonicalDecomposition {
             decompositions,
             tables,
@@ -101,6 +98,23 @@ impl CanonicalDecomposition {
             supplement: &self.supplement,
         }
     }
+}
+
+/// Checks that canonical data and a supplement meet the written conditions on single steps. It takes no memory.
+///
+/// # Errors
+/// `FutureExtension`, or `Invalid` with the lowest-numbered condition that fails.
+pub fn check_steps<'a>(
+    characters: &CharacterData<'a>,
+    supplement: &'a NonRecursiveDecompositionSupplement,
+) -> Result<(), DataError>
+    ensures ok { IsOk result → SuitsSteps (characters.now, supplement.now) }
+    ensures steps { IsOk result → HasSteps characters.now supplement.now }
+    ensures err { IfErr result (RefusesSteps DataMarkerInfo.NormalizerNfdDataV1 (characters.now, supplement.now)) }
+{
+    // No condition that is checked here depends on the bounds.
+    let loaded = LoadedData::new(characters.copied(), GREATEST_BOUNDS, None, Some(supplement));
+    check(&loaded, DataMarkerInfo::NormalizerNfdDataV1, &STEPPING)
 }
 
 /// One step of canonical decomposition, over borrowed data.

@@ -1,7 +1,7 @@
 //! Normalizers and the mapper over what a provider holds.
 ghost use Rattle.std.specs.Prelude.{◌≡◌, ◌⊎◌, [], ◌∷◌, IfOk, IfErr};
-ghost use Rattle.icu_normalizer.specs.AllNormalizers.{made_to};
-ghost use Rattle.icu_normalizer.specs.ComposingAcceptance.{SuitsComposing};
+ghost use Rattle.icu_normalizer.specs.AllNormalizers.{canonical_data_of, made_to};
+ghost use Rattle.icu_normalizer.specs.ComposingAcceptance.{SuitsComposing, with_pairs};
 ghost use Rattle.icu_normalizer.specs.Mappers.{mapper_data_of};
 ghost use Rattle.icu_normalizer.specs.Uts46.{uts46_data};
 ghost use Rattle.normalizer_tables.specs.Held.{AcceptsHeld};
@@ -47,6 +47,8 @@ pub trait FormData {
     fn normalizers(&self) -> Result<AllNormalizers, DataError>
         ensures made { IfOk result (λ n. (form : NormalForm) →
             IsMadeOf form (held_for_forms self.now) (made_to n form)) }
+        ensures canonical { let held = held_for_forms self.now in IfOk result (λ n.
+            AcceptsHeld SuitsComposing (with_pairs held.canonical held.pairs) (canonical_data_of n)) }
         ensures errors { IfErr result (λ e. (e ≡ DataError.Memory)
             ⊎ RefusesFirst (held_for_forms self.now) (NormalForm.Nfc ∷ NormalForm.Nfkc ∷ []) e) };
 }

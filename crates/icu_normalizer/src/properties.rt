@@ -4,5 +4,7 @@ pub use crate::combining_class::{
     CanonicalCombiningClass, CanonicalCombiningClassMap, CanonicalCombiningClassMapBorrowed,
 };
 pub use crate::composition::{CanonicalComposition, CanonicalCompositionBorrowed};
-pub use crate::decomposition::{CanonicalDecomposition, CanonicalDecompositionBorrowed};
+pub use crate::decomposition::{
+    CanonicalDecomposition, CanonicalDecompositionBorrowed, check_steps,
+};
 pub use normalizer_tables::step::Step as Decomposed;

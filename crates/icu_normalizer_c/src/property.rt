@@ -80,11 +80,7 @@ impl LookUp for Class {
     ghost reports = { λ l n before after. Tells (after ≡ class_in n.properties l.0) };
 
     fn report(&self, normalizers: &Normalizers, reported: &mut u8) -> Result<(), Fault> {
-        *reported = normalizers
-            .properties
-            .classes
-            .as_borrowed()
-            .get32_u8(self.0);
+        *reported = normalizers.properties.class(self.0);
         Ok(())
     }
 }
@@ -99,12 +95,7 @@ impl LookUp for Composite {
     ghost reports = { λ l n before after. Tells (after ≡ composite_or_none n.properties l.0 l.1) };
 
     fn report(&self, normalizers: &Normalizers, reported: &mut u32) -> Result<(), Fault> {
-        let composite = normalizers
-            .properties
-            .pairs
-            .as_borrowed()
-            .compose(self.0, self.1);
-        *reported = match composite {
+        *reported = match normalizers.properties.composite(self.0, self.1) {
             Some(composite) => composite as u32,
             None => NO_CHARACTER,
         };
@@ -122,7 +113,7 @@ impl LookUp for Step {
     ghost reports = { λ l n before after. Tells (IsStep n.properties l.0 after) };
 
     fn report(&self, normalizers: &Normalizers, reported: &mut (u32, u32)) -> Result<(), Fault> {
-        *reported = parts_of(normalizers.properties.steps.as_borrowed().decompose(self.0));
+        *reported = parts_of(normalizers.properties.step(self.0));
         Ok(())
     }
 }

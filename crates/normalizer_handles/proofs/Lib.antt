@@ -2,6 +2,5 @@ mod AsBox
 mod Crosses
 mod OpeningLemmas
 mod PreparedLemmas
-mod PropertyLemmas
 mod RangeLemmas
 mod RefusalLemmas

@@ -5,12 +5,14 @@ use Rattle.std.proofs.Common.{subst, inl, inr}
 use Rattle.icu_normalizer.specs.Building.{Builds}
 use Rattle.icu_normalizer.specs.ByRecords.{IsRecordedForm, MapsByRecords}
 use Rattle.icu_normalizer.specs.DataError.{DataError}
+use Rattle.icu_normalizer.specs.DataMarkerInfo.TheVariants.{NormalizerNfdDataV1}
 use Rattle.icu_normalizer.specs.HeldForms.{RefusesFirst, RefusesForm, RefusesMapper}
-use Rattle.icu_normalizer.specs.Kind.TheVariants.{Mapper}
+use Rattle.icu_normalizer.specs.Kind.TheVariants.{Canonical, Mapper}
 use Rattle.icu_normalizer.specs.Mappers.{mapper_data_of}
 use Rattle.icu_normalizer.specs.Packed.{Packed}
 use Rattle.icu_normalizer.specs.ReadBack.{characters_of}
 use Rattle.icu_normalizer.specs.RecordValue.{RecordValue, Uts46RecordValue}
+use Rattle.icu_normalizer.specs.StepData.{RefusesSteps}
 use Rattle.icu_normalizer.specs.declared.any_normalizer.NormalForm.{NormalForm}
 use Rattle.icu_normalizer.specs.declared.uts46.Uts46Mapper.{Uts46Mapper}
 use Rattle.icu_normalizer.proofs.PackedForms.{packed_form-recorded, packed-maps}
@@ -22,7 +24,7 @@ use Rattle.normalizer_handles.specs.Made.{AreReadBy, MakeOver, MapOver}
 use Rattle.normalizer_handles.specs.Opening.{Holds}
 use Rattle.normalizer_prepared.specs.Prepared.{prepared_in, IsFileOf}
 use Rattle.normalizer_handles.specs.Prepared.{forms, held_by, AreOfFile, IsFaultOfFile, Refuses}
-use Rattle.normalizer_handles.specs.Properties.{AreOver, RefusesProperties}
+use Rattle.normalizer_handles.specs.Properties.{AreOver}
 
 module _ (records : List RecordValue) (mapper : List Uts46RecordValue) (p : Packed) (builds : Builds records mapper p)
     (bytes : List ℕ) (file : IsFileOf bytes p) where
@@ -44,7 +46,7 @@ module _ (records : List RecordValue) (mapper : List Uts46RecordValue) (p : Pack
   -- the data are refused by no constructor
   module _ (forms_never : (form : NormalForm) (e : DataError) → ¬ RefusesForm form (held_by p) e)
       (mapper_never : (e : DataError) → ¬ RefusesMapper (Ok (characters_of p Mapper, p.compositions)) e)
-      (properties_never : (e : DataError) → ¬ RefusesProperties p e) where
+      (steps_never : (e : DataError) → ¬ RefusesSteps NormalizerNfdDataV1 (characters_of p Canonical, p.supplement) e) where
     first-unrefused : (e : DataError) (fs : List NormalForm) → ¬ RefusesFirst (held_by p) fs e
     first-unrefused e [] h = absurd h
     first-unrefused e (f ∷ fs) (inl h) = forms_never f e h
@@ -53,7 +55,7 @@ module _ (records : List RecordValue) (mapper : List Uts46RecordValue) (p : Pack
     unrefused : (e : DataError) → ¬ Refuses p e
     unrefused e (inl h) = first-unrefused e forms h
     unrefused e (inr (serves, inl h)) = mapper_never e h.1
-    unrefused e (inr (serves, inr h)) = properties_never e h.1
+    unrefused e (inr (serves, inr h)) = steps_never e h.1
 
     memory-only : (fault : Fault) → IsFaultOfFile bytes fault → fault ≡ faults.Memory
     memory-only faults.Memory h = refl

@@ -1,4 +1,4 @@
--- Which constructor refuses data: of a form, of the mapper or of a property.
+-- Which constructor refuses data: of a form, of the mapper or of steps.
 use Rattle.std.proofs.Common.{◌≡◌, ◌≢◌, ◌⊎◌, ℕ, List, [], ◌∷◌, Ok, refl, inl, inr}
 use Rattle.icu_normalizer.specs.Form.TheVariants.{Decomposing}
 use Rattle.icu_normalizer.specs.Characters.{Characters}
@@ -13,12 +13,12 @@ use Rattle.icu_normalizer.specs.HeldForms.{HeldForForms, RefusesFirst, RefusesFo
 use Rattle.icu_normalizer.specs.Kind.TheVariants.{Canonical, Compatibility, Mapper}
 use Rattle.icu_normalizer.specs.Packed.{Packed}
 use Rattle.icu_normalizer.specs.ReadBack.{characters_of}
+use Rattle.icu_normalizer.specs.StepData.{RefusesSteps}
 use Rattle.icu_normalizer.specs.declared.any_normalizer.NormalForm.{NormalForm}
 use Rattle.icu_normalizer.specs.declared.any_normalizer.NormalForm.TheVariants.{Nfd, Nfc, Nfkd, Nfkc}
 use Rattle.icu_normalizer.proofs.acceptance.AllForms.{composing-refuses, DecomposesBy-composing}
 use Rattle.normalizer_prepared.specs.Prepared.{IsFileOf}
 use Rattle.normalizer_handles.specs.Prepared.{forms, held_by, IsFaultOfFile, Refuses, SuitsMapper}
-use Rattle.normalizer_handles.specs.Properties.{RefusesProperties}
 use Rattle.normalizer_handles.specs.Status.{fault_of_data}
 
 module _ (p : Packed) (e : DataError) where
@@ -66,10 +66,10 @@ module _ (p : Packed) (e : DataError) where
   mapper-refuses serves (inl h) = inl h
   mapper-refuses serves (inr h) = inr (inr (serves, inl h))
 
-  pub properties-refuse : ((form : NormalForm) → Serves held form) → SuitsMapper p → Fails (RefusesProperties p e)
-      → Fails (Refuses p e)
-  properties-refuse serves suits (inl h) = inl h
-  properties-refuse serves suits (inr h) = inr (inr (serves, inr (suits, h)))
+  pub steps-refuse : ((form : NormalForm) → Serves held form) → SuitsMapper p
+      → Fails (RefusesSteps marker.NormalizerNfdDataV1 (characters_of p Canonical, p.supplement) e) → Fails (Refuses p e)
+  steps-refuse serves suits (inl h) = inl h
+  steps-refuse serves suits (inr h) = inr (inr (serves, inr (suits, h)))
 
 pub file-fault : (bytes : List ℕ) (p : Packed) (e : DataError) → IsFileOf bytes p
     → (e ≡ data_error.Memory) ⊎ Refuses p e

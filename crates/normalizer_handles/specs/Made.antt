@@ -16,7 +16,7 @@ use Rattle.normalizer_handles.specs.Properties.{TellBy}
 
 -- the form that the normalizers make
 abbrev pub made_in : Normalizers → NormalForm → MadeForm
-made_in n form = made_to n.forms form
+made_in n form = made_to n.properties.forms form
 
 -- the form that the normalizers make and that has the number
 abbrev pub IsNumbered : Normalizers → (number : ℕ) → MadeForm → Type 0

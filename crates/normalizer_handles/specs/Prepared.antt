@@ -2,10 +2,12 @@
 use Rattle.std.specs.Prelude.{◌≡◌, ◌≢◌, ◌⊎◌, ℕ, List, [], ◌∷◌, ⊤, Some, Ok}
 use Rattle.icu_normalizer.specs.ComposingAcceptance.{SuitsComposing}
 use Rattle.icu_normalizer.specs.DataError.{DataError}
+use Rattle.icu_normalizer.specs.DataMarkerInfo.TheVariants.{NormalizerNfdDataV1}
 use Rattle.icu_normalizer.specs.HeldForms.{held_for_forms, HeldForForms, RefusesFirst, RefusesMapper, Serves}
-use Rattle.icu_normalizer.specs.Kind.TheVariants.{Mapper}
+use Rattle.icu_normalizer.specs.Kind.TheVariants.{Canonical, Mapper}
 use Rattle.icu_normalizer.specs.Packed.{Packed}
 use Rattle.icu_normalizer.specs.ReadBack.{characters_of}
+use Rattle.icu_normalizer.specs.StepData.{RefusesSteps}
 use Rattle.icu_normalizer.specs.declared.any_normalizer.NormalForm.{NormalForm}
 use Rattle.icu_normalizer.specs.declared.any_normalizer.NormalForm.TheVariants.{Nfd, Nfc, Nfkd, Nfkc}
 use Rattle.normalizer_prepared.specs.Files.{held_in, IsFirstFault}
@@ -16,7 +18,7 @@ use Rattle.normalizer_handles.specs.declared.fault.Fault.{Fault}
 use Rattle.normalizer_handles.specs.declared.fault.Fault.TheVariants.{Memory, Prepared, Unfit}
 use Rattle.normalizer_handles.specs.declared.normalizers.Normalizers.{Normalizers}
 use Rattle.normalizer_handles.specs.Made.{MakeOver, MapOver}
-use Rattle.normalizer_handles.specs.Properties.{AreOver, RefusesProperties}
+use Rattle.normalizer_handles.specs.Properties.{AreOver}
 use Rattle.normalizer_handles.specs.Status.{fault_of_data}
 
 -- the normalizers are by what the bytes hold, whose version they state
@@ -42,13 +44,13 @@ abbrev pub SuitsMapper : Packed → Type 0
 SuitsMapper p = (p.mapper ≡ p.canonical) ⊎ SuitsComposing (characters_of p Mapper, p.compositions)
 
 -- The error is of the first of the forms whose conditions the data don't meet, or else of the mapper if its data aren't
--- the canonical ones, or else of the properties.
+-- the canonical ones, or else of the steps.
 abbrev pub Refuses : Packed → DataError → Type 0
 Refuses p e =
     RefusesFirst (held_by p) forms e
     ⊎ (((form : NormalForm) → Serves (held_by p) form)
     × (((p.mapper ≢ p.canonical) × RefusesMapper (Ok (characters_of p Mapper, p.compositions)) e)
-    ⊎ (SuitsMapper p × RefusesProperties p e)))
+    ⊎ (SuitsMapper p × RefusesSteps NormalizerNfdDataV1 (characters_of p Canonical, p.supplement) e)))
 
 -- why nothing is opened: the first fault of the bytes, or the condition that their data break, or memory ran out
 abbrev pub IsFaultOfFile : List ℕ → Fault → Type 0

@@ -12,9 +12,10 @@ ghost use Rattle.icu_normalizer.specs.RecordValue.{RecordValue};
 ghost use Rattle.normalizer_prepared.specs.Prepared.{prepared_in};
 ghost use Rattle.normalizer_handles.specs.FormNumbers.{last_form};
 ghost use Rattle.normalizer_handles.specs.declared.fault.Fault.TheVariants.{UnknownForm};
-ghost use Rattle.normalizer_handles.specs.Made.{IsNumbered, MakeBy, MakeOver, MapBy, MapOver};
+ghost use Rattle.normalizer_handles.specs.Made.{IsNumbered, MakeOver, MapBy, MapOver};
+ghost use Rattle.normalizer_handles.specs.Opening.{AreBy};
 ghost use Rattle.normalizer_handles.specs.Prepared.{Refuses, SuitsMapper};
-ghost use Rattle.normalizer_handles.specs.Properties.{AreOver, TellBy};
+ghost use Rattle.normalizer_handles.specs.Properties.{AreOver};
 
 use crate::fault::Fault;
 use crate::form::form_numbered;
@@ -22,8 +23,8 @@ use crate::mapper_ranges::list_nothing;
 use crate::properties::Properties;
 use icu_normalizer::uts46::Uts46Mapper;
 use icu_normalizer::{
-    AllNormalizers, AnyNormalizerBorrowed, Built, DataError, FormData, MappingData, NormalizeError,
-    Uts46Range, built_mapper, normalizers_over,
+    AnyNormalizerBorrowed, Built, DataError, FormData, MappingData, NormalizeError, Uts46Range,
+    built_mapper, normalizers_over,
 };
 use normalizer_prepared::PreparedData;
 
@@ -32,11 +33,10 @@ pub type Version = (u32, u32, u32);
 
 /// Normalizers to the four forms, over the same data, a mapper if the data have one, and properties of characters.
 pub struct Normalizers {
-    pub(crate) forms: AllNormalizers,
+    /// Classes, pairs and steps, with the normalizers whose data tell them.
+    pub properties: Properties,
     /// The mapper, if the data have one.
     pub mapper: Option<Uts46Mapper>,
-    /// Classes, pairs and steps.
-    pub properties: Properties,
     /// The version of Unicode that the data state, or 0.0.0.
     pub version: Version,
 }
@@ -45,9 +45,8 @@ pub struct Normalizers {
 impl Drop for Normalizers {
     fn drop(self) {
         let Normalizers {
-            forms: _forms,
-            mapper: _mapper,
             properties: _properties,
+            mapper: _mapper,
             version: _version,
         } = self;
     }
@@ -61,26 +60,19 @@ impl Normalizers {
         version: Version,
     ) -> Result<Normalizers, NormalizeError>
         requires { AreBuilt (data_in built.now) }
-        ensures makes { (records : List RecordValue) →
-            Builds records (flat_map entries_of mapper.now) (data_in built.now) → IfOk result (λ n. MakeBy n records) }
-        ensures maps { (records : List RecordValue) →
+        ensures by { (records : List RecordValue) →
             Builds records (flat_map entries_of mapper.now) (data_in built.now) →
-            IfOk result (λ n. MapBy n.mapper records (flat_map entries_of mapper.now)) }
-        ensures tell { (records : List RecordValue) →
-            Builds records (flat_map entries_of mapper.now) (data_in built.now) →
-            IfOk result (λ n. TellBy n.properties records (flat_map entries_of mapper.now)) }
-        ensures version { IfOk result (λ n. n.version ≡ version) }
+            IfOk result (AreBy records (flat_map entries_of mapper.now) version) }
         ensures refused { IsOkUnless result NormalizeError.Memory }
     {
         let forms = normalizers_over(built)?;
         let mapper = mapper_over(built, mapper)?;
-        let Ok(properties) = Properties::over_built(built) else {
+        let Ok(properties) = Properties::over(forms, built) else {
             return Err(NormalizeError::Memory);
         };
         Ok(Normalizers {
-            forms,
-            mapper,
             properties,
+            mapper,
             version,
         })
     }
@@ -93,10 +85,11 @@ impl Normalizers {
         ensures version { IfOk result (λ n. n.version ≡ prepared.now.version) }
         ensures refused { IfErr result (λ e. (e ≡ DataError.Memory) ⊎ Refuses (prepared_in prepared.now) e) }
     {
+        let forms = prepared.built.normalizers()?;
+        let mapper = prepared_mapper(prepared)?;
         Ok(Normalizers {
-            forms: prepared.built.normalizers()?,
-            mapper: prepared_mapper(prepared)?,
-            properties: Properties::over(&prepared.built)?,
+            properties: Properties::over(forms, &prepared.built)?,
+            mapper,
             version: prepared.version,
         })
     }
@@ -110,7 +103,7 @@ impl Normalizers {
             (λ fault. (last_form < number) × (fault ≡ UnknownForm)) }
     {
         match form_numbered(number) {
-            Some(form) => Ok(self.forms.to(form)),
+            Some(form) => Ok(self.properties.forms.to(form)),
             None => Err(Fault::UnknownForm),
         }
     }

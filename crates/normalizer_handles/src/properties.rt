@@ -1,57 +1,69 @@
-//! Properties of characters, over the data by which canonical forms are made.
-ghost use Rattle.std.specs.Prelude.{◌≡◌, ◌⊎◌, IfErr, IfOk, IsOkUnless, List};
-ghost use Rattle.icu_normalizer.specs.Building.{Builds};
-ghost use Rattle.icu_normalizer.specs.Built.{AreBuilt, data_in};
-ghost use Rattle.icu_normalizer.specs.RecordValue.{RecordValue, Uts46RecordValue};
-ghost use Rattle.normalizer_handles.specs.Properties.{AreOver, RefusesProperties, TellBy};
+//! Properties of characters, by the data of normalizers.
+ghost use Rattle.std.specs.Prelude.{◌≡◌, ◌⊎◌, IfErr, IfOk, Some};
+ghost use Rattle.icu_normalizer.specs.AllNormalizers.{canonical_data_of};
+ghost use Rattle.icu_normalizer.specs.Built.{data_in};
+ghost use Rattle.icu_normalizer.specs.DataMarkerInfo.TheVariants.{NormalizerNfdDataV1};
+ghost use Rattle.icu_normalizer.specs.StepData.{RefusesSteps};
+ghost use Rattle.icu_normalizer.specs.StepMeaning.{HasSteps};
 
-use icu_normalizer::properties::{
-    CanonicalCombiningClassMap, CanonicalComposition, CanonicalDecomposition,
+use icu_normalizer::properties::{Decomposed, check_steps};
+use icu_normalizer::{
+    AllNormalizers, Built, DataError, DataProvider, NonRecursiveDecompositionSupplement,
+    NormalizerNfdSupplementV1,
 };
-use icu_normalizer::record_laws::{
-    data_that_meet_conditions_are_accepted, what_is_built_is_accepted,
-};
-use icu_normalizer::{Built, DataError};
+use normalizer_tables::compose;
+use normalizer_tables::step::step_of;
 
-/// Canonical combining classes, the pairs that compose, and single steps of canonical decomposition.
+/// Canonical combining classes, the pairs that compose, and single steps of canonical decomposition: normalizers to the
+/// four forms, whose canonical data tell them, and a supplement for steps.
 #[derive(Drop)]
 pub struct Properties {
-    /// The classes.
-    pub classes: CanonicalCombiningClassMap,
-    /// The pairs.
-    pub pairs: CanonicalComposition,
-    /// The steps.
-    pub steps: CanonicalDecomposition,
+    pub(crate) forms: AllNormalizers,
+    supplement: NonRecursiveDecompositionSupplement,
+    ghost steps: { HasSteps (canonical_data_of forms).0 supplement },
 }
 
 impl Properties {
-    /// Returns the properties over data that a provider holds.
+    ghost use Rattle.normalizer_handles.specs.Properties.{canonical_in, class_in, composite_in, step_in, AreOver};
+
+    /// Returns the properties by the data of normalizers and the supplement that a provider holds.
     ///
     /// # Errors
-    /// That of the classes, or else of the pairs, or else of the steps.
-    pub(crate) fn over(held: &Built) -> Result<Properties, DataError>
+    /// `Memory`, or that of the lowest-numbered condition on steps that fails.
+    pub(crate) fn over(forms: AllNormalizers, held: &Built) -> Result<Properties, DataError>
+        requires { canonical_data_of forms ≡ canonical_in (data_in held.now) }
+        ensures forms { IfOk result (λ q. q.forms ≡ forms) }
         ensures data { IfOk result (λ q. AreOver q (data_in held.now)) }
-        ensures refused { IfErr result (λ e. (e ≡ DataError.Memory) ⊎ RefusesProperties (data_in held.now) e) }
+        ensures refused { let p = data_in held.now in IfErr result (λ e. (e ≡ DataError.Memory)
+            ⊎ RefusesSteps NormalizerNfdDataV1 ((canonical_in p).0, p.supplement) e) }
     {
-        Ok(Properties {
-            classes: CanonicalCombiningClassMap::try_new_unstable(held)?,
-            pairs: CanonicalComposition::try_new_unstable(held)?,
-            steps: CanonicalDecomposition::try_new_unstable(held)?,
-        })
+        let supplement = <Built as DataProvider<NormalizerNfdSupplementV1>>::load(held)?;
+        check_steps(&forms.characters(), &supplement)?;
+        Ok(Properties { forms, supplement })
     }
 
-    /// Returns the properties over data that records built.
-    ///
-    /// # Errors
-    /// `Memory` if an allocation failed.
-    pub(crate) fn over_built(built: &Built) -> Result<Properties, DataError>
-        requires { AreBuilt (data_in built.now) }
-        ensures tell { (records : List RecordValue) (mapper : List Uts46RecordValue) →
-            Builds records mapper (data_in built.now) → IfOk result (λ q. TellBy q records mapper) }
-        ensures refused { IsOkUnless result DataError.Memory }
+    /// Returns the canonical combining class of a number, 0 if it isn't a scalar value.
+    #[tactic(auto, unfolding(normalizer_tables::specs::Characters::class_of, normalizer_tables::specs::Characters::word_of))]
+    pub fn class(&self, number: u32) -> u8
+        ensures { result ≡ class_in self.now number }
     {
-        what_is_built_is_accepted();
-        data_that_meet_conditions_are_accepted();
-        Properties::over(built)
+        match char::from_u32(number) {
+            Some(character) => self.forms.characters().class_of(character),
+            None => 0,
+        }
+    }
+
+    /// Returns what two characters compose to, if they do.
+    pub fn composite(&self, first: char, second: char) -> Option<char>
+        ensures { result ≡ composite_in self.now first second }
+    {
+        compose(self.forms.pairs(), first, second)
+    }
+
+    /// Returns one step of the canonical decomposition of a character.
+    pub fn step(&self, character: char) -> Decomposed
+        ensures { step_in self.now character ≡ Some result }
+    {
+        step_of(&self.forms.characters(), &self.supplement, character).unwrap()
     }
 }

@@ -23,3 +23,6 @@ returns-in-Ok-clause-form c = λ records uts46 builds form.
     let p = c.args.built.now.packed in
     subst (IsRecordedForm records form) (sym (packed_form-made p form _ (c.in-Ok.ensures.made form)))
     (packed_form-recorded records uts46 p builds.means form)
+
+pub returns-in-Ok-clause-canonical : goal.returns-in-Ok-clause-canonical
+returns-in-Ok-clause-canonical c = c.in-Ok.ensures.canonical.0

@@ -12,3 +12,6 @@ pub returns-clause-made : goal.returns-clause-made
 returns-clause-made g c = all_made _ _ _
     (record { canonical = c.in_ok-try_new_nfc_unstable.field-0; compatibility = c.in_ok-try_new_nfkc_unstable.field-0 })
     c.in_ok-try_new_nfc_unstable.ensures.0 c.in_ok-try_new_nfkc_unstable.ensures.0
+
+pub returns-clause-canonical : goal.returns-clause-canonical
+returns-clause-canonical g c = c.in_ok-try_new_nfc_unstable.ensures.0
