@@ -218,12 +218,13 @@ static void classed(icu_normalizer *normalizer, uint32_t character, uint8_t comb
     EXPECT(found == combining_class);
 }
 
-/* How many of a piece's characters may be normalized before the next piece comes. The rest is put before that one. */
-static size_t ready(icu_normalizer *nfc, const uint32_t *piece, size_t length) {
+/* Sets `*length` to how many characters of a piece may be normalized now. The rest is put before the next piece. */
+static icu_normalizer_status cut(icu_normalizer *nfc, const uint32_t *piece, size_t *length) {
+    icu_normalizer_status status = ICU_NORMALIZER_OK;
     bool is_boundary = false;
-    while (length && !is_boundary)
-        if (icu_normalizer_has_boundary_before(nfc, ICU_NORMALIZER_NFC, piece[--length], &is_boundary)) return 0;
-    return length;
+    while (status == ICU_NORMALIZER_OK && *length && !is_boundary)
+        status = icu_normalizer_has_boundary_before(nfc, ICU_NORMALIZER_NFC, piece[--*length], &is_boundary);
+    return status;
 }
 
 /* Characters by Unicode's own data. No memory is needed. */
@@ -258,7 +259,8 @@ static void characters(icu_normalizer *normalizer) {
             EXPECT(!icu_normalizer_has_boundary_before(normalizer, form, no_scalars[place], &has) && has);
     }
     EXPECT(icu_normalizer_has_boundary_before(normalizer, 4, 0x308, &has) == ICU_NORMALIZER_UNKNOWN_FORM && has);
-    EXPECT(ready(normalizer, (const uint32_t[]){0x61, 0x62, 0x308}, 3) == 1);
+    size_t length = 3;
+    EXPECT(cut(normalizer, (const uint32_t[]){0x61, 0x62, 0x308}, &length) == ICU_NORMALIZER_OK && length == 1);
     for (size_t place = 0; place < 5; place++) {
         classed(normalizer, no_scalars[place], 0);
         composed(normalizer, no_scalars[place], 0x308, none);
