@@ -18,3 +18,9 @@ E =
       laws = owner.the_row_laws;
       al = record { row = Heap.the_row; laws = heap.the_row_laws; g = ghosts; d = dict; drops = impl [] tnil dnil };
     }
+
+abbrev pub FromParts : Slot 0
+FromParts = plain (λ _. Parts.the_row Owner.the_row Heap.the_row ghosts)
+
+abbrev pub FromSlot : Slot 0
+FromSlot = plain (λ _. Slots.the_row)
