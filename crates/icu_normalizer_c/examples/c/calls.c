@@ -218,7 +218,7 @@ static void classed(icu_normalizer *normalizer, uint32_t character, uint8_t comb
     EXPECT(found == combining_class);
 }
 
-/* Sets `*length` to how many characters of a piece may be normalized now. The rest is put before the next piece. */
+/* Sets `*length`, that of a piece, to how much of it may be normalized now. The rest is put before the next piece. */
 static icu_normalizer_status cut(icu_normalizer *nfc, const uint32_t *piece, size_t *length) {
     icu_normalizer_status status = ICU_NORMALIZER_OK;
     bool is_boundary = false;
